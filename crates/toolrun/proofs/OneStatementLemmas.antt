@@ -22,8 +22,8 @@ pub one-explained : (settings : Settings) (Why : List ℕ → Type 0) → ((a b 
 one-explained settings Why one a b g h = if-explained settings.explain Why one a b g h
 
 -- Of a text, IsFault says what is wrong with it, Explains what is told of that, and Reads which definitions it spells.
--- Of definitions, AreNotes and AreAgain say what is noted, IsRefused and IsSound which notes refuse them and which do not,
--- Runs what a run of them states, and printed what is written of them.
+-- Of definitions, AreNotes and AreAgain say what is noted, IsRefused and IsSound which notes refuse them and which do
+-- not, Runs what a run of them states, and printed what is written of them.
 module _ {Definitions : Type 0} (IsFault : ReadFault → Type 0) (Explains : ReadFault → List ℕ → Type 0)
     (Reads : Definitions → Type 0)
     (AreNotes IsRefused IsSound AreAgain : Definitions → List Said → Type 0) (Runs : Definitions → Reply → Type 0)
