@@ -25,4 +25,5 @@ complete -c abnfi -s s -x -a '(__abnfi_rules)' -d 'The judged rule [default: the
 complete -c abnfi -s u -x -a 'bytes utf8' -d 'What the letters of a line are: its bytes, or the code points of UTF-8'
 complete -c abnfi -s w -d 'Write how far a refused line goes: no N'
 complete -c abnfi -s z -d 'Cut the input at NUL bytes in place of line feeds'
+complete -c abnfi -s x -d 'Explain messages in more lines'
 complete -c abnfi -s h -l help -f -d 'Print help'

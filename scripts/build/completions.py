@@ -40,6 +40,7 @@ class Program:
 
 GRAMMAR = "The file of the grammar, at most 1048576 bytes"
 MODE = Option("m", "MODE", ("run", "check", "print"), "What to do with the grammar")
+EXPLAIN = Option("x", "", (), "Explain messages in more lines")
 HELP = Option("h", "", (), "Print help")
 PROGRAMS = (
     Program("pegi", (
@@ -47,6 +48,7 @@ PROGRAMS = (
         Option("l", "N", (), "How many bytes a unit may look at, from 1 to 16777216"),
         Option("s", "RULE", (), "The start rule [default: the first rule]"),
         Option("r", "", (), "Print actions verbatim"),
+        EXPLAIN,
         HELP,
     ), "<-"),
     Program("abnfi", (
@@ -57,6 +59,7 @@ PROGRAMS = (
                "What the letters of a line are: its bytes, or the code points of UTF-8"),
         Option("w", "", (), "Write how far a refused line goes: no N"),
         Option("z", "", (), "Cut the input at NUL bytes in place of line feeds"),
+        EXPLAIN,
         HELP,
     ), "="),
 )

@@ -56,6 +56,13 @@ PROSE = b"a = <any text> / b\nb = \"x\""
 NOTES = b"prose in rule 'a'\nrule 'a' defined but not used\n"
 ABNF_NOTED = abnf("notes before the answers", PROSE, b"X\n", [YES], NOTES, words=["-s", "b"])
 ABNF_CHECKED = abnf("the same grammar in ABNF checked", PROSE, b"X\n", [], NOTES, words=[*CHECK, "-s", "b"])
+EXPLAINED = peg("a fault explained", b"S <- 'a' | 'b'\n", b"a", [],
+                b"line 1: syntax error\n  S <- 'a' | 'b'\n           ^\n  column 10: expected an element, "
+                b'"&", "!", "?", "*", "+", "/" or the end of the text\n  alternatives have "/" between them\n', 2,
+                words=["-x"])
+ABNF_EXPLAINED = abnf("a fault of ABNF explained", b'my_rule = "x"\n', b"a\n", [],
+                      b'line 1: syntax error\n  my_rule = "x"\n    ^\n  column 3: expected "=" or "=/"\n'
+                      b'  names hold letters, digits and "-"\n', 2, words=["-x"])
 PRINTED = peg("a grammar printed", b"A<-('x')/[b-da^-]*", b"", [b'A <- "x" / [\\055\\136a-d]*\n'], words=PRINT)
 ALTERNATIVES = b'k = %s"Ab"\n  / "cd"\nK =/ 2*3%x78'
 LINES = b"Ab\nab\nCD\nxx\nxxxx\n"
@@ -78,11 +85,13 @@ GROWING = [
     ABNF_PRINTED,
     CHECKED,
     ABNF_CHECKED,
+    EXPLAINED,
+    ABNF_EXPLAINED,
 ]
 
 
 # The runs whose writes fail.
-WRITTEN = [USERNAME, WORDS, NOTED, ABNF_NOTED, PRINTED, ABNF_PRINTED, CHECKED, ABNF_CHECKED]
+WRITTEN = [USERNAME, WORDS, NOTED, ABNF_NOTED, PRINTED, ABNF_PRINTED, CHECKED, ABNF_CHECKED, EXPLAINED, ABNF_EXPLAINED]
 
 
 class Tools:
@@ -134,7 +143,7 @@ def may_go_on(run, number):
     """Tells whether a run may go on without that growth. Earley's sets answer where the automaton has no memory, and
     notes are written by pieces where there is none for their lines."""
     has_automaton = run.program == "abnfi" and "-m" not in run.words and run.name not in NO_AUTOMATON
-    has_notes = bool(run.told)
+    has_notes = bool(run.told) and "-x" not in run.words
     return has_automaton or has_notes or number <= len(run.words) + GROWTHS_OF_WORDS
 
 
@@ -142,8 +151,11 @@ def refuse_each(tools, run, **more):
     """Refuses each growth of a run in turn. Returns how many it has, and how many of them were made good."""
     fronts = [b"".join(run.texts[:k]) for k in range(len(run.texts) + 1)]
     number, good = 1, 0
+    # a message that is explained stands whole where there is no memory to explain it
+    messages = [b"", run.told.partition(b"\n")[0] + b"\n"] if "-x" in run.words else [b""]
+    stops = [it + b"out of memory\n" for it in messages]
     while (ended := tools.run(run, GROWTH=number, **more)).refused:
-        right = ended.out in fronts and (ended.err, ended.status) == (b"out of memory\n", 5)
+        right = ended.out in fronts and ended.err in stops and ended.status == 5
         if is_as_stated(run, ended) and may_go_on(run, number):
             right, good = True, good + 1
         tools.expect(run, ended, right, f"growth {number} refused {more}")

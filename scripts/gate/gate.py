@@ -23,7 +23,8 @@ BEFORE = (
     ("docs/example_tests.py", "check"), ("build/completions.py", "--check")
 )
 BEHIND = (
-    ("docs/run_examples.sh",), ("docs/man_examples.py",), ("oracles/random_cases.py", "-n", "5000", "-u", "-w", "-z"),
+    ("docs/run_examples.sh",), ("docs/man_examples.py",),
+    ("oracles/random_cases.py", "-n", "5000", "-u", "-w", "-z", "-x"),
     ("gate/faults.py",), ("gate/completions_test.py",), ("gate/package_test.py",)
 )
 TOP = pathlib.Path(__file__).resolve().parents[2]

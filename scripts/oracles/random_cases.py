@@ -1,13 +1,14 @@
 #!/usr/bin/env python3
 """Compares bin/pegi and bin/abnfi with slow answers to random grammars and inputs (slow_peg.py, slow_abnf.py).
 
-usage: random_cases.py [-n COUNT] [-s SEED] [-u] [-w] [-z] [pegi | abnfi]
+usage: random_cases.py [-n COUNT] [-s SEED] [-u] [-w] [-z] [-x] [pegi | abnfi]
 
 A case is a unit that pegi tries, a line that abnfi judges, or a grammar that is refused. COUNT cases are compared, half
 of them by each program; 20000 if it is not given. Cases and their order follow from the seed alone. Prints how many
 cases were compared; at the first disagreement it prints the case and ends with status 1. A program that is not built is
 skipped. With -u half of the runs of abnfi have its option `-u utf8`; so it is with -w and its option `-w`, and with -z
-and its option `-z`.
+and its option `-z`. With -x half of the runs of both have the option `-x`, and most of these a text with a fault
+(slow_faults.py): a grammar's, of which some bytes are changed.
 """
 import argparse
 import collections
@@ -20,16 +21,38 @@ import tempfile
 import random_abnf
 import random_peg
 import slow_abnf
+import slow_faults
 import slow_peg
 
 TOP = pathlib.Path(__file__).resolve().parents[2]
 LINES = 40
+# Pieces of text that are put in a grammar's, some of them wrong in most places.
+PIECES = [*(bytes([it]) for it in b"|=_-'\"[](){}/&!*+?<>%#;a9 \t\n\r"), b"::=", b"<-", b"4294967296", b"\r\n",
+          b"\xC3\xA9", b"\xE2\x86\x90", b"\xEF\xBB\xBF", b"(" * 201, b"x " * 50]
 
 # A run: the words behind the grammar's name, the grammar's text, the input, and what is to come of it.
 Case = collections.namedtuple("Case", "words grammar given wanted count")
 
 
-def peg_case(r):
+def spoiled(r, text):
+    """Returns a text with some pieces of it left out or put in the place of others."""
+    for _ in range(r.choice([1, 1, 1, 2, 3])):
+        at = r.randrange(len(text) + 1)
+        text = text[:at] + r.choice([b"", *PIECES]) + text[at + r.choice([0, 0, 1, 2]):]
+    return text
+
+
+def explained(r, case, fault_of):
+    """Returns a run with `-x`, most often of the spoiled text; none where that text has no fault."""
+    words = [*case.words, "-x"]
+    if r.random() < 0.2:
+        return case._replace(words=words)
+    text = spoiled(r, case.grammar)
+    told = fault_of(text)
+    return told and Case(words, text, case.given, (b"", told.encode(), 2), 1)
+
+
+def peg_case(r, may_be_explained=False):
     """Returns a random run of pegi; none where its slow answer takes too long."""
     rules, given = random_peg.grammar(r), random_peg.given(r)
     start = r.choice([it[0] for it in rules] + ["X"]) if r.random() < 0.1 else None
@@ -40,10 +63,11 @@ def peg_case(r):
         *wanted, count = slow_peg.answer(rules, given, limit, start, raw)
     except (slow_peg.TooSlow, RecursionError):
         return None
-    return Case(words, text, given, tuple(wanted), count)
+    case = Case(words, text, given, tuple(wanted), count)
+    return explained(r, case, slow_faults.peg) if may_be_explained and r.random() < 0.5 else case
 
 
-def abnf_case(r, may_be_utf8=False, may_be_viable=False, may_be_nul=False):
+def abnf_case(r, may_be_utf8=False, may_be_viable=False, may_be_nul=False, may_be_explained=False):
     """Returns a random run of abnfi."""
     is_utf8 = may_be_utf8 and r.random() < 0.5
     is_viable = may_be_viable and r.random() < 0.5
@@ -57,7 +81,8 @@ def abnf_case(r, may_be_utf8=False, may_be_viable=False, may_be_nul=False):
     end = b"\0" if is_nul else b"\n"
     text, given = random_abnf.grammar_text(r, rules), random_abnf.given(r, rules, judged, LINES, longest, is_utf8, end)
     *wanted, count = slow_abnf.answer(rules, given, limit, judged, is_utf8, is_viable, end)
-    return Case(words, text, given, tuple(wanted), count)
+    case = Case(words, text, given, tuple(wanted), count)
+    return explained(r, case, slow_faults.abnf) if may_be_explained and r.random() < 0.5 else case
 
 
 def answer_of(program, case, file):
@@ -105,13 +130,15 @@ def main():
     words.add_argument("-u", action="store_true", help="half of the runs of abnfi by `-u utf8`")
     words.add_argument("-w", action="store_true", help="half of the runs of abnfi by `-w`")
     words.add_argument("-z", action="store_true", help="half of the runs of abnfi by `-z`")
+    words.add_argument("-x", action="store_true", help="half of the runs of both by `-x`")
     words.add_argument("program", nargs="?", choices=["pegi", "abnfi"])
     given = words.parse_args()
     sys.setrecursionlimit(20000)
     count = given.n // 2 if given.program is None else given.n
     right = True
     with tempfile.TemporaryDirectory(prefix="random_cases-") as folder:
-        for name, make in (("pegi", peg_case), ("abnfi", lambda r: abnf_case(r, given.u, given.w, given.z))):
+        for name, make in (("pegi", lambda r: peg_case(r, given.x)),
+                           ("abnfi", lambda r: abnf_case(r, given.u, given.w, given.z, given.x))):
             program = TOP / "bin" / name
             if given.program not in (None, name):
                 continue

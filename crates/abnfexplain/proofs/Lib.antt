@@ -4,3 +4,4 @@ pub mod LargeRunLemmas
 pub mod AbnfCanStandLemmas
 pub mod TakenMarksLemmas
 pub mod AbnfExplainedLemmas
+pub mod AbnfWhyLemmas

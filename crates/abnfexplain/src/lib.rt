@@ -6,5 +6,7 @@ mod abnf_explain;
 mod abnf_phrases;
 mod abnf_stand;
 mod large;
+mod laws;
 
 pub use abnf_explain::explain_abnf_fault;
+pub use laws::one_explanation_of_abnf;

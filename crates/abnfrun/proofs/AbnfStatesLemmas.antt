@@ -1,7 +1,8 @@
 -- What is stated for a text in ABNF, settings and an input is one, but for want of memory.
 -- Serves: one_statement_of_abnf
-use Rattle.std.proofs.Common.{◌≡◌, ◌≢◌, ℕ, inl, inr, List, [], refl, sym, ◌∙◌, ap, map, arith}
+use Rattle.std.proofs.Common.{◌≡◌, ◌≢◌, ℕ, inl, inr, List, [], refl, sym, ◌∙◌, ap, map, subst, arith, true}
 use Rattle.ruletable.specs.Notes.{Said, said}
+use Rattle.ruletable.specs.declared.fault.ReadFault.{ReadFault}
 use Rattle.ruletable.specs.declared.fault.ReadFault.TheVariants.{TooLong}
 use Rattle.ruletable.specs.declared.note.NoteKind.TheVariants.{Redefined}
 use Rattle.std.specs.Prelude.{Contains}
@@ -9,7 +10,9 @@ use Rattle.abnfread.specs.AbnfReading.{Reads, IsFaultOf}
 use Rattle.abnfread.specs.Element.{Definition, Rule}
 use Rattle.abnfread.proofs.AbnfFaultLemmas.{one-reading, one-fault, no-fault}
 use Rattle.abnfcheck.proofs.AbnfNotesLemmas.{notes_same, those_same}
-use Rattle.abnfrun.specs.AbnfAnswers.{AbnfStates, refused, noted, checked, judges, again, printed, no_memory}
+use Rattle.abnfexplain.specs.AbnfExplained.{Explains}
+use Rattle.abnfrun.specs.AbnfAnswers.{AbnfStates, refused, unexplained, noted, checked, judges, again, printed}
+use Rattle.abnfrun.specs.AbnfAnswers.{no_memory}
 use Rattle.abnfprint.specs.AbnfReadBack.{file_rules}
 use Rattle.abnfrun.specs.AbnfNoted.{all_rules, again_in, early_in, judged_of, AreNotesOn, IsRefusedFor, AreAgain}
 use Rattle.abnfrun.specs.AbnfNoted.{rule_given}
@@ -19,10 +22,12 @@ use Rattle.abnfrun.proofs.IsAnswerToLemmas.{TextIsOne, one_answer}
 use Rattle.lines.specs.declared.answers.Answer.{Answer}
 use Rattle.lines.proofs.LinesReplyLemmas.{one_lines_reply}
 use Rattle.toolrun.specs.Input.{Input}
-use Rattle.toolrun.specs.Reply.{Reply, refusal}
+use Rattle.toolrun.specs.Explained.{Explained, IsLongReply}
+use Rattle.toolrun.specs.Reply.{Reply, refusal, unexplained_fault}
 use Rattle.toolrun.specs.RunSteps as steps
 use Rattle.toolrun.specs.declared.settings.Settings.{Settings}
-use Rattle.toolrun.proofs.OneStatementLemmas.{Stated, one_stated, is_noted, is_checked, is_run, is_again, is_printed}
+use Rattle.toolrun.proofs.OneStatementLemmas.{Stated, one_stated, one-explained, is_noted, is_checked, is_run}
+use Rattle.toolrun.proofs.OneStatementLemmas.{is_again, is_printed}
 
 -- each line has one answer
 abbrev AnswersAreOne : Settings → Type 0
@@ -34,6 +39,11 @@ one_again : (definitions : List Definition) (a b : List Said) → AreAgain defin
 one_again definitions a b g h =
     let names = those_same (Contains (again_in definitions)) g.are_those h.are_those in
     g.all ∙ ap (map (said Redefined)) names ∙ sym h.all
+
+-- what explains a fault is one text
+abbrev ExplanationsAreOne : Type 0
+ExplanationsAreOne = (text : List ℕ) (fault : ReadFault) (a b : List ℕ) → Explains text fault a
+    → Explains text fault b → a ≡ b
 
 module _ (settings : Settings) (input : Input) where
   -- what a run of these definitions states
@@ -55,15 +65,24 @@ module _ (settings : Settings) (input : Input) where
 
   module _ (text : List ℕ) where
     abbrev IsStated : List ℕ → Reply → Type 0
-    IsStated = Stated (IsFaultOf text) (Reads text) (λ definitions. AreNotesOn definitions (rule_given settings))
+    IsStated = Stated (IsFaultOf text) (λ fault. Explained settings (Explains text fault)) (Reads text)
+        (λ definitions. AreNotesOn definitions (rule_given settings))
         (λ definitions notes. IsRefusedFor definitions (rule_given settings))
         (λ definitions notes. IsRefusedFor definitions (rule_given settings) → ⊥) AreAgain RunOf
         (λ definitions. printed_rules (file_rules definitions)) settings.mode
 
     parts_of_states : (notes : List ℕ) (reply : Reply) → AbnfStates text settings input notes reply → reply.status ≢ 5
         → IsStated notes reply
-    parts_of_states notes reply (refused fault f m) ample =
-        inl (record { fault = fault; is_fault = f; other = m; none = refl; told = refl })
+    parts_of_states notes reply (refused fault why f m told) ample = inl (record {
+      fault = fault;
+      is_fault = f;
+      other = m;
+      why = why;
+      explains = told;
+      none = refl;
+      told = refl;
+    })
+    parts_of_states notes reply (unexplained fault f m asked) ample = absurd (ample refl)
     parts_of_states notes reply (noted ds said r are bad mode) ample =
         inr (record { definitions = ds; reads = r; states = is_noted said are bad mode })
     parts_of_states notes reply (checked ds said r are fine mode) ample =
@@ -76,22 +95,25 @@ module _ (settings : Settings) (input : Input) where
         inr (record { definitions = ds; reads = r; states = is_printed are mode })
     parts_of_states notes reply (no_memory within) ample = absurd (ample refl)
 
-    one_of_text : AnswersAreOne settings → (notes others : List ℕ) (a b : Reply) → IsStated notes a → IsStated others b
-        → a.status ≢ 5 → b.status ≢ 5 → (notes ≡ others) × (a ≡ b)
-    one_of_text one = one_stated (IsFaultOf text) (Reads text)
+    one_of_text : ExplanationsAreOne → AnswersAreOne settings → (notes others : List ℕ) (a b : Reply)
+        → IsStated notes a → IsStated others b → a.status ≢ 5 → b.status ≢ 5 → (notes ≡ others) × (a ≡ b)
+    one_of_text explained one = one_stated (IsFaultOf text)
+        (λ fault. Explained settings (Explains text fault)) (Reads text)
         (λ definitions. AreNotesOn definitions (rule_given settings))
         (λ definitions notes. IsRefusedFor definitions (rule_given settings))
         (λ definitions notes. IsRefusedFor definitions (rule_given settings) → ⊥) AreAgain RunOf
         (λ definitions. printed_rules (file_rules definitions)) settings.mode (one-reading text) (one-fault text)
-        (no-fault text) notes_are_one one_again (λ definitions notes bad fine. fine bad) (one_run one)
+        (λ fault. one-explained settings (Explains text fault) (explained text fault)) (no-fault text) notes_are_one
+        one_again (λ definitions notes bad fine. fine bad) (one_run one)
 
 -- one list of notes and one reply
-pub one_statement : TextIsOne → FurthestIsOne → (text : List ℕ) (settings : Settings) (input : Input)
-    (notes others : List ℕ) (a b : Reply) →
+pub one_statement : ExplanationsAreOne → TextIsOne → FurthestIsOne → (text : List ℕ) (settings : Settings)
+    (input : Input) (notes others : List ℕ) (a b : Reply) →
     AbnfStates text settings input notes a → AbnfStates text settings input others b → a.status ≢ 5 → b.status ≢ 5
     → (notes ≡ others) × (a ≡ b)
-one_statement one furthest text settings input notes others a b g h m n =
-    one_of_text settings input text (λ rules judged line. one_answer one furthest settings.letters rules judged line
+one_statement explained one furthest text settings input notes others a b g h m n =
+    one_of_text settings input text explained
+    (λ rules judged line. one_answer one furthest settings.letters rules judged line
     settings.viable) notes others a b (parts_of_states settings input text notes a g m)
     (parts_of_states settings input text others b h n) m n
 
@@ -101,9 +123,21 @@ long-unread long r = let within = r.size in omega arith
 
 -- a text that is too long is told so, whatever memory does
 pub long_is_told : (text : List ℕ) (settings : Settings) (input : Input) (notes : List ℕ) (reply : Reply)
-    → IsFaultOf text TooLong → AbnfStates text settings input notes reply → (notes ≡ []) × (reply ≡ refusal TooLong)
-long_is_told text settings input notes reply long (refused fault f other) =
-    (refl, ap refusal (one-fault text fault TooLong f long other (λ e. cc)))
+    → IsFaultOf text TooLong → AbnfStates text settings input notes reply
+    → (notes ≡ []) × IsLongReply settings (Explains text TooLong) reply
+long_is_told text settings input notes reply long (refused fault why f other told) =
+    let is : fault ≡ TooLong = one-fault text fault TooLong f long other (λ e. cc) in (
+      refl,
+      inl (
+        why,
+        subst (λ (f : ReadFault). Explained settings (Explains text f) why) is told,
+        ap (λ f. refusal f why) is,
+      ),
+    )
+long_is_told text settings input notes reply long (unexplained fault f other asked) = (
+  refl,
+  inr (asked, ap unexplained_fault (one-fault text fault TooLong f long other (λ e. cc))),
+)
 long_is_told text settings input notes reply long (noted ds said r are bad mode) = absurd (long-unread long r)
 long_is_told text settings input notes reply long (checked ds said r are fine mode) = absurd (long-unread long r)
 long_is_told text settings input notes reply long (judges ds said stated r are fine mode run) =

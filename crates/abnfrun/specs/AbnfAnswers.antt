@@ -1,24 +1,29 @@
 -- What is stated for the text of a grammar in ABNF, settings and an input.
-use Rattle.std.specs.Prelude.{◌≡◌, ◌≢◌, ℕ, List, []}
+use Rattle.std.specs.Prelude.{◌≡◌, ◌≢◌, ℕ, true, List, []}
 use Rattle.ruletable.specs.Notes.{Said}
 use Rattle.ruletable.specs.declared.fault.ReadFault.{ReadFault}
 use Rattle.ruletable.specs.declared.fault.ReadFault.TheVariants.{Memory}
+use Rattle.abnfexplain.specs.AbnfExplained.{Explains}
 use Rattle.abnfread.specs.AbnfReading.{Reads, IsFaultOf}
 use Rattle.abnfread.specs.Element.{Definition}
 use Rattle.abnfprint.specs.AbnfReadBack.{file_rules}
 use Rattle.abnfrun.specs.AbnfNoted.{all_rules, judged_of, AreNotesOn, IsRefusedFor, AreAgain, rule_given}
 use Rattle.abnfrun.specs.AbnfReply.{printed_rules, JudgeReply}
+use Rattle.toolrun.specs.Explained.{Explained}
 use Rattle.toolrun.specs.Input.{Input}
 use Rattle.toolrun.specs.NotesText.{notes_text}
-use Rattle.toolrun.specs.Reply.{Reply, notes_alone, refusal, without_memory}
+use Rattle.toolrun.specs.Reply.{Reply, notes_alone, refusal, unexplained_fault, without_memory}
 use Rattle.toolrun.specs.declared.settings.Mode.TheVariants.{Run, Check, Print}
 use Rattle.toolrun.specs.declared.settings.Settings.{Settings}
 
 -- what is stated for a grammar's text and an input: the notes, and what follows them
 pub data AbnfStates (text : List ℕ) (settings : Settings) (input : Input) : List ℕ → Reply → Type 0 where
-  -- the text has a fault, which is told
-  refused : (fault : ReadFault) → IsFaultOf text fault → fault ≢ Memory
-      → AbnfStates text settings input [] (refusal fault)
+  -- the text has a fault, which is told, and explained if that is asked
+  refused : (fault : ReadFault) (why : List ℕ) → IsFaultOf text fault → fault ≢ Memory
+      → Explained settings (Explains text fault) why → AbnfStates text settings input [] (refusal fault why)
+  -- its fault is told, and an allocation failed in explaining it
+  unexplained : (fault : ReadFault) → IsFaultOf text fault → fault ≢ Memory → settings.explain ≡ true
+      → AbnfStates text settings input [] (unexplained_fault fault)
   -- the text is a grammar that is refused
   noted : (definitions : List Definition) (notes : List Said) → Reads text definitions
       → AreNotesOn definitions (rule_given settings) notes →

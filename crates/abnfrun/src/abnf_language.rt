@@ -1,6 +1,7 @@
 //! The language of ABNF, whose grammars judge the lines of an input.
 ghost use Rattle.std.specs.Prelude.{IfOk, map};
 ghost use Rattle.ruletable.specs.Notes.{said_of};
+ghost use Rattle.abnfexplain.specs.AbnfExplained.{Explains};
 ghost use Rattle.abnfread.specs.AbnfReading.{IsFaultOf};
 ghost use Rattle.abnfread.specs.AbnfViews.{rules_of};
 ghost use Rattle.abnfprint.specs.CanonicalAbnf.{grammar_text};
@@ -11,6 +12,7 @@ ghost use Rattle.abnfrun.specs.AbnfReply.{JudgeReply};
 
 use crate::line_judge::{judge_lines, lines_have_answers};
 use abnfcheck::{SoundAbnf, check_abnf};
+use abnfexplain::explain_abnf_fault;
 use abnfprint::print_abnf;
 use abnfread::{Abnf, read_abnf};
 use feed::Source;
@@ -42,6 +44,8 @@ impl Language for AbnfLanguage {
 
     ghost has_fault = { IsFaultOf };
 
+    ghost explains = { Explains };
+
     ghost is_read = { λ text abnf. IsReadAs text abnf.rules abnf.core abnf.redefined.items abnf.extended.items };
 
     ghost is_checked = { IsChecked };
@@ -54,6 +58,10 @@ impl Language for AbnfLanguage {
 
     fn read(alloc: Global, text: &[u8]) -> Result<Abnf, ReadFault> {
         read_abnf(alloc, text)
+    }
+
+    fn explain_fault(alloc: Global, text: &[u8], fault: ReadFault) -> Result<Vec<u8>, Memory> {
+        explain_abnf_fault(alloc, text, fault)
     }
 
     fn check(

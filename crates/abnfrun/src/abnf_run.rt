@@ -15,7 +15,8 @@ use toolrun::{Settings, Status, run_tool};
 /// None of the three may have failed before, and the reader may not have told its end.
 ///
 /// - The grammar is in ABNF (RFC 5234, RFC 7405). One that has a fault is told by that fault's line, status `Refused`,
-///   and nothing is read.
+///   and nothing is read. If the settings ask for explanations, behind that line stand those that explain it: a picture
+///   of the token that decides, its column, exactly the kinds of tokens that could stand there, and a usual mistake.
 /// - If it is to be printed, its canonical text is written on `out`, `Done`; but if it defines a rule again, the notes
 ///   on that are written on `err`, `Refused`. Nothing is read, and no other check is made.
 /// - Else the notes on it are written on `err`. If it is refused, or only to be checked, that is all: `Refused`, or
@@ -35,7 +36,8 @@ use toolrun::{Settings, Status, run_tool};
 ///   by `write error` on `err`: right behind the notes, or behind all else where the flush of `out` failed. Where `err`
 ///   fails in the notes, nothing is read, and nothing is written on `out`. Writers that have not failed are flushed
 ///   once at the end, `out` first.
-/// - If an allocation fails, the answers before stand whole: `out of memory`, `NoMemory`.
+/// - If an allocation fails, the answers before stand whole: `out of memory`, `NoMemory`. In an explanation the fault's
+///   line stands before that, without what explains it.
 pub fn run_abnf<R: Source, O: Sink, E: Sink>(
     alloc: Global,
     grammar: &[u8],

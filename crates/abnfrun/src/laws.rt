@@ -1,15 +1,18 @@
 //! Laws of what is stated for a grammar in ABNF and an input: there is at most one answer.
 ghost use Rattle.std.specs.Prelude.{◌≡◌, ◌≢◌, ℕ, List, []};
 ghost use Rattle.ruletable.specs.declared.fault.ReadFault.{ReadFault};
+ghost use Rattle.abnfexplain.specs.AbnfExplained.{Explains};
 ghost use Rattle.abnfread.specs.AbnfReading.{IsFaultOf, Reads};
 ghost use Rattle.abnfread.specs.Element.{Definition, Rule};
 ghost use Rattle.abnfrun.specs.AbnfAnswers.{AbnfStates};
 ghost use Rattle.abnfrun.specs.AbnfReply.{JudgeReplies};
 ghost use Rattle.toolrun.specs.Input.{Input};
-ghost use Rattle.toolrun.specs.Reply.{Reply, refusal};
+ghost use Rattle.toolrun.specs.Explained.{IsLongReply};
+ghost use Rattle.toolrun.specs.Reply.{Reply};
 ghost use Rattle.toolrun.specs.declared.settings.Settings.{Settings};
 
 use abnfcheck::furthest_is_found;
+use abnfexplain::one_explanation_of_abnf;
 use abnfread::one_reading;
 use letters::utf8_is_decided;
 
@@ -36,8 +39,9 @@ pub fn one_statement_of_abnf()
         (notes ≡ others) × (a ≡ b) }
     ensures long { (text : List ℕ) (settings : Settings) (input : Input) (notes : List ℕ) (reply : Reply) →
         IsFaultOf text ReadFault.TooLong → AbnfStates text settings input notes reply →
-        (notes ≡ []) × (reply ≡ refusal ReadFault.TooLong) }
+        (notes ≡ []) × IsLongReply settings (Explains text ReadFault.TooLong) reply }
 {
+    one_explanation_of_abnf();
     one_reading();
     furthest_is_found();
     utf8_is_decided();

@@ -297,7 +297,9 @@ pegi_is_whole c names e m p =
       viable = inl (none_is c rs is m p (codes "viable") (record { named = λ n. cc; help = refl; version = refl })
           refl);
       nul = inl (none_is c rs is m p (codes "nul") (record { named = λ n. cc; help = refl; version = refl }) refl);
-      grammar = grammar_is c rs is m p d 4 (record { within = omega arith; at = λ q. refl; only = refl });
+      explain = flag_is c rs is m p d 4 (codes "explain") 120 (record { named = λ n. cc; help = refl; version = refl })
+          (record { within = omega arith; at = λ q. refl; only = refl });
+      grammar = grammar_is c rs is m p d 5 (record { within = omega arith; at = λ q. refl; only = refl });
     }
 
 abnfi_is_whole : (c : Command) (names alphabets : Names) → app_of c ≡ abnfi_app names alphabets → (m : ArgMatches)
@@ -313,7 +315,9 @@ abnfi_is_whole c names alphabets e m p =
           (record { within = omega arith; at = λ q. refl; only = refl });
       nul = flag_is c rs is m p d 5 (codes "nul") 122 (record { named = λ n. cc; help = refl; version = refl })
           (record { within = omega arith; at = λ q. refl; only = refl });
-      grammar = grammar_is c rs is m p d 6 (record { within = omega arith; at = λ q. refl; only = refl });
+      explain = flag_is c rs is m p d 6 (codes "explain") 120 (record { named = λ n. cc; help = refl; version = refl })
+          (record { within = omega arith; at = λ q. refl; only = refl });
+      grammar = grammar_is c rs is m p d 7 (record { within = omega arith; at = λ q. refl; only = refl });
     }
 
 pub is_whole : (program : Program) (app : App) → IsAppOf program app → (c : Command) → app_of c ≡ app

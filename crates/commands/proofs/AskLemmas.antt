@@ -31,9 +31,10 @@ pub words_ask : (f : Found) (rows : List Row) → rows_of f ≡ rows → AreWhol
     → a.settings.letters ≡ alphabet_named (first_value f (codes "letters"))
     → IsFlagOf (one_text f (codes "viable")) a.settings.viable
     → IsFlagOf (one_text f (codes "nul")) a.settings.nul
+    → IsFlagOf (one_text f (codes "explain")) a.settings.explain
     → option_map (λ s. s.now) path ≡ first_value f (codes "grammar") → path ≡ Some a.path
     → Ask rows a
-words_ask f rows e whole a path mode limit start raw letters viable nul word is =
+words_ask f rows e whole a path mode limit start raw letters viable nul explain word is =
     let w = whole.limit in
     let number = subst (λ o. IsLimitOf o a.settings.limit) w.1 limit in
     record {
@@ -44,6 +45,7 @@ words_ask f rows e whole a path mode limit start raw letters viable nul word is 
       letters = letters ∙ ap alphabet_named (first_found f rows e (codes "letters"));
       viable = flag_found f rows e (codes "viable") a.settings.viable whole.viable viable;
       nul = flag_found f rows e (codes "nul") a.settings.nul whole.nul nul;
+      explain = flag_found f rows e (codes "explain") a.settings.explain whole.explain explain;
       grammar = sym (first_found f rows e (codes "grammar"))
           ∙ (sym word ∙ ap (option_map (λ (s : Bor Text). s.now)) is);
     }

@@ -50,6 +50,7 @@ pub record AreWhole (f : Found) : Type 0 where
   pub raw : IsFlagText (one_text f (codes "raw"))
   pub viable : IsFlagText (one_text f (codes "viable"))
   pub nul : IsFlagText (one_text f (codes "nul"))
+  pub explain : IsFlagText (one_text f (codes "explain"))
   pub grammar : is_some (first_value f (codes "grammar")) ≡ true
 
 -- the flag is given
@@ -67,4 +68,5 @@ pub record Ask (rows : List Row) (asked : Asked) : Type 0 where
   pub letters : asked.settings.letters ≡ alphabet_named (first_of (codes "letters") rows)
   pub viable : asked.settings.viable ≡ is_flagged (one_of (codes "viable") rows)
   pub nul : asked.settings.nul ≡ is_flagged (one_of (codes "nul") rows)
+  pub explain : asked.settings.explain ≡ is_flagged (one_of (codes "explain") rows)
   pub grammar : first_of (codes "grammar") rows ≡ Some asked.path.now

@@ -77,6 +77,10 @@ viable_rule = flag_rule (codes "viable") (code "w")
 abbrev pub nul_rule : Rule
 nul_rule = flag_rule (codes "nul") (code "z")
 
+-- `-x`
+abbrev pub explain_rule : Rule
+explain_rule = flag_rule (codes "explain") (code "x")
+
 -- the one word that is no option
 abbrev pub grammar_rule : Rule
 grammar_rule = record (new_rule (codes "grammar")) { value_names = 1; action = Some Set; required = true }
@@ -85,15 +89,16 @@ grammar_rule = record (new_rule (codes "grammar")) { value_names = 1; action = S
 abbrev pub with_options : Names → App → App
 with_options names app = with_rule (with_rule (with_rule app (mode_rule names)) limit_rule) start_rule
 
--- `pegi [-m MODE] [-l N] [-s RULE] [-r] GRAMMAR`
+-- `pegi [-m MODE] [-l N] [-s RULE] [-r] [-x] GRAMMAR`
 abbrev pub pegi_app : Names → App
-pegi_app names = with_rule (with_rule (with_options names (new_app (codes "pegi"))) raw_rule) grammar_rule
+pegi_app names = with_rule (with_rule (with_rule (with_options names (new_app (codes "pegi"))) raw_rule) explain_rule)
+    grammar_rule
 
--- `abnfi [-m MODE] [-l N] [-s RULE] [-u MODE] [-w] [-z] GRAMMAR`
+-- `abnfi [-m MODE] [-l N] [-s RULE] [-u MODE] [-w] [-z] [-x] GRAMMAR`
 abbrev pub abnfi_app : Names → Names → App
 abnfi_app names alphabets =
-    with_rule (with_rule (with_rule (with_rule (with_options names (new_app (codes "abnfi"))) (letters_rule alphabets))
-    viable_rule) nul_rule) grammar_rule
+    with_rule (with_rule (with_rule (with_rule (with_rule (with_options names (new_app (codes "abnfi")))
+    (letters_rule alphabets)) viable_rule) nul_rule) explain_rule) grammar_rule
 
 -- this is the command of the program
 abbrev pub IsAppOf : Program → App → Type 0

@@ -2,8 +2,9 @@
 ghost use Rattle.std.specs.Prelude.{◌≡◌, IfOk, false, true, map};
 ghost use Rattle.clap.specs.Words.{app_of, found_of, is_simple, is_simple_and_free, rule_of};
 ghost use Rattle.commands.specs.Asked.{AreWhole};
-ghost use Rattle.commands.specs.Command.{AreAlphabets, AreModes, IsAppOf, grammar_rule, letters_rule, limit_rule};
-ghost use Rattle.commands.specs.Command.{mode_rule, nul_rule, raw_rule, start_rule, viable_rule, with_options};
+ghost use Rattle.commands.specs.Command.{AreAlphabets, AreModes, IsAppOf, explain_rule, grammar_rule, letters_rule};
+ghost use Rattle.commands.specs.Command.{limit_rule, mode_rule, nul_rule, raw_rule, start_rule, viable_rule};
+ghost use Rattle.commands.specs.Command.{with_options};
 ghost use Rattle.commands.specs.Parsing.{Parses};
 
 use crate::help;
@@ -14,9 +15,9 @@ use std::convert::AsStr;
 /// A program of this repository.
 #[derive(Clone, Copy, Debug, PartialEq, Eq)]
 pub enum Program {
-    /// `pegi [-m MODE] [-l N] [-s RULE] [-r] GRAMMAR`
+    /// `pegi [-m MODE] [-l N] [-s RULE] [-r] [-x] GRAMMAR`
     Pegi,
-    /// `abnfi [-m MODE] [-l N] [-s RULE] [-u MODE] [-w] [-z] GRAMMAR`
+    /// `abnfi [-m MODE] [-l N] [-s RULE] [-u MODE] [-w] [-z] [-x] GRAMMAR`
     Abnfi,
 }
 
@@ -106,6 +107,17 @@ fn nul_arg<'a>(alloc: Global) -> Arg<'a>
         .help(help::NUL)
 }
 
+fn explain_arg<'a>(alloc: Global) -> Arg<'a>
+    ensures rule { rule_of result ≡ explain_rule }
+    ensures local { result.global ≡ false }
+{
+    Arg::new(alloc, "explain")
+        .short('x')
+        .action(ArgAction::SetTrue)
+        .value_parser(value_parser!(bool))
+        .help(help::EXPLAIN)
+}
+
 fn grammar_arg<'a>(alloc: Global) -> Arg<'a>
     ensures rule { rule_of result ≡ grammar_rule }
     ensures local { result.global ≡ false }
@@ -132,7 +144,7 @@ fn add_options<'a>(
     with_limit.arg(start_arg(alloc, start))
 }
 
-/// Returns the command `pegi [-m MODE] [-l N] [-s RULE] [-r] GRAMMAR`. Refused for want of memory.
+/// Returns the command `pegi [-m MODE] [-l N] [-s RULE] [-r] [-x] GRAMMAR`. Refused for want of memory.
 pub fn pegi_command<'a>(alloc: Global) -> Result<Command<'a>, AllocError>
     ensures app { (app : _) × IsAppOf Program.Pegi app × IfOk result (λ c. app_of c ≡ app) }
 {
@@ -141,10 +153,11 @@ pub fn pegi_command<'a>(alloc: Global) -> Result<Command<'a>, AllocError>
         .after_help(help::AFTER_PEGI);
     let with_options = add_options(alloc, plain, help::PEGI_LIMIT, help::PEGI_START)?;
     let with_raw = with_options.arg(raw_arg(alloc))?;
-    with_raw.arg(grammar_arg(alloc))
+    let with_explain = with_raw.arg(explain_arg(alloc))?;
+    with_explain.arg(grammar_arg(alloc))
 }
 
-/// Returns the command `abnfi [-m MODE] [-l N] [-s RULE] [-u MODE] [-w] [-z] GRAMMAR`. Refused for want of memory.
+/// Returns the command `abnfi [-m MODE] [-l N] [-s RULE] [-u MODE] [-w] [-z] [-x] GRAMMAR`. Refused for want of memory.
 pub fn abnfi_command<'a>(alloc: Global) -> Result<Command<'a>, AllocError>
     ensures app { (app : _) × IsAppOf Program.Abnfi app × IfOk result (λ c. app_of c ≡ app) }
 {
@@ -156,7 +169,8 @@ pub fn abnfi_command<'a>(alloc: Global) -> Result<Command<'a>, AllocError>
     let with_letters = with_options.arg(letters)?;
     let with_viable = with_letters.arg(viable_arg(alloc))?;
     let with_nul = with_viable.arg(nul_arg(alloc))?;
-    with_nul.arg(grammar_arg(alloc))
+    let with_explain = with_nul.arg(explain_arg(alloc))?;
+    with_explain.arg(grammar_arg(alloc))
 }
 
 /// Returns the command of a program. Refused for want of memory.

@@ -32,6 +32,9 @@ pub const VIABLE: &str = "Write how far a refused line goes: no N";
 /// What `-z` says.
 pub const NUL: &str = "Cut the input at NUL bytes in place of line feeds";
 
+/// What `-x` says, with both programs.
+pub const EXPLAIN: &str = "Explain messages in more lines";
+
 /// What `-r` says.
 pub const RAW: &str = "Print actions verbatim";
 

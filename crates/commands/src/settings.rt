@@ -49,6 +49,7 @@ pub fn settings_of<'a>(matches: &ArgMatches<'a>) -> Settings<'a>
     ensures letters { result.letters ≡ alphabet_named (first_value (found_of matches.now) (codes "letters")) }
     ensures viable { IsFlagOf (one_text (found_of matches.now) (codes "viable")) result.viable }
     ensures nul { IsFlagOf (one_text (found_of matches.now) (codes "nul")) result.nul }
+    ensures explain { IsFlagOf (one_text (found_of matches.now) (codes "explain")) result.explain }
 {
     Settings {
         mode: mode_of(matches),
@@ -58,6 +59,7 @@ pub fn settings_of<'a>(matches: &ArgMatches<'a>) -> Settings<'a>
         letters: letters_of(matches),
         viable: matches.get_flag("viable"),
         nul: matches.get_flag("nul"),
+        explain: matches.get_flag("explain"),
     }
 }
 

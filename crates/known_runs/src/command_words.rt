@@ -56,7 +56,7 @@ fn run<R: Files + AllocGlobal>(
 }
 
 /// A program, words on which it runs no grammar, the status, and what is told, if it is not in the words of `clap`.
-static WORDS: [(Program, &[&str], Status, &[u8]); 31] = [
+static WORDS: [(Program, &[&str], Status, &[u8]); 32] = [
     (Program::Pegi, &[], Status::Refused, b""),
     (Program::Pegi, &["-l", "0", "g"], Status::Refused, b""),
     (
@@ -82,7 +82,8 @@ static WORDS: [(Program, &[&str], Status, &[u8]); 31] = [
         b"",
     ),
     (Program::Pegi, &["g", "h"], Status::Refused, b""),
-    (Program::Pegi, &["-x", "g"], Status::Refused, b""),
+    (Program::Pegi, &["-y", "g"], Status::Refused, b""),
+    (Program::Pegi, &["-x", "-x", "g"], Status::Refused, b""),
     (Program::Pegi, &["-s", "-x", "g"], Status::Refused, b""),
     (
         Program::Pegi,
@@ -226,22 +227,22 @@ pub fn check_rows<R: Files + Abort + AllocGlobal>(
 
 #[test]
 fn reads_settings(rt: HostRuntime) -> Result<(), Fail> {
-    let rest = ["-m", "check", "-l", "+5", "-s", "T", "-r", "g"];
+    let rest = ["-m", "check", "-l", "+5", "-s", "T", "-r", "-x", "g"];
     let words = words_of(rt.alloc(), Program::Pegi, &rest)?;
     let Asked { settings, path } = read_words(rt.alloc(), Program::Pegi, words.as_slice())?;
     assert!(rt; settings.mode == Mode::Check && settings.limit == 5 && settings.raw);
-    assert!(rt; settings.start == Some("T") && path == "g");
+    assert!(rt; settings.start == Some("T") && path == "g" && settings.explain);
     let rest = ["-m", "print", "-l", "7", "-s", "R", "h"];
     let words = words_of(rt.alloc(), Program::Abnfi, &rest)?;
     let Asked { settings, path } = read_words(rt.alloc(), Program::Abnfi, words.as_slice())?;
     assert!(rt; settings.mode == Mode::Print && settings.limit == 7 && !settings.raw);
-    assert!(rt; settings.start == Some("R") && path == "h");
+    assert!(rt; settings.start == Some("R") && path == "h" && !settings.explain);
     for program in [Program::Pegi, Program::Abnfi] {
         let words = words_of(rt.alloc(), program, &["g"])?;
         let matches = parse(rt.alloc(), program, words.as_slice())?;
         let settings = settings_of(&matches);
         assert!(rt; settings.mode == Mode::Run && settings.limit == 65_536 && !settings.raw);
-        assert!(rt; settings.start.is_none());
+        assert!(rt; settings.start.is_none() && !settings.explain);
     }
     Ok(())
 }

@@ -87,5 +87,6 @@ pub fn settings_of<'a>(mode: Mode, limit: usize, start: Option<&'a str>) -> Sett
         letters: Alphabet::Bytes,
         viable: false,
         nul: false,
+        explain: false,
     }
 }

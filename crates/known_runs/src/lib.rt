@@ -15,6 +15,8 @@ mod command_words;
 #[cfg(test)]
 mod ends;
 #[cfg(test)]
+mod explain_runs;
+#[cfg(test)]
 mod record_runs;
 #[cfg(test)]
 mod repeat_rows;

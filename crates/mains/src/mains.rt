@@ -55,8 +55,8 @@ fn tool_main<L: Language, R: Files + AllocGlobal, I: Source, O: Sink, E: Sink>(
     }
 }
 
-/// Runs the program `pegi`, whose words are its own name and `[-m MODE] [-l N] [-s RULE] [-r] GRAMMAR`: it runs the
-/// grammar in the file GRAMMAR on what the reader gives, as `run_peg` says, with the settings of the words.
+/// Runs the program `pegi`, whose words are its own name and `[-m MODE] [-l N] [-s RULE] [-r] [-x] GRAMMAR`: it runs
+/// the grammar in the file GRAMMAR on what the reader gives, as `run_peg` says, with the settings of the words.
 ///
 /// - `-h`: the help on `out`, `Done`.
 /// - Other words, or a value out of its range: what is wrong with them on `err`, `Refused`, and nothing is read.
@@ -86,9 +86,9 @@ pub fn pegi_main<R: Files + AllocGlobal, I: Source, O: Sink, E: Sink>(
     tool_main::<PegLanguage, R, I, O, E>(rt, Program::Pegi, words, reader, out, err)
 }
 
-/// Runs the program `abnfi`, whose words are its own name and `[-m MODE] [-l N] [-s RULE] [-u MODE] [-w] GRAMMAR`: it
-/// judges the lines that the reader gives by the grammar in the file GRAMMAR, as `run_abnf` says, with the settings of
-/// the words.
+/// Runs the program `abnfi`, whose words are its own name and `[-m MODE] [-l N] [-s RULE] [-u MODE] [-w] [-z] [-x]
+/// GRAMMAR`: it judges the lines that the reader gives by the grammar in the file GRAMMAR, as `run_abnf` says, with the
+/// settings of the words.
 ///
 /// Words without a run, a grammar that cannot be read and want of memory end it as they end `pegi_main`.
 pub fn abnfi_main<R: Files + AllocGlobal, I: Source, O: Sink, E: Sink>(

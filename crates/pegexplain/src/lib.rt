@@ -3,7 +3,9 @@
 
 mod deciding_token;
 mod explain;
+mod laws;
 mod phrases;
 mod stand;
 
 pub use explain::explain_fault;
+pub use laws::one_explanation;

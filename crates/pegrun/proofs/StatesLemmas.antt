@@ -1,6 +1,6 @@
 -- What is stated for a grammar's text, settings and an input is one, but for want of memory.
 -- Serves: one_statement
-use Rattle.std.proofs.Common.{◌≡◌, ◌≢◌, ℕ, inl, inr, List, [], refl, sym, ◌∙◌, ap, map, arith, true, false}
+use Rattle.std.proofs.Common.{◌≡◌, ◌≢◌, ℕ, inl, inr, List, [], refl, sym, ◌∙◌, ap, map, subst, arith, true, false}
 use Rattle.std.specs.Prelude.{Contains}
 use Rattle.ruletable.specs.Notes.{Said, said}
 use Rattle.ruletable.specs.declared.fault.ReadFault.{ReadFault}
@@ -13,16 +13,19 @@ use Rattle.pegread.proofs.IsFaultOfLemmas.{one-reading, one-fault, no-fault}
 use Rattle.gramcheck.specs.Checked.{is_refused, IsStart}
 use Rattle.gramcheck.specs.GrammarNotes.{names_at}
 use Rattle.gramcheck.proofs.AreNotesLemmas.{notes-one, those-one}
-use Rattle.pegrun.specs.Answers.{States, refused, noted, checked, runs, again, printed, no_memory}
+use Rattle.pegexplain.specs.PegExplained.{Explains}
+use Rattle.pegrun.specs.Answers.{States, refused, unexplained, noted, checked, runs, again, printed, no_memory}
 use Rattle.pegrun.specs.Noted.{AreNotesOn, AreAgain, start_given}
 use Rattle.pegrun.specs.PegReply.{printed_text, RunStates}
 use Rattle.pegrun.proofs.FirstsLemmas.{start_is_one}
 use Rattle.pegrun.proofs.OneReplyLemmas.{one_reply}
 use Rattle.toolrun.specs.Input.{Input}
-use Rattle.toolrun.specs.Reply.{Reply, refusal}
+use Rattle.toolrun.specs.Explained.{Explained, IsLongReply}
+use Rattle.toolrun.specs.Reply.{Reply, refusal, unexplained_fault}
 use Rattle.toolrun.specs.RunSteps as steps
 use Rattle.toolrun.specs.declared.settings.Settings.{Settings}
-use Rattle.toolrun.proofs.OneStatementLemmas.{Stated, one_stated, is_noted, is_checked, is_run, is_again, is_printed}
+use Rattle.toolrun.proofs.OneStatementLemmas.{Stated, one_stated, one-explained, is_noted, is_checked, is_run}
+use Rattle.toolrun.proofs.OneStatementLemmas.{is_again, is_printed}
 
 -- the notes on redefinitions are one list
 again_is_one : (definitions : List Rule) (a b : List Said) → AreAgain definitions a → AreAgain definitions b → a ≡ b
@@ -31,6 +34,11 @@ again_is_one definitions a b g h =
     let rules = those-one (λ (rule : Rule). Contains again rule.name) (firsts [] definitions) g.redefined h.redefined
     g.are_redefined h.are_redefined in
     g.all ∙ ap (map (λ (rule : Rule). said Redefined rule.name)) rules ∙ sym h.all
+
+-- what explains a fault is one text
+abbrev ExplanationsAreOne : Type 0
+ExplanationsAreOne = (text : List ℕ) (fault : ReadFault) (a b : List ℕ) → Explains text fault a
+    → Explains text fault b → a ≡ b
 
 module _ (settings : Settings) (input : Input) where
   -- what a run of these definitions states
@@ -63,14 +71,23 @@ module _ (settings : Settings) (input : Input) where
 
   module _ (text : List ℕ) where
     abbrev IsStated : List ℕ → Reply → Type 0
-    IsStated = Stated (IsFaultOf text) (Reads text) (λ definitions. AreNotesOn definitions (start_given settings))
+    IsStated = Stated (IsFaultOf text) (λ fault. Explained settings (Explains text fault)) (Reads text)
+        (λ definitions. AreNotesOn definitions (start_given settings))
         (λ definitions notes. is_refused notes ≡ true) (λ definitions notes. is_refused notes ≡ false) AreAgain RunOf
         printed_text settings.mode
 
     parts_of : (notes : List ℕ) (reply : Reply) → States text settings input notes reply → reply.status ≢ 5
         → IsStated notes reply
-    parts_of notes reply (refused fault f m) ample =
-        inl (record { fault = fault; is_fault = f; other = m; none = refl; told = refl })
+    parts_of notes reply (refused fault why f m told) ample = inl (record {
+      fault = fault;
+      is_fault = f;
+      other = m;
+      why = why;
+      explains = told;
+      none = refl;
+      told = refl;
+    })
+    parts_of notes reply (unexplained fault f m asked) ample = absurd (ample refl)
     parts_of notes reply (noted ds said r are bad mode) ample =
         inr (record { definitions = ds; reads = r; states = is_noted said are bad mode })
     parts_of notes reply (checked ds said r are fine mode) ample =
@@ -86,20 +103,23 @@ module _ (settings : Settings) (input : Input) where
         inr (record { definitions = ds; reads = r; states = is_printed are mode })
     parts_of notes reply (no_memory within) ample = absurd (ample refl)
 
-    one_of_text : (notes others : List ℕ) (a b : Reply) → IsStated notes a → IsStated others b → a.status ≢ 5
-        → b.status ≢ 5 → (notes ≡ others) × (a ≡ b)
-    one_of_text = one_stated (IsFaultOf text) (Reads text)
-        (λ definitions. AreNotesOn definitions (start_given settings)) (λ definitions notes. is_refused notes ≡ true)
-        (λ definitions notes. is_refused notes ≡ false) AreAgain RunOf printed_text settings.mode
-        (one-reading text) (one-fault text) (no-fault text) notes_are_one again_is_one
+    one_of_text : ExplanationsAreOne → (notes others : List ℕ) (a b : Reply) → IsStated notes a
+        → IsStated others b → a.status ≢ 5 → b.status ≢ 5 → (notes ≡ others) × (a ≡ b)
+    one_of_text one = one_stated (IsFaultOf text) (λ fault. Explained settings (Explains text fault)) (Reads text)
+        (λ definitions. AreNotesOn definitions (start_given settings))
+        (λ definitions notes. is_refused notes ≡ true) (λ definitions notes. is_refused notes ≡ false) AreAgain RunOf
+        printed_text settings.mode (one-reading text) (one-fault text)
+        (λ fault. one-explained settings (Explains text fault) (one text fault)) (no-fault text) notes_are_one
+        again_is_one
         (λ definitions notes bad fine. absurd (cc)) one_run
 
 -- one list of notes and one reply
-pub statement_is_one : (text : List ℕ) (settings : Settings) (input : Input) (notes others : List ℕ) (a b : Reply) →
+pub statement_is_one : ExplanationsAreOne → (text : List ℕ) (settings : Settings) (input : Input)
+    (notes others : List ℕ) (a b : Reply) →
     States text settings input notes a → States text settings input others b → a.status ≢ 5 → b.status ≢ 5
     → (notes ≡ others) × (a ≡ b)
-statement_is_one text settings input notes others a b g h m n =
-    one_of_text settings input text notes others a b (parts_of settings input text notes a g m)
+statement_is_one one text settings input notes others a b g h m n =
+    one_of_text settings input text one notes others a b (parts_of settings input text notes a g m)
     (parts_of settings input text others b h n) m n
 
 -- what spells definitions is not too long
@@ -108,9 +128,21 @@ long-unread long r = let within = r.within in omega arith
 
 -- a text that is too long is told so, whatever memory does
 pub long_is_told : (text : List ℕ) (settings : Settings) (input : Input) (notes : List ℕ) (reply : Reply)
-    → IsFaultOf text TooLong → States text settings input notes reply → (notes ≡ []) × (reply ≡ refusal TooLong)
-long_is_told text settings input notes reply long (refused fault f other) =
-    (refl, ap refusal (one-fault text fault TooLong f long other (λ e. cc)))
+    → IsFaultOf text TooLong → States text settings input notes reply
+    → (notes ≡ []) × IsLongReply settings (Explains text TooLong) reply
+long_is_told text settings input notes reply long (refused fault why f other told) =
+    let is : fault ≡ TooLong = one-fault text fault TooLong f long other (λ e. cc) in (
+      refl,
+      inl (
+        why,
+        subst (λ (f : ReadFault). Explained settings (Explains text f) why) is told,
+        ap (λ f. refusal f why) is,
+      ),
+    )
+long_is_told text settings input notes reply long (unexplained fault f other asked) = (
+  refl,
+  inr (asked, ap unexplained_fault (one-fault text fault TooLong f long other (λ e. cc))),
+)
 long_is_told text settings input notes reply long (noted ds said r are bad mode) = absurd (long-unread long r)
 long_is_told text settings input notes reply long (checked ds said r are fine mode) = absurd (long-unread long r)
 long_is_told text settings input notes reply long (runs ds said start stated r are fine mode is run) =

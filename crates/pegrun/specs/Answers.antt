@@ -6,19 +6,25 @@ use Rattle.ruletable.specs.declared.fault.ReadFault.TheVariants.{Memory}
 use Rattle.pegread.specs.Definitions.{firsts}
 use Rattle.pegread.specs.Pattern.{Rule}
 use Rattle.pegread.specs.Reading.{Reads, IsFaultOf}
+use Rattle.pegexplain.specs.PegExplained.{Explains}
 use Rattle.gramcheck.specs.Checked.{is_refused, IsStart}
+use Rattle.toolrun.specs.Explained.{Explained}
 use Rattle.toolrun.specs.Input.{Input}
 use Rattle.pegrun.specs.Noted.{AreNotesOn, AreAgain, start_given}
 use Rattle.pegrun.specs.PegReply.{printed_text, RunStates}
 use Rattle.toolrun.specs.NotesText.{notes_text}
-use Rattle.toolrun.specs.Reply.{Reply, notes_alone, refusal, without_memory}
+use Rattle.toolrun.specs.Reply.{Reply, notes_alone, refusal, unexplained_fault, without_memory}
 use Rattle.toolrun.specs.declared.settings.Mode.TheVariants.{Run, Check, Print}
 use Rattle.toolrun.specs.declared.settings.Settings.{Settings}
 
 -- what is stated for a grammar's text and an input: the notes, and what follows them
 pub data States (text : List ℕ) (settings : Settings) (input : Input) : List ℕ → Reply → Type 0 where
-  -- the text has a fault, which is told
-  refused : (fault : ReadFault) → IsFaultOf text fault → fault ≢ Memory → States text settings input [] (refusal fault)
+  -- the text has a fault, which is told, and explained if that is asked
+  refused : (fault : ReadFault) (why : List ℕ) → IsFaultOf text fault → fault ≢ Memory
+      → Explained settings (Explains text fault) why → States text settings input [] (refusal fault why)
+  -- its fault is told, and an allocation failed in explaining it
+  unexplained : (fault : ReadFault) → IsFaultOf text fault → fault ≢ Memory → settings.explain ≡ true
+      → States text settings input [] (unexplained_fault fault)
   -- the text is a grammar that a note refuses
   noted : (definitions : List Rule) (notes : List Said) → Reads text definitions
       → AreNotesOn definitions (start_given settings) notes →

@@ -1,14 +1,17 @@
 //! Laws of what is stated for a grammar and an input: there is at most one answer.
 ghost use Rattle.std.specs.Prelude.{◌≡◌, ◌≢◌, ℕ, List, []};
 ghost use Rattle.ruletable.specs.declared.fault.ReadFault.{ReadFault};
+ghost use Rattle.pegexplain.specs.PegExplained.{Explains};
 ghost use Rattle.pegread.specs.Pattern.{Rule};
 ghost use Rattle.pegread.specs.Reading.{IsFaultOf, Reads};
 ghost use Rattle.toolrun.specs.Input.{Input};
 ghost use Rattle.pegrun.specs.Answers.{States};
 ghost use Rattle.pegrun.specs.PegReply.{Replies};
-ghost use Rattle.toolrun.specs.Reply.{Reply, refusal};
+ghost use Rattle.toolrun.specs.Explained.{IsLongReply};
+ghost use Rattle.toolrun.specs.Reply.{Reply};
 ghost use Rattle.toolrun.specs.declared.settings.Settings.{Settings};
 
+use pegexplain::one_explanation;
 use pegread::one_reading;
 
 /// Says that a list of rules, a start rule and settings have at most one reply to an input.
@@ -31,7 +34,8 @@ pub fn one_statement()
         (notes ≡ others) × (a ≡ b) }
     ensures long { (text : List ℕ) (settings : Settings) (input : Input) (notes : List ℕ) (reply : Reply) →
         IsFaultOf text ReadFault.TooLong → States text settings input notes reply →
-        (notes ≡ []) × (reply ≡ refusal ReadFault.TooLong) }
+        (notes ≡ []) × IsLongReply settings (Explains text ReadFault.TooLong) reply }
 {
+    one_explanation();
     one_reading();
 }

@@ -1,4 +1,5 @@
 //! The language of peg(1), whose grammars are run on units of an input.
+ghost use Rattle.pegexplain.specs.PegExplained.{Explains};
 ghost use Rattle.pegread.specs.Canon.{grammar_text};
 ghost use Rattle.pegread.specs.PegViews.{rules_of};
 ghost use Rattle.pegread.specs.Reading.{IsFaultOf};
@@ -10,6 +11,7 @@ use crate::engine::run_units;
 use feed::Source;
 use gramcheck::{SoundPeg, check_peg, redefinitions};
 use packrat::Packrat;
+use pegexplain::explain_fault;
 use pegread::{Peg, print_peg, read_peg};
 use ruletable::{Memory, Note, ReadFault, Sink, WriteFault};
 use std::alloc::Global;
@@ -27,6 +29,8 @@ impl Language for PegLanguage {
 
     ghost has_fault = { IsFaultOf };
 
+    ghost explains = { Explains };
+
     ghost is_read = { λ text peg. IsReadAs text peg.rules peg.redefined.items };
 
     ghost is_checked = { IsChecked };
@@ -39,6 +43,10 @@ impl Language for PegLanguage {
 
     fn read(alloc: Global, text: &[u8]) -> Result<Peg, ReadFault> {
         read_peg(alloc, text)
+    }
+
+    fn explain_fault(alloc: Global, text: &[u8], fault: ReadFault) -> Result<Vec<u8>, Memory> {
+        explain_fault(alloc, text, fault)
     }
 
     fn check(

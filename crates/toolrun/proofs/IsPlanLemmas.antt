@@ -1,15 +1,18 @@
 -- The plan for a grammar's text is what is stated.
 -- Serves: run_tool, run_peg, run_abnf (right)
-use Rattle.std.proofs.Common.{◌≡◌, ◌≢◌, List, [], ℕ, refl, Option, Some, None, option_copied}
+use Rattle.std.proofs.Common.{◌≡◌, ◌≢◌, List, [], ◌++◌, ℕ, refl, sym, ap, subst, true, false, append-nil, Option, Some}
+use Rattle.std.proofs.Common.{None, option_copied, codes}
 use Rattle.std.specs.Prelude.{Result, Ok, Err}
+use Rattle.ruletable.specs.Faults.{fault_text}
 use Rattle.ruletable.specs.Notes.{Said}
 use Rattle.ruletable.specs.declared.fault.ReadFault.{ReadFault}
 use Rattle.ruletable.specs.declared.fault.ReadFault.TheVariants as fault
+use Rattle.toolrun.specs.Explained.{Explained}
 use Rattle.toolrun.specs.Input.{Input}
 use Rattle.toolrun.specs.Language.{AreStated}
 use Rattle.toolrun.specs.NotesText.{notes_text}
-use Rattle.toolrun.specs.Plan.{IsPlan, does_of, stopped}
-use Rattle.toolrun.specs.Reply.{Reply, refusal, text_alone, without_memory}
+use Rattle.toolrun.specs.Plan.{Behind, behind_notes, in_reply, IsPlan, does_of, stopped, told_behind}
+use Rattle.toolrun.specs.Reply.{Reply, refusal, text_alone, unexplained_fault, without_memory}
 use Rattle.toolrun.specs.Stop.{unread}
 use Rattle.toolrun.specs.Tasks.{checked_task, task_does}
 use Rattle.toolrun.specs.declared.plan.Task.{Task}
@@ -21,61 +24,115 @@ use Rattle.toolrun.specs.declared.status.Status.TheVariants as status
 use Rattle.toolrun.specs.declared.stop.Stop.{Stop}
 use Rattle.toolrun.specs.declared.stop.Stop.TheVariants.{NoMemory, Quiet, Refused}
 
+-- a fault that is not explained is told by its line alone
+plain-refusal : (why : ReadFault) → refusal why [] ≡ stopped (Refused why)
+plain-refusal why = ap (λ (t : List ℕ). record { out = []; err = t; status = 2; taken = 0 })
+    (append-nil (fault_text why))
+
+-- what is told first is all that is told
+whole-refusal : (why : ReadFault) (lines : List ℕ)
+    → refusal why lines ≡ told_behind (fault_text why ++ lines) (stopped (Quiet status.Refused))
+whole-refusal why lines = ap (λ (t : List ℕ). record { out = []; err = t; status = 2; taken = 0 })
+    (sym (append-nil (fault_text why ++ lines)))
+
+whole-unexplained : (why : ReadFault) → unexplained_fault why ≡ told_behind (fault_text why ++ []) (stopped NoMemory)
+whole-unexplained why =
+    ap (λ (t : List ℕ). record { out = []; err = t ++ codes "out of memory\n"; status = 5; taken = 0 })
+    (sym (append-nil (fault_text why)))
+
+explained_not : (settings : Settings) (Why : List ℕ → Type 0) → settings.explain ≡ false → Explained settings Why []
+explained_not settings Why is = rw is refl
+
+explained_so : (settings : Settings) (Why : List ℕ → Type 0) (lines : List ℕ) → settings.explain ≡ true → Why lines
+    → Explained settings Why lines
+explained_so settings Why lines is h = rw is h
+
 module _ (States : Input → List ℕ → Reply → Type 0) (IsFault : ReadFault → Type 0)
-    (refuses : (input : Input) (why : ReadFault) → IsFault why → why ≢ fault.Memory → States input [] (refusal why))
+    (refuses : (input : Input) (why : ReadFault) → IsFault why → why ≢ fault.Memory
+    → States input [] (refusal why []))
     (no_memory : (input : Input) → IsFault fault.Memory → States input [] (without_memory [] 0))
     {T : Type 0} (Does : T → Input → Reply → Type 0) where
   refused-plan : (why : ReadFault) → IsFault why → why ≢ fault.Memory
-      → IsPlan States [] (does_of Does (Err (Refused why)))
+      → IsPlan (Behind States) [] (does_of Does (Err (Refused why)))
   refused-plan why faulty other = record {
-    stated = λ input reply is. rw is (refuses input why faulty other);
+    stated = λ input reply is. rw is (behind_notes
+        (subst (States input []) (plain-refusal why) (refuses input why faulty other)));
     some = λ input. (stopped (Refused why), refl);
   }
 
-  pub unread-plan : (why : ReadFault) → IsFault why → IsPlan States [] (does_of Does (Err (unread why)))
+  pub unread-plan : (why : ReadFault) → IsFault why → IsPlan (Behind States) [] (does_of Does (Err (unread why)))
   unread-plan (fault.Syntax line) faulty = refused-plan (fault.Syntax line) faulty (λ e. absurd (cc))
   unread-plan (fault.Depth line) faulty = refused-plan (fault.Depth line) faulty (λ e. absurd (cc))
   unread-plan (fault.CodePredicate line) faulty = refused-plan (fault.CodePredicate line) faulty (λ e. absurd (cc))
   unread-plan fault.TooLong faulty = refused-plan fault.TooLong faulty (λ e. absurd (cc))
   unread-plan fault.Memory faulty = record {
-    stated = λ input reply is. rw is (no_memory input faulty);
+    stated = λ input reply is. rw is (behind_notes (no_memory input faulty));
     some = λ input. (stopped NoMemory, refl);
   }
   unread-plan (fault.NumberTooLarge line) faulty = refused-plan (fault.NumberTooLarge line) faulty (λ e. absurd (cc))
 
 module _ {Grammar Sound : Type 0} {States : List ℕ → Settings → Input → List ℕ → Reply → Type 0}
-    {HasFault : List ℕ → ReadFault → Type 0} {IsRead : List ℕ → Grammar → Type 0}
+    {HasFault : List ℕ → ReadFault → Type 0} {Explains : List ℕ → ReadFault → List ℕ → Type 0}
+    {IsRead : List ℕ → Grammar → Type 0}
     {IsChecked : List ℕ → Option (List ℕ) → List Said → Option Sound → Type 0}
     {IsPrintable : List ℕ → Grammar → List Said → Type 0} {canonical : Grammar → List ℕ}
     {Runs : Sound → Settings → Input → Reply → Type 0}
-    (law : AreStated States HasFault IsRead IsChecked IsPrintable canonical Runs) (text : List ℕ) (settings : Settings)
+    (law : AreStated States HasFault Explains IsRead IsChecked IsPrintable canonical Runs) (text : List ℕ)
+    (settings : Settings)
   where
     abbrev Planned : List ℕ → Result (Task Grammar Sound) Stop → Type 0
-    Planned notes task = IsPlan (States text settings) notes (does_of (λ t. task_does canonical Runs t settings) task)
+    Planned first task = IsPlan (Behind (States text settings)) first
+        (does_of (λ t. task_does canonical Runs t settings) task)
 
     -- a text that was not read
-    pub plan_unread : (why : ReadFault) → HasFault text why → Planned [] (Err (unread why))
-    plan_unread why faulty =
+    pub plan_unread : settings.explain ≡ false → (why : ReadFault) → HasFault text why → Planned [] (Err (unread why))
+    plan_unread plain why faulty =
         unread-plan (States text settings) (HasFault text)
-        (λ input why f other. law.refused text settings input why f other)
+        (λ input why f other. law.refused text settings input why [] f other
+        (explained_not settings (Explains text why) plain))
         (λ input f. law.no_memory text settings input f)
         (λ (t : Task Grammar Sound). task_does canonical Runs t settings)
         why faulty
+
+    pub plan_without_memory : (why : ReadFault) → why ≡ fault.Memory → HasFault text why → Planned [] (Err (unread why))
+    plan_without_memory why is faulty = let f = rw is at faulty in rw is (record {
+      stated = λ input reply r. rw r (behind_notes (law.no_memory text settings input f));
+      some = λ input. (stopped NoMemory, refl);
+    })
+
+    -- a fault that is explained, and one for whose explanation there is no memory
+    pub plan_explained : settings.explain ≡ true → (why : ReadFault) (lines : List ℕ) → HasFault text why
+        → why ≢ fault.Memory → Explains text why lines
+        → Planned (fault_text why ++ lines) (Err (Quiet status.Refused))
+    plan_explained asked why lines faulty other explains = record {
+      stated = λ input reply r. rw r (in_reply refl (subst (States text settings input []) (whole-refusal why lines)
+          (law.refused text settings input why lines faulty other
+          (explained_so settings (Explains text why) lines asked explains))));
+      some = λ input. (stopped (Quiet status.Refused), refl);
+    }
+
+    pub plan_unexplained : settings.explain ≡ true → (why : ReadFault) → HasFault text why → why ≢ fault.Memory
+        → Planned (fault_text why ++ []) (Err NoMemory)
+    plan_unexplained asked why faulty other = record {
+      stated = λ input reply r. rw r (in_reply refl (subst (States text settings input []) (whole-unexplained why)
+          (law.unexplained text settings input why faulty other asked)));
+      some = λ input. (stopped NoMemory, refl);
+    }
 
     -- a grammar that was checked
     pub plan_checked : (notes : List Said) (mode : Mode) (sound : Option Sound) → settings.mode ≡ mode → mode ≢ Print
         → IsChecked text (option_copied settings.start) notes sound
         → Planned (notes_text notes) (checked_task mode sound)
     plan_checked notes mode None is other c = record {
-      stated = λ input reply r. rw r (law.noted text settings input notes c (rw is other));
+      stated = λ input reply r. rw r (behind_notes (law.noted text settings input notes c (rw is other)));
       some = λ input. (stopped (Quiet status.Refused), refl);
     }
     plan_checked notes Run (Some sound) is other c = record {
-      stated = λ input reply r. law.run text settings input notes sound reply c is r;
+      stated = λ input reply r. behind_notes (law.run text settings input notes sound reply c is r);
       some = λ input. law.replies text settings input notes sound c;
     }
     plan_checked notes Check (Some sound) is other c = record {
-      stated = λ input reply r. rw r (law.checked text settings input notes sound c is);
+      stated = λ input reply r. rw r (behind_notes (law.checked text settings input notes sound c is));
       some = λ input. (stopped (Quiet status.Done), refl);
     }
     plan_checked notes Print (Some sound) is other c = absurd (other refl)
@@ -84,13 +141,13 @@ module _ {Grammar Sound : Type 0} {States : List ℕ → Settings → Input → 
     pub plan_again : (grammar : Grammar) (notes : List Said) → settings.mode ≡ Print → notes ≢ []
         → IsPrintable text grammar notes → Planned (notes_text notes) (Err (Quiet status.Refused))
     plan_again grammar notes print some p = record {
-      stated = λ input reply r. rw r (law.again text settings input grammar notes p some print);
+      stated = λ input reply r. rw r (behind_notes (law.again text settings input grammar notes p some print));
       some = λ input. (stopped (Quiet status.Refused), refl);
     }
 
     pub plan_printed : (grammar : Grammar) (notes : List Said) → settings.mode ≡ Print → notes ≡ []
         → IsPrintable text grammar notes → Planned (notes_text notes) (Ok (Prints grammar))
     plan_printed grammar notes print none p = let q = rw none at p in rw none (record {
-      stated = λ input reply r. rw r (law.printed text settings input grammar q print);
+      stated = λ input reply r. rw r (behind_notes (law.printed text settings input grammar q print));
       some = λ input. (text_alone (canonical grammar), refl);
     })

@@ -1,21 +1,21 @@
 -- A run and its end were right.
 -- Serves: run_tool (right)
 use Rattle.std.proofs.Common.{◌≡◌, ℕ, Bool, true, false, Option, Some, None, List, [], ◌++◌, refl, sym, ◌∙◌, ap, subst}
-use Rattle.std.proofs.Common.{arith, append_assoc, length, length-append}
+use Rattle.std.proofs.Common.{◌≢◌, ◌≤◌, ◌∷◌, arith, append_assoc, length, length-append}
 use Rattle.std.specs.Prelude.{Result, Ok, Err, IfSome}
 use Rattle.std.specs.Result.{is_err}
 use Rattle.std.specs.Io.KnownBytes.{Appends, Keeps, Consumes}
-use Rattle.ruletable.specs.Writing.{Flags, Writes, AppendsPart}
+use Rattle.ruletable.specs.Writing.{Flags, Writes, AppendsPart, IsBeginning}
 use Rattle.ruletable.specs.declared.sink.WriteFault.{WriteFault}
 use Rattle.ruletable.proofs.AppendsLemmas.{Appends-join, Appends-kept, Appends-none, Appends-same, IsBeginning-same}
 use Rattle.ruletable.proofs.AppendsLemmas.{IsBeginning-nil, IsBeginning-join, IsBeginning-after}
-use Rattle.toolrun.specs.Delivery.{IsTold}
+use Rattle.toolrun.specs.Delivery.{Delivers, IsTold, Observed}
 use Rattle.toolrun.specs.Input.{Input, input_from}
 use Rattle.toolrun.specs.Reply.{Reply}
 use Rattle.toolrun.specs.Status.{code_of}
 use Rattle.toolrun.specs.Stop.{write_error}
 use Rattle.toolrun.specs.Finish.{Finishes}
-use Rattle.toolrun.specs.Plan.{IsPlan, stopped}
+use Rattle.toolrun.specs.Plan.{Behind, behind_notes, in_reply, IsPlan, stopped, told_behind}
 use Rattle.toolrun.specs.Right.{IsRight, Comes}
 use Rattle.toolrun.specs.Stop.{message_of, status_of}
 use Rattle.toolrun.specs.Stopped.{StopsAs, Performs}
@@ -190,6 +190,66 @@ module _ (States : Input → List ℕ → Reply → Type 0) (notes : List ℕ) (
   cut_short reader out err e code same part kept stays failed is =
       rw same (cut_of reader.old out.old out.new err.old e err.new reader.failed out.failed err.failed code part kept
       stays failed is)
+
+-- nothing begins nothing else
+begins_nothing : (xs ys : List ℕ) → IsBeginning xs ys → ys ≡ [] → xs ≡ []
+begins_nothing [] ys b none = refl
+begins_nothing (x ∷ xs) ys (rest, whole) none = absurd (cc)
+
+if_some : (old : Option (List ℕ)) (P Q : List ℕ → Type 0) → ((given : List ℕ) → P given → Q given) → IfSome old P
+    → IfSome old Q
+if_some None P Q f h = tt
+if_some (Some given) P Q f h = f given h
+
+-- what is told first is told by the notes or the reply
+module _ (States : Input → List ℕ → Reply → Type 0) (given : List ℕ) (run : Observed) where
+  told_right : (notes : List ℕ) (stated : Reply) →
+      Behind States (input_from given run.taken run.read_failed) notes stated → Delivers notes stated run
+      → length run.taken ≤ stated.taken →
+      (run.out_failed ≡ false → run.err_failed ≡ false → run.status ≢ 5 → length run.taken ≡ stated.taken)
+      → IsRight States given run
+  told_right notes stated (behind_notes states) d within exact = record {
+    notes = notes;
+    stated = stated;
+    states = states;
+    delivers = d;
+    within = within;
+    exact = exact;
+  }
+  told_right notes stated (in_reply none states) d within exact =
+      let silent : run.out ≡ stated.out = begins_nothing run.out stated.out d.part none ∙ sym none in
+      record {
+        notes = [];
+        stated = told_behind notes stated;
+        states = states;
+        delivers = record {
+          part = d.part;
+          out = λ out_ok stands. silent;
+          silent = λ isnt. absurd (isnt (IsBeginning-nil run.err));
+          unread = λ isnt. absurd (isnt (IsBeginning-nil run.err));
+          told = d.told;
+          broken = λ out_bad other. absurd (other silent);
+          unflushed = d.unflushed;
+          status = d.status;
+          high = d.high;
+        };
+        within = within;
+        exact = exact;
+      }
+
+pub comes_behind : (States : Input → List ℕ → Reply → Type 0) (reader out err : Stream) (code : ℕ)
+    → Comes (Behind States) reader out err code → Comes States reader out err code
+comes_behind States reader out err code =
+    if_some reader.old _ _ (λ given (taken, wrote, told, gives, writes, tells, right). (
+      taken,
+      wrote,
+      told,
+      gives,
+      writes,
+      tells,
+      told_right States given _ right.notes right.stated right.states
+          right.delivers right.within right.exact,
+    ))
 
 -- whether a write failed
 module _ {A E : Type 0} (a b : Option (List ℕ)) (text : List ℕ) where

@@ -1,18 +1,31 @@
 -- What the tool of a language states for a text, settings and an input is one, but for want of memory.
 -- Serves: one_statement, one_statement_of_abnf
-use Rattle.std.proofs.Common.{◌≡◌, ◌≢◌, ℕ, ◌⊎◌, inl, inr, List, [], refl, sym, ◌∙◌, ap, subst}
+use Rattle.std.proofs.Common.{◌≡◌, ◌≢◌, ℕ, ◌⊎◌, inl, inr, Bool, true, false, List, [], refl, sym, ◌∙◌, ap, subst}
 use Rattle.ruletable.specs.Notes.{Said}
 use Rattle.ruletable.specs.declared.fault.ReadFault.{ReadFault}
 use Rattle.ruletable.specs.declared.fault.ReadFault.TheVariants.{Memory}
+use Rattle.toolrun.specs.Explained.{Explained, ExplainedIf}
 use Rattle.toolrun.specs.NotesText.{notes_text}
 use Rattle.toolrun.specs.Reply.{Reply, notes_alone, refusal}
+use Rattle.toolrun.specs.declared.settings.Settings.{Settings}
 use Rattle.toolrun.specs.declared.settings.Mode.{Mode}
 use Rattle.toolrun.specs.declared.settings.Mode.TheVariants.{Run, Check, Print}
 
--- Of a text, IsFault says what is wrong with it, and Reads which definitions it spells. Of definitions, AreNotes and
--- AreAgain say what is noted, IsRefused and IsSound which notes refuse them and which do not, Runs what a run of them
--- states, and printed what is written of them.
-module _ {Definitions : Type 0} (IsFault : ReadFault → Type 0) (Reads : Definitions → Type 0)
+-- what explains is one text, where what is told if it is asked is one
+if-explained : (asked : Bool) (Why : List ℕ → Type 0) → ((a b : List ℕ) → Why a → Why b → a ≡ b)
+    → (a b : List ℕ) → ExplainedIf asked Why a → ExplainedIf asked Why b → a ≡ b
+if-explained true Why one a b g h = one a b g h
+if-explained false Why one a b g h = g ∙ sym h
+
+pub one-explained : (settings : Settings) (Why : List ℕ → Type 0) → ((a b : List ℕ) → Why a → Why b → a ≡ b)
+    → (a b : List ℕ) → Explained settings Why a → Explained settings Why b → a ≡ b
+one-explained settings Why one a b g h = if-explained settings.explain Why one a b g h
+
+-- Of a text, IsFault says what is wrong with it, Explains what is told of that, and Reads which definitions it spells.
+-- Of definitions, AreNotes and AreAgain say what is noted, IsRefused and IsSound which notes refuse them and which do
+-- not, Runs what a run of them states, and printed what is written of them.
+module _ {Definitions : Type 0} (IsFault : ReadFault → Type 0) (Explains : ReadFault → List ℕ → Type 0)
+    (Reads : Definitions → Type 0)
     (AreNotes IsRefused IsSound AreAgain : Definitions → List Said → Type 0) (Runs : Definitions → Reply → Type 0)
     (printed : Definitions → Reply) (mode : Mode) where
   -- what is stated for a text that spells these definitions
@@ -32,8 +45,10 @@ module _ {Definitions : Type 0} (IsFault : ReadFault → Type 0) (Reads : Defini
     pub fault : ReadFault
     pub is_fault : IsFault fault
     pub other : fault ≢ Memory
+    pub why : List ℕ
+    pub explains : Explains fault why
     pub none : notes ≡ []
-    pub told : reply ≡ refusal fault
+    pub told : reply ≡ refusal fault why
 
   pub record IsReadFor (notes : List ℕ) (reply : Reply) : Type 0 where
     pub definitions : Definitions
@@ -45,6 +60,7 @@ module _ {Definitions : Type 0} (IsFault : ReadFault → Type 0) (Reads : Defini
 
   module _ (one_reading : (a b : Definitions) → Reads a → Reads b → a ≡ b)
       (one_fault : (a b : ReadFault) → IsFault a → IsFault b → a ≢ Memory → b ≢ Memory → a ≡ b)
+      (one_why : (fault : ReadFault) (a b : List ℕ) → Explains fault a → Explains fault b → a ≡ b)
       (no_fault : (definitions : Definitions) (fault : ReadFault) → Reads definitions → IsFault fault → fault ≡ Memory)
       (one_notes : (definitions : Definitions) (a b : List Said) → AreNotes definitions a → AreNotes definitions b
       → a ≡ b)
@@ -103,10 +119,13 @@ module _ {Definitions : Type 0} (IsFault : ReadFault → Type 0) (Reads : Defini
     -- one list of notes and one reply
     pub one_stated : (notes others : List ℕ) (a b : Reply) → Stated notes a → Stated others b
         → a.status ≢ 5 → b.status ≢ 5 → (notes ≡ others) × (a ≡ b)
-    one_stated notes others a b (inl g) (inl h) m n = (
-      g.none ∙ sym h.none,
-      g.told ∙ ap refusal (one_fault g.fault h.fault g.is_fault h.is_fault g.other h.other) ∙ sym h.told,
-    )
+    one_stated notes others a b (inl g) (inl h) m n =
+        let same : g.fault ≡ h.fault = one_fault g.fault h.fault g.is_fault h.is_fault g.other h.other in
+        let why : g.why ≡ h.why =
+        one_why h.fault g.why h.why (subst (λ (f : ReadFault). Explains f g.why) same g.explains) h.explains in (
+          g.none ∙ sym h.none,
+          g.told ∙ ap (λ f. refusal f g.why) same ∙ ap (refusal h.fault) why ∙ sym h.told,
+        )
     one_stated notes others a b (inl g) (inr h) m n =
         absurd (let other = g.other in other (no_fault h.definitions g.fault h.reads g.is_fault))
     one_stated notes others a b (inr g) (inl h) m n =

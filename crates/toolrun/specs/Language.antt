@@ -1,25 +1,30 @@
 -- How what a tool states follows from what its grammar language reads, checks, prints and runs.
-use Rattle.std.specs.Prelude.{◌≡◌, ◌≢◌, ℕ, List, [], Option, Some, None, option_copied}
+use Rattle.std.specs.Prelude.{◌≡◌, ◌≢◌, ℕ, true, List, [], Option, Some, None, option_copied}
 use Rattle.ruletable.specs.Notes.{Said}
 use Rattle.ruletable.specs.declared.fault.ReadFault.{ReadFault}
 use Rattle.ruletable.specs.declared.fault.ReadFault.TheVariants.{Memory}
+use Rattle.toolrun.specs.Explained.{Explained}
 use Rattle.toolrun.specs.Input.{Input}
 use Rattle.toolrun.specs.NotesText.{notes_text}
-use Rattle.toolrun.specs.Reply.{Reply, notes_alone, refusal, text_alone, without_memory}
+use Rattle.toolrun.specs.Reply.{Reply, notes_alone, refusal, text_alone, unexplained_fault, without_memory}
 use Rattle.toolrun.specs.declared.settings.Mode.TheVariants.{Run, Check, Print}
 use Rattle.toolrun.specs.declared.settings.Settings.{Settings}
 
--- States is what the tool states. Of a text: HasFault says what is wrong with it, IsRead what it is read as, IsChecked
--- what is noted of its grammar and what is ready to run, IsPrintable what is noted where it is only to be printed. Of a
--- grammar: canonical is its text, Runs what a run of it states.
+-- States is what the tool states. Of a text: HasFault says what is wrong with it, Explains what explains that, IsRead
+-- what it is read as, IsChecked what is noted of its grammar and what is ready to run, IsPrintable what is noted where
+-- it is only to be printed. Of a grammar: canonical is its text, Runs what a run of it states.
 pub record AreStated {Grammar Sound : Type 0} (States : List ℕ → Settings → Input → List ℕ → Reply → Type 0)
-    (HasFault : List ℕ → ReadFault → Type 0) (IsRead : List ℕ → Grammar → Type 0)
+    (HasFault : List ℕ → ReadFault → Type 0) (Explains : List ℕ → ReadFault → List ℕ → Type 0)
+    (IsRead : List ℕ → Grammar → Type 0)
     (IsChecked : List ℕ → Option (List ℕ) → List Said → Option Sound → Type 0)
     (IsPrintable : List ℕ → Grammar → List Said → Type 0) (canonical : Grammar → List ℕ)
     (Runs : Sound → Settings → Input → Reply → Type 0) : Type 0 where
-  -- a text that has a fault, which is told
-  pub refused : (text : List ℕ) (settings : Settings) (input : Input) (fault : ReadFault) → HasFault text fault
-      → fault ≢ Memory → States text settings input [] (refusal fault)
+  -- a text that has a fault, which is told, and explained if that is asked
+  pub refused : (text : List ℕ) (settings : Settings) (input : Input) (fault : ReadFault) (why : List ℕ)
+      → HasFault text fault → fault ≢ Memory → Explained settings (Explains text fault) why
+      → States text settings input [] (refusal fault why)
+  pub unexplained : (text : List ℕ) (settings : Settings) (input : Input) (fault : ReadFault) → HasFault text fault
+      → fault ≢ Memory → settings.explain ≡ true → States text settings input [] (unexplained_fault fault)
   -- any allocation may fail in reading a text or behind that
   pub within : (text : List ℕ) (grammar : Grammar) → IsRead text grammar → HasFault text Memory
   pub no_memory : (text : List ℕ) (settings : Settings) (input : Input) → HasFault text Memory

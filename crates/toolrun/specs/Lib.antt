@@ -1,5 +1,6 @@
 pub mod Agrees
 pub mod Delivery
+pub mod Explained
 pub mod Finish
 pub mod Flush
 pub mod Input

@@ -1,9 +1,14 @@
 -- What is to be done for a grammar's text.
-use Rattle.std.specs.Prelude.{◌≡◌, ℕ, List, [], Result, Ok, Err}
+use Rattle.std.specs.Prelude.{◌≡◌, ℕ, List, [], ◌++◌, map, Result, Ok, Err}
+use Rattle.ruletable.specs.Faults.{fault_text}
+use Rattle.ruletable.specs.Notes.{said_of}
 use Rattle.toolrun.specs.Input.{Input}
+use Rattle.toolrun.specs.NotesText.{notes_text}
 use Rattle.toolrun.specs.Reply.{Reply}
 use Rattle.toolrun.specs.Status.{code_of}
 use Rattle.toolrun.specs.Stop.{message_of, status_of}
+use Rattle.toolrun.specs.declared.plan.First.{First}
+use Rattle.toolrun.specs.declared.plan.First.TheVariants.{Notes, Fault}
 use Rattle.toolrun.specs.declared.stop.Stop.{Stop}
 
 -- a run that stops at once
@@ -14,6 +19,26 @@ stopped stop = record { out = []; err = message_of stop; status = code_of (statu
 abbrev pub does_of : {T : Type 0} → (T → Input → Reply → Type 0) → Result T Stop → Input → Reply → Type 0
 does_of Does (Ok task) input reply = Does task input reply
 does_of Does (Err stop) input reply = reply ≡ stopped stop
+
+-- the text of what is told before anything is read
+abbrev pub first_text : First → List ℕ
+first_text (Notes notes) = notes_text (map said_of notes.items)
+first_text (Fault fault why) = fault_text fault ++ why.items
+
+-- the reply that tells this text first
+abbrev pub told_behind : List ℕ → Reply → Reply
+told_behind first reply = record {
+  out = reply.out;
+  err = first ++ reply.err;
+  status = reply.status;
+  taken = reply.taken;
+}
+
+-- What is stated where this text is told first: it is the notes, or the reply tells it, which writes nothing.
+pub data Behind (States : Input → List ℕ → Reply → Type 0) (input : Input) (first : List ℕ) (reply : Reply) : Type
+    0 where
+  behind_notes : States input first reply → Behind States input first reply
+  in_reply : reply.out ≡ [] → States input [] (told_behind first reply) → Behind States input first reply
 
 -- Behind these notes what is done is what is stated, and for each input something is.
 pub record IsPlan (States : Input → List ℕ → Reply → Type 0) (notes : List ℕ) (Does : Input → Reply → Type 0) : Type

@@ -1,5 +1,5 @@
 -- What a run of a tool states.
-use Rattle.std.specs.Prelude.{ℕ, List, [], codes}
+use Rattle.std.specs.Prelude.{ℕ, List, [], ◌++◌, codes}
 use Rattle.ruletable.specs.Faults.{fault_text}
 use Rattle.ruletable.specs.declared.fault.ReadFault.{ReadFault}
 
@@ -10,9 +10,13 @@ pub record Reply : Type 0 where
   pub status : ℕ
   pub taken : ℕ
 
--- a grammar's text is refused: its fault is told, and nothing is taken
-abbrev pub refusal : ReadFault → Reply
-refusal fault = record { out = []; err = fault_text fault; status = 2; taken = 0 }
+-- a grammar's text is refused: its fault is told with what explains it, and nothing is taken
+abbrev pub refusal : ReadFault → List ℕ → Reply
+refusal fault why = record { out = []; err = fault_text fault ++ why; status = 2; taken = 0 }
+
+-- an allocation fails in explaining the fault of a grammar's text: its message stands whole
+abbrev pub unexplained_fault : ReadFault → Reply
+unexplained_fault fault = record { out = []; err = fault_text fault ++ codes "out of memory\n"; status = 5; taken = 0 }
 
 -- nothing is written behind the notes, and nothing is taken
 abbrev pub notes_alone : ℕ → Reply

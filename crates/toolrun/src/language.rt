@@ -39,6 +39,9 @@ pub trait Language {
     /// What is wrong with a text.
     ghost has_fault: { List ℕ → Fault → Type 0 };
 
+    /// What explains a fault of a text: the lines behind its message.
+    ghost explains: { List ℕ → Fault → List ℕ → Type 0 };
+
     /// What a text is read as.
     ghost is_read: { List ℕ → Self.Grammar → Type 0 };
 
@@ -58,6 +61,11 @@ pub trait Language {
     fn read(alloc: Global, text: &[u8]) -> Result<Self::Grammar, ReadFault>
         ensures read { IfOk result (λ grammar. is_read text.now grammar) }
         ensures fault { IfErr result (λ fault. has_fault text.now fault) };
+
+    /// Returns the lines that explain a fault of a grammar's text. `Memory` if an allocation fails.
+    fn explain_fault(alloc: Global, text: &[u8], fault: ReadFault) -> Result<Vec<u8>, Memory>
+        requires { has_fault text.now fault }
+        ensures { IfOk result (λ why. explains text.now fault why.items) };
 
     /// Checks a grammar, and notes what there is to say of it. `Memory` if an allocation fails.
     fn check(
@@ -95,5 +103,5 @@ pub trait Language {
 
     /// Says that what is stated follows from what is read, checked, printed and run. It does nothing.
     fn follows()
-        ensures { AreStated states has_fault is_read is_checked is_printable canonical runs };
+        ensures { AreStated states has_fault explains is_read is_checked is_printable canonical runs };
 }

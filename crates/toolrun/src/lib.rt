@@ -3,6 +3,7 @@
 #![tactic(auto)]
 
 mod finish;
+mod first;
 mod language;
 mod notes;
 mod plan;

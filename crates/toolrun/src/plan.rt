@@ -1,8 +1,7 @@
 //! What is to be done for a grammar's text.
-ghost use Rattle.std.specs.Prelude.{◌≡◌, ◌≢◌, Option, [], Err, IfOk, IfErr, map, option_copied};
+ghost use Rattle.std.specs.Prelude.{◌≡◌, ◌≢◌, Option, [], Err, IfOk, IfErr, map, option_copied, true};
 ghost use Rattle.ruletable.specs.Notes.{said_of};
-ghost use Rattle.toolrun.specs.NotesText.{notes_text};
-ghost use Rattle.toolrun.specs.Plan.{IsPlan, does_of};
+ghost use Rattle.toolrun.specs.Plan.{Behind, IsPlan, does_of, first_text};
 ghost use Rattle.toolrun.specs.Stop.{unread};
 ghost use Rattle.toolrun.specs.Tasks.{checked_task, task_does};
 ghost use Rattle.toolrun.specs.declared.settings.Mode.TheVariants.{Print};
@@ -23,11 +22,20 @@ pub enum Task<G, S> {
     Runs(S),
 }
 
-/// What is to be done for a grammar's text: the notes are written, and then the task is performed, or the run stops at
-/// once.
+/// What is told before anything is read.
+#[derive(Drop)]
+pub enum First {
+    /// The notes on the grammar.
+    Notes(Vec<Note>),
+    /// The fault of its text, and the lines that explain it.
+    Fault { fault: ReadFault, why: Vec<u8> },
+}
+
+/// What is to be done for a grammar's text: what is told first is written, and then the task is performed, or the run
+/// stops at once.
 #[derive(Drop)]
 pub struct Plan<G, S> {
-    pub notes: Vec<Note>,
+    pub first: First,
     pub task: Result<Task<G, S>, Stop>,
 }
 
@@ -84,13 +92,63 @@ fn task_of<G, S: Drop>(mode: Mode, sound: Option<S>) -> Result<Task<G, S>, Stop>
 
 /// Returns the plan where no grammar was read: the run stops at once.
 fn plan_stop<G, S>(alloc: Global, fault: ReadFault) -> Plan<G, S>
-    ensures notes { result.notes.items ≡ [] }
+    ensures first { first_text result.first ≡ [] }
     ensures task { result.task ≡ Err (unread fault) }
 {
     Plan {
-        notes: Vec::new(alloc),
+        first: First::Notes(Vec::new(alloc)),
         task: Err(stop_unread(fault)),
     }
+}
+
+/// Returns the plan for a text whose fault is explained: that is told, and the run stops at once.
+fn plan_explained<L: Language>(
+    alloc: Global,
+    text: &[u8],
+    settings: &Settings<'_>,
+    fault: ReadFault,
+) -> Plan<L::Grammar, L::Sound>
+    requires fault { L.has_fault text.now fault }
+    requires other { fault ≢ ReadFault.Memory }
+    requires asked { settings.now.explain ≡ true }
+    ensures { IsPlan (Behind (L.states text.now settings.now)) (first_text result.first)
+        (does_of (λ t. task_does L.canonical L.runs t settings.now) result.task) }
+{
+    L::follows();
+    match L::explain_fault(alloc, text, fault) {
+        Ok(why) => Plan {
+            first: First::Fault { fault, why },
+            task: Err(Stop::Quiet(Status::Refused)),
+        },
+        Err(Memory) => Plan {
+            first: First::Fault {
+                fault,
+                why: Vec::new(alloc),
+            },
+            task: Err(Stop::NoMemory),
+        },
+    }
+}
+
+/// Returns the plan for a text that has a fault, which is explained if that is asked and it is not want of memory.
+fn plan_fault<L: Language>(
+    alloc: Global,
+    text: &[u8],
+    settings: &Settings<'_>,
+    fault: ReadFault,
+) -> Plan<L::Grammar, L::Sound>
+    requires { L.has_fault text.now fault }
+    ensures { IsPlan (Behind (L.states text.now settings.now)) (first_text result.first)
+        (does_of (λ t. task_does L.canonical L.runs t settings.now) result.task) }
+{
+    L::follows();
+    if fault == ReadFault::Memory {
+        return plan_stop(alloc, fault);
+    }
+    if !settings.explain {
+        return plan_stop(alloc, fault);
+    }
+    plan_explained::<L>(alloc, text, settings, fault)
 }
 
 /// Reads and checks a grammar's text that is to be run, or to be checked alone.
@@ -100,16 +158,16 @@ fn plan_checked<L: Language>(
     settings: &Settings<'_>,
 ) -> Plan<L::Grammar, L::Sound>
     requires { settings.now.mode ≢ Print }
-    ensures { IsPlan (L.states text.now settings.now) (notes_text (map said_of result.notes.items))
+    ensures { IsPlan (Behind (L.states text.now settings.now)) (first_text result.first)
         (does_of (λ t. task_does L.canonical L.runs t settings.now) result.task) }
 {
     L::follows();
     match checked::<L>(alloc, text, settings.start) {
         Ok(Checked { notes, sound }) => Plan {
-            notes,
+            first: First::Notes(notes),
             task: task_of(settings.mode, sound),
         },
-        Err(fault) => plan_stop(alloc, fault),
+        Err(fault) => plan_fault::<L>(alloc, text, settings, fault),
     }
 }
 
@@ -120,7 +178,7 @@ fn plan_print<L: Language>(
     settings: &Settings<'_>,
 ) -> Plan<L::Grammar, L::Sound>
     requires { settings.now.mode ≡ Print }
-    ensures { IsPlan (L.states text.now settings.now) (notes_text (map said_of result.notes.items))
+    ensures { IsPlan (Behind (L.states text.now settings.now)) (first_text result.first)
         (does_of (λ t. task_does L.canonical L.runs t settings.now) result.task) }
 {
     L::follows();
@@ -128,16 +186,16 @@ fn plan_print<L: Language>(
         Ok(Printable { grammar, again }) => {
             if again.is_empty() {
                 return Plan {
-                    notes: again,
+                    first: First::Notes(again),
                     task: Ok(Task::Prints(grammar)),
                 };
             }
             Plan {
-                notes: again,
+                first: First::Notes(again),
                 task: Err(Stop::Quiet(Status::Refused)),
             }
         }
-        Err(fault) => plan_stop(alloc, fault),
+        Err(fault) => plan_fault::<L>(alloc, text, settings, fault),
     }
 }
 
@@ -147,7 +205,7 @@ pub fn plan_of<L: Language>(
     text: &[u8],
     settings: &Settings<'_>,
 ) -> Plan<L::Grammar, L::Sound>
-    ensures { IsPlan (L.states text.now settings.now) (notes_text (map said_of result.notes.items))
+    ensures { IsPlan (Behind (L.states text.now settings.now)) (first_text result.first)
         (does_of (λ t. task_does L.canonical L.runs t settings.now) result.task) }
 {
     match settings.mode {

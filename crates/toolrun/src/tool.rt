@@ -1,8 +1,6 @@
 //! The run of a tool.
-ghost use Rattle.std.specs.Prelude.{◌≡◌, false, map};
-ghost use Rattle.ruletable.specs.Notes.{said_of};
+ghost use Rattle.std.specs.Prelude.{◌≡◌, false};
 ghost use Rattle.ruletable.specs.Writing.{Flags};
-ghost use Rattle.toolrun.specs.NotesText.{notes_text};
 ghost use Rattle.toolrun.specs.Plan.{does_of};
 ghost use Rattle.toolrun.specs.Right.{Comes};
 ghost use Rattle.toolrun.specs.Status.{code_of};
@@ -11,8 +9,8 @@ ghost use Rattle.toolrun.specs.Stream.{passed};
 ghost use Rattle.toolrun.specs.Tasks.{task_does};
 
 use crate::finish::{close, finish};
+use crate::first::write_first;
 use crate::language::Language;
-use crate::notes::write_notes;
 use crate::plan::{Task, plan_of};
 use crate::settings::Settings;
 use crate::status::Status;
@@ -93,7 +91,7 @@ pub fn run_tool<L: Language, R: Source, O: Sink, E: Sink>(
         (passed O.contents O.failed out.old out.new) (passed E.contents E.failed err.old err.new) (code_of result) }
 {
     let plan = plan_of::<L>(alloc, grammar, settings);
-    if write_notes(alloc, plan.notes.as_slice(), err).is_err() {
+    if write_first(alloc, &plan.first, err).is_err() {
         return close(out, err);
     }
     let stop = act::<L, R, O>(&plan.task, alloc, settings, reader, out);

@@ -11,7 +11,8 @@ pub returns-clause-one_fault : goal.returns-clause-one_fault
 returns-clause-one_fault c = c.one_reading.ensures.one_fault
 
 pub returns-clause-whole : goal.returns-clause-whole
-returns-clause-whole c = one_statement c.utf8_is_decided.ensures.one c.furthest_is_found.ensures.one
+returns-clause-whole c = one_statement c.one_explanation_of_abnf.ensures
+    c.utf8_is_decided.ensures.one c.furthest_is_found.ensures.one
 
 pub returns-clause-long : goal.returns-clause-long
 returns-clause-long c = long_is_told

@@ -1,4 +1,4 @@
--- The options of both programs, the alphabet, the flag and the grammar in turn.
+-- The options of both programs, the alphabet, the flags and the grammar in turn.
 use Rattle.std.proofs.Common.{ap, ap₂, ◌∙◌, refl}
 use Rattle.std.proofs.lemmas.Result.{IfOk-weaker, err_from_is_err_and}
 use Rattle.clap.specs.Simple.{app_of_fields}
@@ -45,6 +45,16 @@ returns-in_err-with_nul c =
       app = (abnfi_app options.0 letters.0, (options.0, options.1, letters.0, letters.1, refl), rw fault.1 tt);
     }
 
+pub returns-in_err-with_explain : goal.returns-in_err-with_explain
+returns-in_err-with_explain c =
+    let options = c.in_ok-with_options.ensures.options in
+    let letters = c.letters_arg-letters.ensures.rule in
+    let fault = err_from_is_err_and c.from_residual-in_err-with_explain.result
+    c.from_residual-in_err-with_explain.ensures.1 in
+    record {
+      app = (abnfi_app options.0 letters.0, (options.0, options.1, letters.0, letters.1, refl), rw fault.1 tt);
+    }
+
 pub returns : goal.returns
 returns c =
     let options = c.in_ok-with_options.ensures.options in
@@ -55,12 +65,14 @@ returns c =
     let three = c.in_ok-with_viable.ensures.shape c.viable_arg.ensures.local
     ∙ ap₂ with_rule two c.viable_arg.ensures.rule in
     let four = c.in_ok-with_nul.ensures.shape c.nul_arg.ensures.local ∙ ap₂ with_rule three c.nul_arg.ensures.rule in
+    let five = c.in_ok-with_explain.ensures.shape c.explain_arg.ensures.local
+    ∙ ap₂ with_rule four c.explain_arg.ensures.rule in
     record {
       app = (
         abnfi_app options.0 letters.0,
         (options.0, options.1, letters.0, letters.1, refl),
-        IfOk-weaker c.arg-4.result _ _
-            (λ r h. h.shape c.grammar_arg.ensures.local ∙ ap₂ with_rule four c.grammar_arg.ensures.rule)
-            c.arg-4.ensures,
+        IfOk-weaker c.arg-5.result _ _
+            (λ r h. h.shape c.grammar_arg.ensures.local ∙ ap₂ with_rule five c.grammar_arg.ensures.rule)
+            c.arg-5.ensures,
       );
     }

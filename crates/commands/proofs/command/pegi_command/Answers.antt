@@ -1,4 +1,4 @@
--- The options of both programs, the flag and the grammar in turn.
+-- The options of both programs, the flags and the grammar in turn.
 use Rattle.std.proofs.Common.{ap, ap₂, ◌∙◌, refl}
 use Rattle.std.proofs.lemmas.Result.{IfOk-weaker, err_from_is_err_and}
 use Rattle.clap.specs.Simple.{app_of_fields}
@@ -18,17 +18,27 @@ returns-in_err-with_raw c =
     let fault = err_from_is_err_and c.from_residual-in_err-with_raw.result c.from_residual-in_err-with_raw.ensures.1 in
     record { app = (pegi_app options.0, (options.0, options.1, refl), rw fault.1 tt) }
 
+pub returns-in_err-with_explain : goal.returns-in_err-with_explain
+returns-in_err-with_explain c =
+    let options = c.in_ok-with_options.ensures.options in
+    let fault = err_from_is_err_and c.from_residual-in_err-with_explain.result
+    c.from_residual-in_err-with_explain.ensures.1 in
+    record { app = (pegi_app options.0, (options.0, options.1, refl), rw fault.1 tt) }
+
 pub returns : goal.returns
 returns c =
     let options = c.in_ok-with_options.ensures.options in
     let zero = ap app_of_fields c.after_help-plain.ensures ∙ ap app_of_fields c.about.ensures ∙ c.new.ensures.app in
     let base = options.2 ∙ ap (with_options options.0) zero in
     let raw = c.in_ok-with_raw.ensures.shape c.raw_arg.ensures.local ∙ ap₂ with_rule base c.raw_arg.ensures.rule in
+    let explain = c.in_ok-with_explain.ensures.shape c.explain_arg.ensures.local
+    ∙ ap₂ with_rule raw c.explain_arg.ensures.rule in
     record {
       app = (
         pegi_app options.0,
         (options.0, options.1, refl),
-        IfOk-weaker c.arg-2.result _ _
-            (λ r h. h.shape c.grammar_arg.ensures.local ∙ ap₂ with_rule raw c.grammar_arg.ensures.rule) c.arg-2.ensures,
+        IfOk-weaker c.arg-3.result _ _
+            (λ r h. h.shape c.grammar_arg.ensures.local ∙ ap₂ with_rule explain c.grammar_arg.ensures.rule)
+            c.arg-3.ensures,
       );
     }

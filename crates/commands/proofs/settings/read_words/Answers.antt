@@ -17,7 +17,7 @@ returns g c =
           words_ask (found_of c.in-Ok.matches) (matches_of said.0 (map g.S.AsStr.text c.args.words.now)) said.2.1
               c.in-Ok.ensures.whole (record { settings = c.settings_of-settings.result; path = c.unwrap-path.result })
               c.get_str.result settings.mode settings.limit settings.start settings.raw
-              settings.letters settings.viable settings.nul c.get_str.ensures
+              settings.letters settings.viable settings.nul settings.explain c.get_str.ensures
               c.unwrap-path.ensures,
         ),
       );

@@ -1,14 +1,10 @@
 -- The text is refused, or its grammar is checked.
 use Rattle.std.proofs.Common.{map, refl}
 use Rattle.ruletable.specs.Notes.{said_of}
-use Rattle.toolrun.proofs.IsPlanLemmas.{plan_checked, plan_unread}
+use Rattle.toolrun.proofs.IsPlanLemmas.{plan_checked}
 use Rattle.toolrun.proofs.plan.plan_checked.Goals as goal
 
 pub returns-in-Ok : goal.returns-in-Ok
 returns-in-Ok g c = rw c.task_of.ensures
     (plan_checked c.follows.ensures c.args.text.now c.args.settings.now (map said_of c.in-Ok.field-0.notes.items)
     c.args.settings.now.mode c.in-Ok.field-0.sound refl c.requires c.in-Ok.ensures.checked)
-
-pub returns-in-Err : goal.returns-in-Err
-returns-in-Err g c = rw (c.plan_stop.ensures.notes, c.plan_stop.ensures.task)
-    (plan_unread c.follows.ensures c.args.text.now c.args.settings.now c.in-Err.fault c.in-Err.ensures.fault)

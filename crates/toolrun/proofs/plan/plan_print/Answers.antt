@@ -3,7 +3,7 @@ use Rattle.std.proofs.Common.{◌≡◌, [], ap, map, arith}
 use Rattle.std.proofs.lemmas.Bool.Decides.{nat_tests}
 use Rattle.std.proofs.lemmas.List.{nil_from_length}
 use Rattle.ruletable.specs.Notes.{said_of}
-use Rattle.toolrun.proofs.IsPlanLemmas.{plan_again, plan_printed, plan_unread}
+use Rattle.toolrun.proofs.IsPlanLemmas.{plan_again, plan_printed}
 use Rattle.toolrun.proofs.NotesTextLemmas.{some_said}
 use Rattle.toolrun.proofs.plan.plan_print.Goals as goal
 
@@ -20,7 +20,3 @@ returns-else-is_empty g c =
     (map said_of c.in-Ok.field-0.again.items) c.requires
     (some_said c.in-Ok.field-0.again.items (grind (arith, nat_tests, c.in-Ok.field-0.again.ok, c.if-is_empty.ensures)))
     c.in-Ok.ensures.read
-
-pub returns-in-Err : goal.returns-in-Err
-returns-in-Err g c = rw (c.plan_stop.ensures.notes, c.plan_stop.ensures.task)
-    (plan_unread c.follows.ensures c.args.text.now c.args.settings.now c.in-Err.fault c.in-Err.ensures.fault)

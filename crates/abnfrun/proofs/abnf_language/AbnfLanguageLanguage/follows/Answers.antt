@@ -1,7 +1,7 @@
 -- What is stated is what a text's grammar was read, checked, printed or run for.
 use Rattle.std.proofs.Common.{[], true}
 use Rattle.abnfread.specs.AbnfViews.{rules_of}
-use Rattle.abnfrun.specs.AbnfAnswers.{refused, noted, checked, judges, again, printed, no_memory}
+use Rattle.abnfrun.specs.AbnfAnswers.{refused, unexplained, noted, checked, judges, again, printed, no_memory}
 use Rattle.abnfrun.specs.AbnfReply.{AnswersFor, form_of}
 use Rattle.lines.specs.InputLines.{none}
 use Rattle.lines.proofs.LinesLemmas.{lines_go_on}
@@ -10,7 +10,8 @@ use Rattle.abnfrun.proofs.abnf_language.AbnfLanguageLanguage.follows.Goals as go
 
 pub returns : goal.returns
 returns c = record {
-  refused = λ text settings input fault is other. refused fault is other;
+  refused = λ text settings input fault why is other told. refused fault why is other told;
+  unexplained = λ text settings input fault is other asked. unexplained fault is other asked;
   within = λ text abnf is. let reads = is.0.1 in reads.size;
   no_memory = λ text settings input within. no_memory within;
   noted = λ text settings input notes is other. noted is.definitions notes is.reads is.are_notes is.ready other;

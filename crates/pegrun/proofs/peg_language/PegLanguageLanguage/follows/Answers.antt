@@ -1,6 +1,6 @@
 -- What is stated is what a text's grammar was read, checked, printed or run for.
 use Rattle.std.proofs.Common.{List, []}
-use Rattle.pegrun.specs.Answers.{refused, noted, checked, runs, again, printed, no_memory}
+use Rattle.pegrun.specs.Answers.{refused, unexplained, noted, checked, runs, again, printed, no_memory}
 use Rattle.pegrun.specs.Units.{none}
 use Rattle.pegrun.proofs.SomeReplyLemmas.{units_go_on}
 use Rattle.toolrun.specs.RunSteps.{replied}
@@ -8,7 +8,8 @@ use Rattle.pegrun.proofs.peg_language.PegLanguageLanguage.follows.Goals as goal
 
 pub returns : goal.returns
 returns c = record {
-  refused = λ text settings input fault is other. refused fault is other;
+  refused = λ text settings input fault why is other told. refused fault why is other told;
+  unexplained = λ text settings input fault is other asked. unexplained fault is other asked;
   within = λ text peg is. let reads = is.1 in reads.within;
   no_memory = λ text settings input within. no_memory within;
   noted = λ text settings input notes is other. noted is.definitions notes is.reads is.are_notes is.ready other;

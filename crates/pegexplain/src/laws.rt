@@ -1,0 +1,10 @@
+//! A law of what explains a fault: it is one text.
+ghost use Rattle.std.specs.Prelude.{◌≡◌, ℕ, List};
+ghost use Rattle.ruletable.specs.declared.fault.ReadFault.{ReadFault};
+ghost use Rattle.pegexplain.specs.PegExplained.{Explains};
+
+/// Says that at most one text explains a fault of a grammar's text.
+pub fn one_explanation()
+    ensures { (text : List ℕ) (fault : ReadFault) (a b : List ℕ) → Explains text fault a → Explains text fault b
+        → a ≡ b }
+{}

@@ -1,0 +1,276 @@
+"""Slow answers to what is wrong with a grammar's text, and the lines that explain it.
+
+The tokens of a text are found by regular expressions, and what can stand behind them by Earley's sets over a grammar of
+their kinds: a kind can stand exactly if an item of the last set reads it next, since each symbol derives something.
+"""
+import collections
+import re
+
+SHOWN, HALF = 72, 36
+MAX_OPEN, MAX_NUMBER = 200, 4294967295
+
+# A token: its kind, where it begins, its bytes, and in ABNF whether white space stands right before it, and whether it
+# is the first of a line that begins a rule.
+Token = collections.namedtuple("Token", "kind start text gap first", defaults=[False, False])
+
+# A terminal of a grammar of kinds: what a token must be to be read by it; None is either.
+Reads = collections.namedtuple("Reads", "kind gap first", defaults=[None, False])
+
+
+class Prefixes:
+    """The sets of Earley's items over a list of tokens that still begins what the first rule derives."""
+
+    def __init__(self, rules):
+        self.rules, self.sets = rules, []
+        self.nullable = set()
+        while more := {name for name, body in rules if all(it in self.nullable for it in body)} - self.nullable:
+            self.nullable |= more
+        self.close({(name, body, 0, 0) for name, body in rules if name == rules[0][0]})
+
+    def close(self, items):
+        """Adds the set of these items and of all that follow from them."""
+        found, queue = set(), list(items)
+        self.sets.append(found)
+        while queue:
+            item = queue.pop()
+            if item in found:
+                continue
+            found.add(item)
+            name, body, dot, origin = item
+            if dot == len(body):
+                queue += [(n, b, d + 1, o) for n, b, d, o in list(self.sets[origin]) if d < len(b) and b[d] == name]
+            elif isinstance(body[dot], str):
+                queue += [(n, b, 0, len(self.sets) - 1) for n, b in self.rules if n == body[dot]]
+                if body[dot] in self.nullable:
+                    queue.append((name, body, dot + 1, origin))
+
+    def next_terminals(self):
+        return {b[d] for n, b, d, o in self.sets[-1] if d < len(b) and isinstance(b[d], Reads)}
+
+    def can_stand(self, kind, gap, first):
+        return any(it.kind == kind and it.gap in (None, gap) and it.first == first for it in self.next_terminals())
+
+    def read(self, token):
+        """Goes on behind a token that can stand."""
+        self.close({(n, b, d + 1, o) for n, b, d, o in self.sets[-1] if d < len(b) and isinstance(b[d], Reads)
+                    and b[d].kind == token.kind and b[d].gap in (None, token.gap) and b[d].first == token.first})
+
+
+def rules_of(text, terminals):
+    """Returns the rules of a grammar in lines `name: symbol .. | ..`; a symbol of the terminals is one."""
+    found = []
+    for line in text.split("\n"):
+        name, _, bodies = line.strip().partition(":")
+        found += [(name, tuple(terminals.get(it, it) for it in body.split())) for body in bodies.split("|")]
+    return found
+
+
+PEG_KINDS = "Ident Arrow Begin EndCap Slash Amp Bang Quest Star Plus Dot LParen RParen Literal Class Action End".split()
+PEG_RULES = rules_of("""text: rules End
+    rules: rule | rules rule
+    rule: Ident Arrow choice
+    choice: items | choice Slash items
+    items: | items item
+    item: suffixed | Bang suffixed | Amp firm
+    suffixed: firm | Action | Action Quest | Action Star | Action Plus
+    firm: primary | primary Quest | primary Star | primary Plus
+    primary: Ident | Literal | Class | Dot | Begin | EndCap | LParen choice RParen""",
+                     {it: Reads(it) for it in PEG_KINDS})
+
+ABNF_KINDS = "Name Text Num Prose LParen LBrack Repeat Is Adds Slash RParen RBrack End".split()
+ABNF_RULES = rules_of("""text: rules End
+    rules: rule | rules rule
+    rule: First defined choice
+    defined: Is | Adds
+    choice: items | choice Slash items
+    items: repeated | items repeated+
+    repeated: element | Repeat element-
+    repeated+: element+ | Repeat+ element-
+    element: Name | Text | Num | Prose | LParen choice RParen | LBrack choice RBrack
+    element+: Name+ | Text+ | Num+ | Prose+ | LParen+ choice RParen | LBrack+ choice RBrack
+    element-: Name- | Text- | Num- | Prose- | LParen- choice RParen | LBrack- choice RBrack""",
+                      {it + mark: Reads(it, gap) for it in ABNF_KINDS
+                       for mark, gap in (("", None), ("+", True), ("-", False))} | {"First": Reads("Name", None, True)})
+
+PEG_WHITE = re.compile(rb"(?:[ \t\n\r]|#[^\n\r]*)*")
+PEG_TOKENS = [
+    ("Ident", rb"[A-Za-z_][A-Za-z0-9_]*"), ("Arrow", rb"<-"), ("Begin", rb"<"), ("EndCap", rb">"), ("Slash", rb"/"),
+    ("Amp", rb"&"), ("Bang", rb"!"), ("Quest", rb"\?"), ("Star", rb"\*"), ("Plus", rb"\+"), ("Dot", rb"\."),
+    ("LParen", rb"\("), ("RParen", rb"\)"), ("Literal", rb"'(?:[^'\\]|\\[\s\S])*'|\"(?:[^\"\\]|\\[\s\S])*\""),
+    ("Class", rb"\[(?:[^\]\\]|\\[\s\S])*\]"),
+]
+ABNF_WHITE = re.compile(rb"(?:[ \t\n]|\r\n|;[^\n]*)*")
+ABNF_TOKENS = [
+    ("Name", rb"[A-Za-z][A-Za-z0-9-]*"), ("Adds", rb"=/"), ("Is", rb"="), ("Slash", rb"/"), ("LParen", rb"\("),
+    ("RParen", rb"\)"), ("LBrack", rb"\["), ("RBrack", rb"\]"), ("Repeat", rb"[0-9]+(?:\*[0-9]*)?|\*[0-9]*"),
+    ("Text", rb"(?:%[sSiI])?\"[ !#-~]*\""), ("Prose", rb"<[ -=?-~]*>"),
+    *(("Num", rb"%%[%s](?:[%s]+-[%s]+|[%s]+(?:\.[%s]+)*)" % ((mark,) + (digits,) * 4))
+      for mark, digits in ((rb"xX", rb"0-9A-Fa-f"), (rb"dD", rb"0-9"), (rb"bB", rb"01"))),
+]
+
+PEG_PHRASES = [
+    ("a name", ["Ident"], ["Literal"]), ('"<-"', ["Arrow"], []),
+    ("an element", "Ident Literal Class Dot LParen Begin EndCap Action".split(), []),
+    ("an element but an action", "Ident Literal Class Dot LParen Begin EndCap".split(), ["Action"]),
+    *((f'"{mark}"', [kind], []) for mark, kind in
+      zip("&!?*+/)", "Amp Bang Quest Star Plus Slash RParen".split())),
+    ("the end of the text", ["End"], []),
+]
+INNER = "Name Text Num Prose LParen LBrack".split()
+ABNF_PHRASES = [
+    ("an element", [(it, gap, False) for it in [*INNER, "Repeat"] for gap in (True, False)], []),
+    ("white space and an element", [(it, True, False) for it in [*INNER, "Repeat"]], [("Name", False, False)]),
+    ("an element right behind it", [(it, False, False) for it in INNER], [("Repeat", False, False)]),
+    *((f'"{mark}"', [(kind, gap, False) for gap in (True, False)], []) for mark, kind in
+      (("=", "Is"), ("=/", "Adds"), ("/", "Slash"), (")", "RParen"), ("]", "RBrack"))),
+    ("a rule", [("Name", gap, True) for gap in (True, False)], []),
+    ("the end of the text", [("End", gap, False) for gap in (True, False)], []),
+]
+
+PEG_FACTS = [
+    (b"'", "the literal has no closing quote"), (b'"', "the literal has no closing quote"),
+    (b"[", 'the class has no closing "]"'), (b"{", 'the action has no closing "}"'),
+    (b"\xEF\xBB\xBF", "a byte order mark is no part of a grammar"), (b"\xE2\x86\x90", 'a rule is defined by "<-"'),
+    (b"=", 'a rule is defined by "<-"'), (b":", 'a rule is defined by "<-"'),
+    (b"|", 'alternatives have "/" between them'), (b"-", 'names hold letters, digits and "_"'),
+]
+ABNF_FACTS = [
+    (b"\xEF\xBB\xBF", "a byte order mark is no part of a grammar"), (b"|", 'alternatives have "/" between them'),
+    (b":", 'a rule is defined by "="'), (b"_", 'names hold letters, digits and "-"'),
+    (b"#", '"#" is no part of ABNF in RFC 5234; lists of RFC 9110, section 5.6.1, are to be written out'),
+    (b"'", "texts stand in double quotes"),
+    (b'"', "the text has no closing quote, or holds a byte that is not %x20-7E"),
+    (b"<", 'the prose has no closing ">", or holds a byte that is not %x20-7E'),
+    (b"%", "a number is %x, %d or %b and digits"), (b"{", "repetitions are written *(e)"),
+    (b"+", "repetitions are written 1*e"), (b"?", "options are written [e]"),
+]
+
+
+def action_end(text, start):
+    """Returns where the action that begins there ends, or None."""
+    depth = 0
+    for at in range(start, len(text)):
+        depth += {b"{": 1, b"}": -1}.get(text[at:at + 1], 0)
+        if depth == 0:
+            return at + 1
+    return None
+
+
+def tokens_of(text, white, kinds, has_actions):
+    """Returns the tokens of a text, up to its end or a bad one: each is the longest that stands there."""
+    found, at = [], 0
+    while True:
+        start = white.match(text, at).end()
+        ends = [(it.end(), kind) for kind, form in kinds if (it := re.compile(form).match(text, start))]
+        if has_actions and text[start:start + 1] == b"{" and (end := action_end(text, start)):
+            ends.append((end, "Action"))
+        kind = "End" if start == len(text) else "Bad"
+        at, kind = max(ends, default=(len(text), kind))
+        behind = found[-1].start + len(found[-1].text) if found else 0
+        found.append(Token(kind, start, text[start:at], start > behind))
+        if kind in ("End", "Bad"):
+            return found
+
+
+def indent(text, start):
+    """Returns how many spaces and tabs stand before a place on its line; None if anything else does."""
+    front = text[:start].rpartition(b"\n")[2]
+    return None if front.strip(b" \t") else len(front)
+
+
+def marked(text, tokens):
+    """Marks the tokens of ABNF that are the first of a line that begins a rule."""
+    margin = indent(text, tokens[0].start)
+    found = []
+    for it in tokens:
+        here = indent(text, it.start)
+        found.append(it._replace(first=it.kind != "End" and None not in (margin, here) and here <= margin))
+    return found
+
+
+def shown(text):
+    return "".join(" " if it == 9 else chr(it) if 32 <= it <= 126 else "\\x%02X" % it for it in text)
+
+
+def place(text, token, line_end):
+    """Returns the picture of a token's place, and the beginning of what is told of it."""
+    if token.kind == "End":
+        return "  at the end of the text: "
+    before = len(re.split(line_end, text[:token.start])[-1])
+    line = text[token.start - before:token.start] + re.split(line_end, text[token.start:])[0]
+    front = min(max(before - HALF, 0), len(line) - SHOWN) if len(line) > SHOWN else 0
+    left = ".." * (front > 0) + shown(line[front:before])
+    right = shown(line[before:front + SHOWN]) + ".." * (len(line) > front + SHOWN)
+    return f"  {left}{right}\n  {' ' * len(left)}^\n  column {before + 1}: "
+
+
+def expected(prefixes, phrases):
+    def can(kind):
+        return prefixes.can_stand(*(kind if isinstance(kind, tuple) else (kind, False, False)))
+    words = [words for words, kinds, bars in phrases if all(map(can, kinds)) and not any(map(can, bars))]
+    return "expected " + " or ".join([", ".join(words[:-1])] * (len(words) > 1) + words[-1:]) + "\n"
+
+
+def bad_fact(token, text, facts):
+    if token.kind != "Bad":
+        return ""
+    return next((f"  {told}\n" for front, told in facts if text.startswith(front, token.start)), "")
+
+
+def is_large(token):
+    """Tells whether a number of a token of ABNF is over its limit."""
+    if token.kind == "Repeat":
+        return any(int(it) > MAX_NUMBER for it in re.findall(rb"[0-9]+", token.text))
+    base = {b"x": 16, b"d": 10, b"b": 2}.get(token.text[1:2].lower())
+    numbers = re.findall(rb"[0-9A-Fa-f]+", token.text[2:])
+    return token.kind == "Num" and any(int(it, base) > MAX_NUMBER for it in numbers)
+
+
+def opens(token):
+    return {"LParen": 1, "LBrack": 1, "RParen": -1, "RBrack": -1}.get(token.kind, 0)
+
+
+def peg(text):
+    """Returns what is told of the fault of a grammar for pegi, and explains it; None if it has none."""
+    tokens, prefixes, depth = tokens_of(text, PEG_WHITE, PEG_TOKENS, True), Prefixes(PEG_RULES), 0
+    for number, token in enumerate(tokens):
+        line = len(re.findall(rb"\r\n|\r|\n", text[:token.start])) + 1
+        where = place(text, token, rb"\r\n|\r|\n")
+        if not prefixes.can_stand(token.kind, False, False):
+            is_code = token.kind == "Action" and number > 0 and tokens[number - 1].kind == "Amp"
+            told = f"line {line}: " + ("code predicate\n" if is_code else "syntax error\n")
+            return told + where + expected(prefixes, PEG_PHRASES) + bad_fact(token, text, PEG_FACTS)
+        depth += opens(token)
+        if depth > MAX_OPEN:
+            return f"line {line}: nested too deeply\n{where}200 brackets are open before it\n"
+        prefixes.read(token._replace(gap=False))
+    return None
+
+
+def line_facts(text, tokens, number):
+    """Returns what is told of a token of ABNF by where its line, and that of the first token, begin."""
+    token, margin, facts = tokens[number], indent(text, tokens[0].start), ""
+    if token.first and number > 0:
+        facts += f"  its line begins a rule: it is indented by {indent(text, token.start)}, the first by {margin}\n"
+    before = tokens[number - 1] if number > 0 else token
+    if token.kind in ("Is", "Adds") and before.kind == "Name" and not before.first:
+        facts += f"  the name before it does not begin a rule: rules are indented by at most {margin}\n"
+    return facts
+
+
+def abnf(text):
+    """Returns what is told of the fault of a grammar for abnfi, and explains it; None if it has none."""
+    tokens, prefixes, depth = tokens_of(text, ABNF_WHITE, ABNF_TOKENS, False), Prefixes(ABNF_RULES), 0
+    tokens = marked(text, tokens)
+    for number, token in enumerate(tokens):
+        line, where = text.count(b"\n", 0, token.start) + 1, place(text, token, rb"\r?\n")
+        if not prefixes.can_stand(token.kind, token.gap, token.first):
+            facts = bad_fact(token, text, ABNF_FACTS) + line_facts(text, tokens, number)
+            return f"line {line}: syntax error\n{where}{expected(prefixes, ABNF_PHRASES)}{facts}"
+        if is_large(token):
+            return f"line {line}: number too large\n{where}above 4294967295\n"
+        depth += opens(token)
+        if depth > MAX_OPEN:
+            return f"line {line}: nested too deeply\n{where}200 brackets are open before it\n"
+        prefixes.read(token)
+    return None
