@@ -10,6 +10,7 @@ mod unit;
 
 pub use feed::{Broken, Source, SourceOf};
 pub use laws::{one_reply, one_statement};
+pub use peg_task::PegTask;
 pub use run::run_peg;
 pub use toolrun::{
     Alphabet, DEFAULT_LIMIT, MAX_LIMIT, Mode, Settings, Status, Stop, close_run, end_run,
