@@ -36,7 +36,10 @@ EXEMPT = (
     "pegmatch: Plain.replay", "pegmatch: writing.write_event",
     # Another function of the crate has such a body, and its edit shows the same mistake.
     "commands: command.abnfi_command", "mains: mains.abnfi_main", "leastset: needs.are_needs_within",
-    "pegmatch: leaves.match_any", "feed: Feed.front",
+    "pegmatch: leaves.match_any", "feed: Feed.front", "fanquber_c: exports.fanquber_abnf",
+    "gramtools: PegTask.plan", "gramtools: PegTask.perform",
+    # A crate above has such an edit.
+    "memoryrun: whole_run.abnf_in_memory", "memoryrun: whole_run.peg_in_memory",
 )
 
 
@@ -124,7 +127,7 @@ def functions_in(file, public, promises):
             owner, trait = type_and_trait(line)
         elif line.startswith("}"):
             owner, trait = "", ""
-        said = re.match(r"(    )?(pub )?(?:pub\(\w+\) )?(?:const )?(?:unsafe )?fn (\w+)", line)
+        said = re.match(r"(    )?(pub )?(?:pub\(\w+\) )?(?:const )?(?:unsafe )?(?:extern \"C\" )?fn (\w+)", line)
         if not said or (said[1] and not owner):
             continue
         signature, clauses, has_body = heads_at(lines, at)
