@@ -1,6 +1,6 @@
 # Proves, builds and tests the tools. Needs the Rattle toolchain's command `rt` and Python 3.
 
-.PHONY: all try programs example examples install put dist deb test check edits clean
+.PHONY: all try programs lib example examples install put put-lib dist deb test check edits clean
 
 all: programs example
 
@@ -13,6 +13,11 @@ try:
 # many), builds the programs, and puts them into bin/.
 programs:
 	@python3 -B scripts/build/prove.py pegi abnfi
+
+# The library for C: proves what it stands on, and puts it into bin/, static and shared. It needs a C compiler.
+lib:
+	@python3 -B scripts/build/prove.py fanquber_c
+	@python3 -B scripts/build/library.py
 
 # A run of each program: the one rule of the peg(1) manual that replaces `username`, and a line of letters.
 example: programs
@@ -36,11 +41,13 @@ examples: programs
 	@sh scripts/docs/run_examples.sh
 	@python3 -B scripts/docs/man_examples.py
 
-# The programs, their manual pages, completions for shells, README and examples, below PREFIX. `put` takes the programs
-# from bin/ as they are.
+# The programs, their manual pages, completions for shells, README and examples, below PREFIX; and the library for C with
+# its header, its manual page and what pkg-config reads, if `make lib` made it. `put` and `put-lib` take all from bin/ as it
+# is.
 PREFIX ?= /usr/local
 SHARE = $(DESTDIR)$(PREFIX)/share
 install: programs put
+	@if [ -f bin/libfanquber.so.1 ]; then $(MAKE) --no-print-directory put-lib; fi
 
 put:
 	install -d $(DESTDIR)$(PREFIX)/bin $(SHARE)/man/man1 $(SHARE)/doc/fanquber
@@ -52,6 +59,15 @@ put:
 	install -m 644 completions/fish/* $(SHARE)/fish/vendor_completions.d
 	install -m 644 README.md $(SHARE)/doc/fanquber
 	cp -R examples $(SHARE)/doc/fanquber
+
+put-lib:
+	install -d $(DESTDIR)$(PREFIX)/include $(DESTDIR)$(PREFIX)/lib/pkgconfig $(SHARE)/man/man3
+	install -m 644 c/fanquber.h $(DESTDIR)$(PREFIX)/include
+	install -m 644 bin/libfanquber.a $(DESTDIR)$(PREFIX)/lib
+	install -m 755 bin/libfanquber.so.1 $(DESTDIR)$(PREFIX)/lib
+	ln -sf libfanquber.so.1 $(DESTDIR)$(PREFIX)/lib/libfanquber.so
+	sed 's|^prefix=.*|prefix=$(PREFIX)|' bin/fanquber.pc > $(DESTDIR)$(PREFIX)/lib/pkgconfig/fanquber.pc
+	install -m 644 man/fanquber.3 $(SHARE)/man/man3
 
 # What a machine without the toolchain needs, in bin/: an archive for any Linux on x86-64, and a package for Debian.
 dist: programs

@@ -19,6 +19,11 @@ def uses(top):
     return {crate: [it for it in below if it in named] for crate, below in named.items()}
 
 
+def is_static(top, crate):
+    """Tells whether a crate is a static library, which C is linked with."""
+    return "staticlib" in listed(top)[crate].partition(":")[0].split()
+
+
 def in_order(top):
     """Returns the crates' names, each behind those that it uses."""
     left, order = uses(top), []

@@ -1,8 +1,8 @@
 #!/usr/bin/env python3
-"""Proves the crates that programs stand on, builds the programs, and puts them into bin/. Crates whose libraries are
-proved are at work side by side. What an earlier run proved is not proved again.
+"""Proves the crates that programs and static libraries stand on, builds these, and puts them into bin/. Crates whose
+libraries are proved are at work side by side. What an earlier run proved is not proved again.
 
-usage: prove.py PROGRAM..
+usage: prove.py NAME..
 
 JOBS says how many processors it may use; if it is not set, as many as there are and as memory allows. A line says which
 crate begins and which ends, in how many seconds, and how many are left. If a crate is not proved, the script shows all
@@ -24,7 +24,7 @@ import tempfile
 import time
 
 sys.path.insert(0, str(pathlib.Path(__file__).resolve().parents[1]))  # scripts/, for what groups share
-from crates import below, in_order, lines_of, uses
+from crates import below, in_order, is_static, lines_of, uses
 
 TOP = pathlib.Path(__file__).resolve().parents[2]
 RT = os.environ.get("RT", "rt").split()
@@ -115,9 +115,9 @@ class Work:
 class Prover:
     """The crates that wait, those at work, and those that are proved."""
 
-    def __init__(self, programs, trees):
-        self.programs, self.trees = programs, trees
-        self.waiting = {*programs, *(it for program in programs for it in below(TOP, program))}
+    def __init__(self, named, trees):
+        self.named, self.trees = named, trees
+        self.waiting = {*named, *(it for crate in named for it in below(TOP, crate))}
         self.distance = distances(self.waiting)
         self.limit = processors()
         self.at_work, self.done, self.failed = [], set(), False
@@ -136,20 +136,22 @@ class Prover:
                 return
             jobs = max(min(free - (len(ready) - number - 1), MOST), min(free, self.limit // 2) if number == 0 else 1, 1)
             self.waiting.remove(crate)
-            self.at_work.append(Work(crate, crate in self.programs, jobs, self.trees))
+            is_program = crate in self.named and not is_static(TOP, crate)
+            self.at_work.append(Work(crate, is_program, jobs, self.trees))
             print(f"{crate}: begins", flush=True)
 
     def end(self, work):
-        """Ends a crate's work: says whether it is proved, and puts a program into bin/."""
+        """Ends a crate's work: says whether it is proved, and puts a program or a static library into bin/."""
         self.at_work.remove(work)
         if not work.close():
             self.failed = True
             print(f"{work.text()}\n{work.crate}: not proved", flush=True)
             return
         self.done.add(work.crate)
-        if work.crate in self.programs:
+        if work.crate in self.named:
+            name = f"lib{work.crate}.a" if is_static(TOP, work.crate) else work.crate
             (TOP / "bin").mkdir(exist_ok=True)
-            shutil.copy(work.home / "out" / work.crate, TOP / "bin" / work.crate)
+            shutil.copy(work.home / "out" / name, TOP / "bin" / name)
         print(f"{work.crate}: proved in {time.monotonic() - work.start:.0f} s, {self.left()}", flush=True)
 
     def prove(self):
@@ -182,13 +184,13 @@ def stop(number, _):
     sys.exit(128 + number)
 
 
-def main(programs):
+def main(named):
     for it in (signal.SIGINT, signal.SIGTERM, signal.SIGHUP):
         signal.signal(it, stop)
     clear_trees()
     start = time.monotonic()
     with tempfile.TemporaryDirectory(prefix=f".prove-{os.getpid()}-", dir=TOP) as trees:
-        prover = Prover(programs, pathlib.Path(trees))
+        prover = Prover(named, pathlib.Path(trees))
         print(f"{len(prover.waiting)} crates to prove, on {prover.limit} processors", flush=True)
         status = prover.prove()
     print(f"{'proved' if status == 0 else 'not proved'}, in {time.monotonic() - start:.0f} s", flush=True)

@@ -15,7 +15,7 @@ sys.path.insert(0, str(pathlib.Path(__file__).resolve().parents[1]))  # scripts/
 from crates import in_order
 
 TOP = pathlib.Path(__file__).resolve().parents[2]
-FUNCTION = re.compile(r"^( *)pub fn (\w+)", re.M)
+FUNCTION = re.compile(r'^( *)pub (?:extern "C" )?fn (\w+)', re.M)
 OWNER = re.compile(r"^(?:impl|pub trait)(?:<.*?>)? (?:(?:\w+)(?:<.*?>)? for )?(\w+)", re.M)
 METHOD = re.compile(r"^( +)fn (\w+)", re.M)
 CLAUSE = re.compile(r"(?:requires|ensures)\*?(?: \w+)? $|ghost \w+: $")

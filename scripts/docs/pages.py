@@ -116,7 +116,7 @@ def view_of(text, name):
 def quoted(file, name):
     """Returns the texts of a public item: a function's head, or a type with the functions of its own."""
     text = file.read_text()
-    function = re.search(r"^pub fn %s\b" % name, text, re.M)
+    function = re.search(r'^pub (?:extern "C" )?fn %s\b' % name, text, re.M)
     if function:
         return [head_of(text, function.start())]
     declared = re.search(DECLARED.format(name), text, re.M)

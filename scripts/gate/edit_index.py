@@ -40,7 +40,9 @@ EXEMPT = (
     # Another function of the crate has such a body, and its edit shows the same mistake.
     "commands: command.abnfi_command", "mains: mains.abnfi_main", "leastset: needs.are_needs_within",
     "pegmatch: leaves.match_any", "feed: Feed.front", "pegnodes: cut.cut_grammar", "pegnodes: star_tables.find_tables",
-    "pegnodes: template.cut_templates",
+    "pegnodes: template.cut_templates", "fanquber_c: exports.fanquber_abnf",
+    # A crate above has such an edit.
+    "memoryrun: whole_run.abnf_in_memory", "memoryrun: whole_run.peg_in_memory",
 )
 
 
@@ -128,7 +130,7 @@ def functions_in(file, public, promises):
             owner, trait = type_and_trait(line)
         elif line.startswith("}"):
             owner, trait = "", ""
-        said = re.match(r"(    )?(pub )?(?:pub\(\w+\) )?(?:const )?(?:unsafe )?fn (\w+)", line)
+        said = re.match(r"(    )?(pub )?(?:pub\(\w+\) )?(?:const )?(?:unsafe )?(?:extern \"C\" )?fn (\w+)", line)
         if not said or (said[1] and not owner):
             continue
         signature, clauses, has_body = heads_at(lines, at)

@@ -2,13 +2,13 @@
 """The gate: the rules of names, the names in the documents, the form of the edits that must fail, the pages of the
 libraries and the completions; if these are green `rt ci`; if that is green too the programs as users run them: those
 that `rt ci` built are put into bin/, and run on the folders of examples/ and the examples of the manual pages, on
-random cases against slow answers, and with memory, writes, reads and stack refused; then what shells complete and what
-is packed is tested.
+random cases against slow answers, and with memory, writes, reads and stack refused; then what shells complete, what is
+packed, and the library for C, if `make lib` made it, are tested.
 
 usage: gate.py
 
 Prints the last line of `rt ci` last. The status is 0 if all of it is green. RT names the command, `rt` if not set. What
-there is no C compiler for is skipped, and faults.py says so.
+there is no C compiler for is skipped, and faults.py and library_test.py say so.
 """
 import os
 import pathlib
@@ -25,7 +25,7 @@ BEFORE = (
 BEHIND = (
     ("docs/run_examples.sh",), ("docs/man_examples.py",),
     ("oracles/random_cases.py", "-n", "5000", "-u", "-w", "-z", "-x"),
-    ("gate/faults.py",), ("gate/completions_test.py",), ("gate/package_test.py",)
+    ("gate/faults.py",), ("gate/completions_test.py",), ("gate/package_test.py",), ("gate/library_test.py",)
 )
 TOP = pathlib.Path(__file__).resolve().parents[2]
 RT = os.environ.get("RT", "rt").split()

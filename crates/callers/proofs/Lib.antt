@@ -2,3 +2,4 @@ mod AreBytesLemmas
 mod ChoiceLemmas
 mod CommentLemmas
 mod CountTokensLemmas
+mod TakenLemmas

@@ -2,5 +2,5 @@ pub mod Choices
 pub mod CommentLines
 pub mod Loaded
 pub mod LoadedAbnf
-pub mod MemoryRun
 pub mod Printed
+pub mod Taken

@@ -28,7 +28,7 @@ pub use line_caller::{Comments, answer_comments};
 pub use packrat_caller::print_once;
 pub use point_caller::count_points;
 pub use print_caller::{canonical_text, read_again};
-pub use run_caller::{Ran, abnf_in_memory, peg_in_memory};
+pub use run_caller::{are_all_derived, are_both_taken, is_all_taken};
 pub use table_caller::{add_rule, word_bytes};
 pub use token_caller::count_tokens;
 pub use tree_caller::{count_rules, is_choice, some_choice};

@@ -54,8 +54,8 @@ fn perform<L: Language, R: Source, O: Sink>(
     }
 }
 
-/// Performs what is left to do, if anything is.
-fn act<L: Language, R: Source, O: Sink>(
+/// Performs what a plan leaves to do, if anything is. `WriteFault` if the output fails; then a beginning is written.
+pub fn act<L: Language, R: Source, O: Sink>(
     task: &Result<Task<L::Grammar, L::Sound>, Stop>,
     alloc: Global,
     settings: &Settings<'_>,

@@ -1,0 +1,96 @@
+/* fanquber.h: whole runs of two proved grammar tools over memory. See fanquber(3).
+ *
+ * fanquber_peg runs a grammar in the syntax of peg(1) on an input, as pegi(1) does. fanquber_abnf judges the lines of an
+ * input by a grammar in ABNF (RFC 5234, RFC 7405), as abnfi(1) does. */
+#ifndef FANQUBER_H
+#define FANQUBER_H
+
+#include <stdbool.h>
+#include <stddef.h>
+#include <stdint.h>
+
+#ifdef __cplusplus
+extern "C" {
+#endif
+
+/* The version of this interface. Libraries of one major version take and give the same structs. */
+#define FANQUBER_VERSION_MAJOR 1
+#define FANQUBER_VERSION_MINOR 0
+
+/* What is done with the grammar. */
+enum { FANQUBER_RUN = 0, FANQUBER_CHECK = 1, FANQUBER_PRINT = 2 };
+
+/* What the lines of fanquber_abnf are made of. */
+enum { FANQUBER_BYTES = 0, FANQUBER_UTF8 = 1 };
+
+/* What a call came to: the exit statuses of the programs, and one more. */
+enum {
+    FANQUBER_DONE = 0,        /* all input was taken, or each line is derived */
+    FANQUBER_NO_MATCH = 1,    /* a place where nothing matches, or a line that is not derived */
+    FANQUBER_REFUSED = 2,     /* the grammar is refused: the error output says why */
+    FANQUBER_OVERLONG = 3,    /* a unit or a line is longer than the limit */
+    FANQUBER_FAULT = 4,       /* an allocation for an output failed */
+    FANQUBER_NO_MEMORY = 5,   /* another allocation failed */
+    FANQUBER_BAD_SETTINGS = 6 /* the settings are out of range, or the name is no UTF-8: nothing was done */
+};
+
+enum { FANQUBER_DEFAULT_LIMIT = 65536, FANQUBER_MAX_LIMIT = 16777216 };
+
+/* The settings of a run. Begin with FANQUBER_SETTINGS, which are those of the programs without options. */
+typedef struct fanquber_settings {
+    size_t limit;    /* how many bytes a unit may look at, or a line may have: 1 to FANQUBER_MAX_LIMIT */
+    uint8_t mode;    /* FANQUBER_RUN, FANQUBER_CHECK or FANQUBER_PRINT */
+    uint8_t letters; /* fanquber_abnf: FANQUBER_BYTES or FANQUBER_UTF8 */
+    bool named;      /* the name names the start rule, or the rule that judges lines; else it is the first rule */
+    bool raw;        /* fanquber_peg: actions are printed verbatim */
+    bool viable;     /* fanquber_abnf: `no N` in place of `no`: the longest viable beginning has N letters */
+    bool nul;        /* fanquber_abnf: lines end with NUL in place of LF, and may hold LF */
+    bool explain;    /* a fault of the grammar's text is explained behind its message */
+} fanquber_settings;
+
+#define FANQUBER_SETTINGS { FANQUBER_DEFAULT_LIMIT, FANQUBER_RUN, FANQUBER_BYTES, false, false, false, false, false }
+
+/* What a call came to. The lengths are those of the whole outputs, as with snprintf: where out_len is above out_size,
+ * the buffer holds the beginning, and a call with more room gives all. */
+typedef struct fanquber_result {
+    size_t out_len;
+    size_t err_len;
+    uint8_t status;
+} fanquber_result;
+
+/* Both calls read the grammar, the name and the input, and write the output and the error output of the run at the front
+ * of two buffers, as much as there is room for. The other bytes of the buffers stay as they are.
+ *
+ * No pointer is null, also where its length is 0: pass "" for a name that is not given. No length is above PTRDIFF_MAX.
+ * The buffers overlap nothing else that is passed. All calls are independent: any thread may call at any time, but
+ * no signal handler, and no child of fork() in a process with several threads. */
+fanquber_result fanquber_peg(const fanquber_settings *settings, const void *grammar, size_t grammar_len,
+                             const void *name, size_t name_len, const void *input, size_t input_len,
+                             void *out, size_t out_size, void *err, size_t err_size);
+
+fanquber_result fanquber_abnf(const fanquber_settings *settings, const void *grammar, size_t grammar_len,
+                              const void *name, size_t name_len, const void *input, size_t input_len,
+                              void *out, size_t out_size, void *err, size_t err_size);
+
+/* A part of an input: how many bytes stand before it, and how many it has. */
+typedef struct fanquber_window {
+    size_t at;
+    size_t len;
+} fanquber_window;
+
+/* Runs a grammar on each window of an input by itself, as fanquber_peg would on its bytes alone, but reads and checks the
+ * grammar once, and tells neither its notes nor its fault. What the runs write stands in the buffers, one run behind the other. There is one
+ * result for each window, with the lengths and the status of its run, or FANQUBER_BAD_SETTINGS where the window does not
+ * lie in the input. What is returned has the lengths of all, and the status FANQUBER_DONE; or FANQUBER_BAD_SETTINGS, and
+ * nothing was done, also where results_len is not windows_len. */
+fanquber_result fanquber_peg_windows(const fanquber_settings *settings, const void *grammar, size_t grammar_len,
+                                     const void *name, size_t name_len, const void *input, size_t input_len,
+                                     const fanquber_window *windows, size_t windows_len,
+                                     fanquber_result *results, size_t results_len,
+                                     void *out, size_t out_size, void *err, size_t err_size);
+
+#ifdef __cplusplus
+}
+#endif
+
+#endif

@@ -1,0 +1,4 @@
+pub mod Asking
+pub mod BufferRun
+pub mod WindowRuns
+pub mod WindowsRun

@@ -1,0 +1,33 @@
+-- What a call for many windows leaves.
+use Rattle.std.specs.Prelude.{◌≡◌, ◌≢◌, ℕ, List, ◌++◌, length}
+use Rattle.fanquber_c.specs.Asking.{IsMeant, IsInvalid}
+use Rattle.fanquber_c.specs.BufferRun.{Filled, IsLaid, IsUntouched}
+use Rattle.fanquber_c.specs.WindowRuns.{HaveRun}
+use Rattle.fanquber_c.specs.declared.asked.CSettings.{CSettings}
+use Rattle.fanquber_c.specs.declared.asked.TheConstants.{BAD_SETTINGS}
+use Rattle.fanquber_c.specs.declared.result.CResult.{CResult}
+use Rattle.fanquber_c.specs.declared.windows.CWindow.{CWindow}
+use Rattle.memoryrun.specs.MemoryRun.{IsMemoryRun}
+use Rattle.toolrun.specs.Input.{Input}
+use Rattle.toolrun.specs.Reply.{Reply}
+use Rattle.toolrun.specs.declared.settings.Settings.{Settings}
+
+-- the results before and after
+pub record Results : Type 0 where
+  pub old : List CResult
+  pub new : List CResult
+
+-- Each window was run with the settings that are asked for, by itself: what its run wrote behind what stands first on
+-- the error output, the notes or the fault of the grammar, stands in the buffers, one run behind the other, as much as there is room for. Or no settings are asked for, or there is not
+-- one result for each window, and nothing was done.
+pub data IsWindowsRun (States : Settings → Input → List ℕ → Reply → Type 0) (asked : CSettings) (name input : List ℕ)
+    (windows : List CWindow) (results : Results) (out err : Filled) (code : ℕ) : Type 0 where
+  all_ran : (settings : Settings) (notes printed told : List ℕ) → IsMeant asked name settings
+      → HaveRun (λ bytes run. IsMemoryRun (States settings) bytes run.out (notes ++ run.err) run.code) input windows
+      printed told results.new
+      → IsLaid printed out → IsLaid told err → code ≡ 0
+      → IsWindowsRun States asked name input windows results out err code
+  no_settings : IsInvalid asked name → results.new ≡ results.old → IsUntouched out → IsUntouched err
+      → code ≡ BAD_SETTINGS → IsWindowsRun States asked name input windows results out err code
+  uneven : length results.old ≢ length windows → results.new ≡ results.old → IsUntouched out → IsUntouched err
+      → code ≡ BAD_SETTINGS → IsWindowsRun States asked name input windows results out err code

@@ -1,0 +1,2 @@
+mod MemoryRunLemmas
+mod PlannedRunLemmas

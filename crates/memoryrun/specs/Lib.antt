@@ -1,0 +1,2 @@
+pub mod MemoryRun
+pub mod PlannedRun

@@ -1,0 +1,40 @@
+"""Proved grammar tools: lines judged by grammars in ABNF, and grammars of peg(1) run on bytes.
+
+`Abnf` and `Peg` hold a grammar. `abnf` and `peg` are one whole run each, as the programs abnfi(1) and pegi(1) make it.
+"""
+from ._grammars import Abnf, Peg, PegRun
+from ._library import (
+    DEFAULT_LIMIT,
+    MAX_LIMIT,
+    FanquberError,
+    GrammarError,
+    Letters,
+    Mode,
+    OutOfMemory,
+    Overlong,
+    Reply,
+    Status,
+    abnf,
+    peg,
+    peg_each,
+)
+
+__all__ = [
+    "Abnf",
+    "DEFAULT_LIMIT",
+    "FanquberError",
+    "GrammarError",
+    "Letters",
+    "MAX_LIMIT",
+    "Mode",
+    "OutOfMemory",
+    "Overlong",
+    "Peg",
+    "PegRun",
+    "Reply",
+    "Status",
+    "abnf",
+    "peg",
+    "peg_each",
+]
+__version__ = "1.0"

@@ -1,0 +1,151 @@
+"""Grammars that are asked more than once."""
+from typing import Iterable, List, NamedTuple, Optional
+
+from ._library import (
+    DEFAULT_LIMIT,
+    GrammarError,
+    Letters,
+    Mode,
+    OutOfMemory,
+    Overlong,
+    Reply,
+    Status,
+    Text,
+    abnf,
+    as_bytes,
+    peg,
+    peg_each,
+)
+
+
+def _lines(text: bytes) -> List[str]:
+    """Returns the lines of an error output."""
+    return text.decode("utf-8", "backslashreplace").splitlines()
+
+
+def _raise_fault(reply: Reply) -> None:
+    """Raises what a status stands for that is no answer."""
+    if reply.status == Status.REFUSED:
+        raise GrammarError(_lines(reply.err))
+    if reply.status == Status.OVERLONG:
+        raise Overlong(_lines(reply.err)[-1], reply.out)
+    if reply.status >= Status.FAULT:
+        raise OutOfMemory("out of memory")
+
+
+class Abnf:
+    """A grammar in ABNF (RFC 5234, RFC 7405), with the rule that judges lines: the first, if none is named.
+
+    A line is bytes, or a `str`, which stands for its bytes in UTF-8. Its letters are its bytes, or its code points with
+    `Letters.UTF8`. It may hold any byte, but not LF and NUL both, and has at most `limit` bytes. `GrammarError` if the
+    grammar is refused, `OutOfMemory` if memory is; each call that judges lines raises `Overlong` for a line above the
+    limit.
+    """
+
+    def __init__(
+        self,
+        text: Text,
+        rule: Optional[str] = None,
+        *,
+        letters: Letters = Letters.BYTES,
+        limit: int = DEFAULT_LIMIT,
+    ) -> None:
+        self._text = as_bytes(text)
+        self._rule, self._letters, self._limit = rule, letters, limit
+        reply = abnf(self._text, mode=Mode.CHECK, limit=limit, rule=rule, letters=letters)
+        _raise_fault(reply)
+        self.notes: List[str] = _lines(reply.err)
+        """What is noted of the grammar, and does not refuse it."""
+
+    def _answers(self, lines: Iterable[Text], viable: bool) -> List[bytes]:
+        """Returns the answers to all lines, by one run; by LF, or by NUL where a line holds LF."""
+        texts = [as_bytes(line) for line in lines]
+        nul = any(b"\n" in text for text in texts)
+        end = b"\0" if nul else b"\n"
+        if nul and any(end in text for text in texts):
+            raise ValueError("the lines hold LF and NUL")
+        reply = abnf(
+            self._text,
+            b"".join(text + end for text in texts),
+            limit=self._limit,
+            rule=self._rule,
+            letters=self._letters,
+            viable=viable,
+            nul=nul,
+        )
+        _raise_fault(reply)
+        return reply.out.splitlines()
+
+    def judge(self, lines: Iterable[Text]) -> List[bool]:
+        """Returns for each line whether the rule derives it. One run judges all, which is faster than one run each."""
+        return [answer == b"yes" for answer in self._answers(lines, viable=False)]
+
+    def derives(self, line: Text) -> bool:
+        """Returns whether the rule derives a line."""
+        return self.judge([line])[0]
+
+    def first_refused(self, lines: Iterable[Text]) -> Optional[int]:
+        """Returns the index of the first line that the rule does not derive; None if it derives all."""
+        answers = self.judge(lines)
+        return answers.index(False) if False in answers else None
+
+    def explain(self, line: Text) -> Optional[int]:
+        """Returns None for a line that the rule derives. Of any other it returns how many letters the longest beginning
+        has that begins something which the rule derives: the letter behind them cannot stand there."""
+        answer = self._answers([line], viable=True)[0]
+        return None if answer == b"yes" else int(answer.partition(b" ")[2])
+
+    def canonical(self) -> bytes:
+        """Returns the text of the grammar in its canonical form."""
+        reply = abnf(self._text, mode=Mode.PRINT)
+        _raise_fault(reply)
+        return reply.out
+
+
+class PegRun(NamedTuple):
+    """What a run printed, whether all of the input was taken, and the message that says where it stopped, if not."""
+
+    out: bytes
+    is_whole: bool
+    message: str
+
+
+def _peg_run(reply: Reply) -> PegRun:
+    """Returns what a run came to, or raises what it stands for."""
+    _raise_fault(reply)
+    is_whole = reply.status == Status.DONE
+    return PegRun(reply.out, is_whole, "" if is_whole else _lines(reply.err)[-1])
+
+
+class Peg:
+    """A grammar in the syntax of peg(1), with its start rule: the first, if none is named.
+
+    `GrammarError` if the grammar is refused, `OutOfMemory` if memory is.
+    """
+
+    def __init__(
+        self, text: Text, start: Optional[str] = None, *, raw: bool = False, limit: int = DEFAULT_LIMIT
+    ) -> None:
+        self._text = as_bytes(text)
+        self._start, self._raw, self._limit = start, raw, limit
+        reply = peg(self._text, mode=Mode.CHECK, limit=limit, start=start)
+        _raise_fault(reply)
+        self.notes: List[str] = _lines(reply.err)
+        """What is noted of the grammar, and does not refuse it."""
+
+    def run(self, data: Text) -> PegRun:
+        """Returns what the actions print on an input, unit after unit. `Overlong` if a unit looks at more bytes than
+        the limit."""
+        return _peg_run(peg(self._text, data, limit=self._limit, start=self._start, raw=self._raw))
+
+    def run_each(self, texts: Iterable[Text]) -> List[PegRun]:
+        """Returns the same for each of some inputs. The grammar is read and checked once, which is faster than one run
+        each."""
+        replies = peg_each(self._text, list(texts), limit=self._limit, start=self._start, raw=self._raw)
+        return [_peg_run(reply) for reply in replies]
+
+    def canonical(self) -> bytes:
+        """Returns the text of the grammar in its canonical form."""
+        reply = peg(self._text, mode=Mode.PRINT)
+        _raise_fault(reply)
+        return reply.out

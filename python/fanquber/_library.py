@@ -1,0 +1,197 @@
+"""The calls of libfanquber, one whole run each."""
+import ctypes
+import ctypes.util
+import enum
+import os
+from typing import Any, List, NamedTuple, Optional, Sequence, Union
+
+Text = Union[bytes, str]
+
+DEFAULT_LIMIT = 65536
+MAX_LIMIT = 16777216
+_SONAME = "libfanquber.so.1"
+_BAD_SETTINGS = 6
+
+
+class Mode(enum.IntEnum):
+    """What is done with the grammar."""
+
+    RUN = 0
+    CHECK = 1
+    PRINT = 2
+
+
+class Letters(enum.IntEnum):
+    """What the lines of `abnf` are made of."""
+
+    BYTES = 0
+    UTF8 = 1
+
+
+class Status(enum.IntEnum):
+    """What a run came to: the exit status of the program."""
+
+    DONE = 0
+    NO_MATCH = 1
+    REFUSED = 2
+    OVERLONG = 3
+    FAULT = 4
+    NO_MEMORY = 5
+
+
+class Reply(NamedTuple):
+    """What a run wrote on both outputs, and its status."""
+
+    out: bytes
+    err: bytes
+    status: Status
+
+
+class FanquberError(Exception):
+    """What the exceptions of this package are."""
+
+
+class GrammarError(FanquberError):
+    """The grammar is refused. `notes` has the lines that say why."""
+
+    def __init__(self, notes: "list[str]") -> None:
+        super().__init__("; ".join(notes))
+        self.notes = notes
+
+
+class Overlong(FanquberError):
+    """A line or a unit is longer than the limit. `out` has what was written before it."""
+
+    def __init__(self, message: str, out: bytes) -> None:
+        super().__init__(message)
+        self.out = out
+
+
+class OutOfMemory(FanquberError, MemoryError):
+    """An allocation failed."""
+
+
+class _Settings(ctypes.Structure):
+    _fields_ = [
+        ("limit", ctypes.c_size_t),
+        ("mode", ctypes.c_uint8),
+        ("letters", ctypes.c_uint8),
+        ("named", ctypes.c_bool),
+        ("raw", ctypes.c_bool),
+        ("viable", ctypes.c_bool),
+        ("nul", ctypes.c_bool),
+        ("explain", ctypes.c_bool),
+    ]
+
+
+class _Result(ctypes.Structure):
+    _fields_ = [("out_len", ctypes.c_size_t), ("err_len", ctypes.c_size_t), ("status", ctypes.c_uint8)]
+
+
+class _Window(ctypes.Structure):
+    _fields_ = [("at", ctypes.c_size_t), ("len", ctypes.c_size_t)]
+
+
+def _loaded() -> ctypes.CDLL:
+    """Returns the shared object: the file that FANQUBER_LIBRARY names, or else the one that the system finds."""
+    library = ctypes.CDLL(os.environ.get("FANQUBER_LIBRARY") or ctypes.util.find_library("fanquber") or _SONAME)
+    settings, text = [ctypes.POINTER(_Settings)], [ctypes.c_char_p, ctypes.c_size_t]
+    windows = [ctypes.POINTER(_Window), ctypes.c_size_t, ctypes.POINTER(_Result), ctypes.c_size_t]
+    library.fanquber_peg.argtypes = library.fanquber_abnf.argtypes = settings + text * 5
+    library.fanquber_peg_windows.argtypes = settings + text * 3 + windows + text * 2
+    for call in (library.fanquber_peg, library.fanquber_abnf, library.fanquber_peg_windows):
+        call.restype = _Result
+    return library
+
+
+_library = _loaded()
+
+
+def as_bytes(text: Text) -> bytes:
+    """Returns a text as bytes: what is a `str` in UTF-8."""
+    return text.encode() if isinstance(text, str) else bytes(text)
+
+
+def _run(
+    call: Any, settings: _Settings, grammar: Text, start: Optional[str], data: Text, room: int, more: Sequence[Any] = ()
+) -> Reply:
+    """Returns what a run writes. It calls again with more room where the first buffers were too small."""
+    texts = [as_bytes(grammar), as_bytes(start or ""), as_bytes(data)]
+    words = [word for text in texts for word in (text, len(text))]
+    out_size, err_size = room, 4096
+    while True:
+        out, err = ctypes.create_string_buffer(out_size), ctypes.create_string_buffer(err_size)
+        got = call(ctypes.byref(settings), *words, *more, out, out_size, err, err_size)
+        if got.status == _BAD_SETTINGS:
+            raise ValueError(f"limit {settings.limit}: it is from 1 to {MAX_LIMIT}")
+        if got.out_len <= out_size and got.err_len <= err_size:
+            return Reply(out.raw[: got.out_len], err.raw[: got.err_len], Status(got.status))
+        out_size, err_size = max(out_size, got.out_len), max(err_size, got.err_len)
+
+
+def _settings(limit: int, mode: Mode, start: Optional[str], **others: Any) -> _Settings:
+    # A number that C cannot hold would be cut
+    if not 1 <= limit <= MAX_LIMIT:
+        raise ValueError(f"limit {limit}: it is from 1 to {MAX_LIMIT}")
+    return _Settings(limit=limit, mode=mode, named=start is not None, **others)
+
+
+def peg(
+    grammar: Text,
+    data: Text = b"",
+    *,
+    mode: Mode = Mode.RUN,
+    limit: int = DEFAULT_LIMIT,
+    start: Optional[str] = None,
+    raw: bool = False,
+    explain: bool = False,
+) -> Reply:
+    """Returns what pegi(1) writes for a grammar and an input."""
+    settings = _settings(limit, mode, start, raw=raw, explain=explain)
+    return _run(_library.fanquber_peg, settings, grammar, start, data, 65536)
+
+
+def peg_each(
+    grammar: Text,
+    texts: Sequence[Text],
+    *,
+    limit: int = DEFAULT_LIMIT,
+    start: Optional[str] = None,
+    raw: bool = False,
+) -> List[Reply]:
+    """Returns for each text what pegi(1) writes for it, without the notes or the fault of the grammar. It is read and checked once."""
+    parts = [as_bytes(text) for text in texts]
+    windows, results = (_Window * len(parts))(), (_Result * len(parts))()
+    at = 0
+    for window, part in zip(windows, parts):
+        window.at, window.len = at, len(part)
+        at += len(part)
+    settings = _settings(limit, Mode.RUN, start, raw=raw)
+    more = (windows, len(parts), results, len(parts))
+    out, err, _ = _run(_library.fanquber_peg_windows, settings, grammar, start, b"".join(parts), 65536, more)
+    replies, out_at, err_at = [], 0, 0
+    for it in results:
+        out_end, err_end = out_at + it.out_len, err_at + it.err_len
+        replies.append(Reply(out[out_at:out_end], err[err_at:err_end], Status(it.status)))
+        out_at, err_at = out_end, err_end
+    return replies
+
+
+def abnf(
+    grammar: Text,
+    data: Text = b"",
+    *,
+    mode: Mode = Mode.RUN,
+    limit: int = DEFAULT_LIMIT,
+    rule: Optional[str] = None,
+    letters: Letters = Letters.BYTES,
+    viable: bool = False,
+    nul: bool = False,
+    explain: bool = False,
+) -> Reply:
+    """Returns what abnfi(1) writes for a grammar and the lines of an input."""
+    settings = _settings(limit, mode, rule, letters=letters, viable=viable, nul=nul, explain=explain)
+    text = as_bytes(data)
+    # An answer is `yes`, or `no` with a number of at most eight digits
+    room = (12 if viable else 4) * (text.count(b"\0" if nul else b"\n") + 1)
+    return _run(_library.fanquber_abnf, settings, grammar, rule, text, max(room, 65536))

@@ -1,0 +1,147 @@
+"""The package on grammars of a few lines, and on each folder of examples/."""
+import pathlib
+import shlex
+import threading
+import unittest
+
+import fanquber
+from fanquber import Abnf, GrammarError, Letters, Mode, Overlong, Peg, Status
+
+EXAMPLES = pathlib.Path(__file__).resolve().parent.parent.parent / "examples"
+DAY = 'day = 4DIGIT "-" 2DIGIT "-" 2DIGIT\n'
+LIST = "Line <- Item (',' Item)* '\\n' { end of the line }\nItem <- < [a-z]+ > { item yytext, yyleng bytes }\n"
+
+
+class AbnfTest(unittest.TestCase):
+    def test_lines(self):
+        day = Abnf(DAY)
+        self.assertEqual(day.notes, [])
+        self.assertEqual(day.judge(["1985-04-12", b"1985-4-12", ""]), [True, False, False])
+        self.assertEqual(day.judge([]), [])
+        self.assertTrue(day.derives("1985-04-12"))
+        self.assertEqual(day.first_refused(["1985-04-12", "1985-4-12", ""]), 1)
+        self.assertIsNone(day.first_refused(["1985-04-12"]))
+        self.assertEqual([day.explain(it) for it in ("1985-04-12", "1985-4-12", "", "1985-04-12 ")], [None, 6, 0, 10])
+
+    def test_line_ends_in_lines(self):
+        lines = Abnf('lines = *(*ALPHA LF)')
+        self.assertEqual(lines.judge(["a\nb\n", "", "a\nb"]), [True, True, False])
+        self.assertTrue(Abnf("zero = %x0").derives(b"\0"))
+        with self.assertRaises(ValueError):
+            lines.judge(["\n", "\0"])
+
+    def test_letters(self):
+        self.assertTrue(Abnf("e = %xE9", letters=Letters.UTF8).derives("\u00e9"))
+        self.assertFalse(Abnf("e = %xE9", letters=Letters.UTF8).derives(b"\xe9"))
+        self.assertTrue(Abnf("e = %xE9").derives(b"\xe9"))
+        self.assertEqual(Abnf('e = "\\" %xE9 "x"', letters=Letters.UTF8).explain("\\\u00e9y"), 2)
+
+    def test_rules_and_notes(self):
+        two = 'a = "x"\nb = "y"\n'
+        self.assertEqual(Abnf(two).notes, ["rule 'b' defined but not used"])
+        self.assertTrue(Abnf(two, rule="B").derives("y"))
+        for text, rule in ((two, "no-rule"), ("a = b", None), ("a =", None)):
+            with self.assertRaises(GrammarError) as refused:
+                Abnf(text, rule)
+            self.assertTrue(refused.exception.notes)
+        self.assertEqual(Abnf('a  =  ( "x" )').canonical(), b'a = "x"\n')
+
+    def test_limits(self):
+        short = Abnf('a = *"x"', limit=2)
+        with self.assertRaises(Overlong) as refused:
+            short.judge(["x", "xxx"])
+        self.assertEqual((str(refused.exception), refused.exception.out), ("line 2 longer than 2 bytes", b"yes\n"))
+        for limit in (0, -1, fanquber.MAX_LIMIT + 1, 2**64 + 1):
+            with self.assertRaises(ValueError):
+                Abnf(DAY, limit=limit)
+
+    def test_many_lines(self):
+        lines = [f"{year:04}-01-01" for year in range(10000)]
+        self.assertEqual(Abnf(DAY).judge(lines), [True] * 10000)
+        self.assertEqual(fanquber.abnf(DAY, "x\n" * 10000, viable=True).out, b"no 0\n" * 10000)
+
+
+class PegTest(unittest.TestCase):
+    def test_runs(self):
+        items = Peg(LIST)
+        self.assertEqual(items.notes, [])
+        want = b"item tea, 3 bytes\nitem milk, 4 bytes\nend of the line\n"
+        self.assertEqual(items.run("tea,milk\n"), (want, True, ""))
+        self.assertEqual(items.run("tea,milk\n?"), (want, False, "no match at byte 9"))
+        self.assertEqual(items.run(b""), (b"", True, ""))
+
+    def test_each(self):
+        runs = Peg(LIST).run_each(["tea\n", b"", "tea?", "milk,tea\n"])
+        self.assertEqual([it.is_whole for it in runs], [True, True, False, True])
+        self.assertEqual(runs[0].out, b"item tea, 3 bytes\nend of the line\n")
+        self.assertEqual((runs[2].out, runs[2].message), (b"", "no match at byte 0"))
+        self.assertEqual(runs[3].out, b"item milk, 4 bytes\nitem tea, 3 bytes\nend of the line\n")
+        self.assertEqual(Peg(LIST).run_each([]), [])
+        self.assertEqual(fanquber.peg_each("a <- b", ["x", "y"]), [(b"", b"", Status.REFUSED)] * 2)
+
+    def test_settings(self):
+        self.assertEqual(Peg("a <- < . > { (yytext) }", raw=True).run("xy").out, b" (x)  (y) ")
+        self.assertEqual(Peg("a <- b 'z'\nb <- 'y' { y }", start="b").run("y").out, b"y\n")
+        self.assertEqual(Peg("a<-'x'").canonical(), b'a <- "x"\n')
+        with self.assertRaises(Overlong):
+            Peg("a <- 'xxx'", limit=2).run("xxx")
+        with self.assertRaises(GrammarError) as refused:
+            Peg("a <- a")
+        self.assertEqual(refused.exception.notes, ["possible infinite left recursion in rule 'a'"])
+
+    def test_long_output(self):
+        self.assertEqual(Peg("a <- . { 123456789 }").run(b"x" * 20000).out, b"123456789\n" * 20000)
+
+
+class ThreadsTest(unittest.TestCase):
+    def test_four_at_once(self):
+        day, answers = Abnf(DAY), []
+
+        def judge():
+            for _ in range(50):
+                answers.append(day.judge(["1985-04-12", "1985-4-12"]))
+
+        threads = [threading.Thread(target=judge) for _ in range(4)]
+        for it in threads:
+            it.start()
+        for it in threads:
+            it.join()
+        self.assertEqual(answers, [[True, False]] * 200)
+
+
+class ExamplesTest(unittest.TestCase):
+    """Each folder has a command, `run.sh`, and what it must print, tell and end with."""
+
+    def run_folder(self, folder):
+        words = shlex.split((folder / "run.sh").read_text().splitlines()[-1].replace("<", " < "))
+        given = (folder / words[words.index("<") + 1]).read_bytes()
+        words = words[: words.index("<")]
+        names = {"-s": "start" if words[0] == "pegi" else "rule", "-u": "letters"}
+        flags, settings = {"-r": "raw", "-w": "viable", "-x": "explain", "-z": "nul"}, {}
+        at = 1
+        while words[at].startswith("-"):
+            if words[at] in flags:
+                settings[flags[words[at]]] = True
+                at += 1
+            else:
+                settings[names[words[at]]] = {"utf8": Letters.UTF8}.get(words[at + 1], words[at + 1])
+                at += 2
+        run = fanquber.peg if words[0] == "pegi" else fanquber.abnf
+        return run((folder / words[at]).read_bytes(), given, mode=Mode.RUN, **settings)
+
+    def test_examples(self):
+        folders = [it for it in sorted(EXAMPLES.iterdir()) if it.is_dir()]
+        self.assertTrue(folders)
+        for folder in folders:
+            with self.subTest(folder.name):
+                told, status = folder / "told.txt", folder / "status"
+                want = (
+                    (folder / "printed.txt").read_bytes(),
+                    told.read_bytes() if told.is_file() else b"",
+                    Status(int(status.read_text()) if status.is_file() else 0),
+                )
+                self.assertEqual(self.run_folder(folder), want)
+
+
+if __name__ == "__main__":
+    unittest.main()

@@ -1,0 +1,12 @@
+//! Judges two lines by a grammar, and prints the answers. Build: rustc --edition 2021 days.rs -L native=FOLDER
+#[allow(dead_code)]
+mod fanquber;
+
+use fanquber::{Settings, Tool, run};
+
+fn main() -> Result<(), fanquber::Error> {
+    let day = b"day = 4DIGIT \"-\" 2DIGIT \"-\" 2DIGIT\n";
+    let got = run(Tool::Abnf, day, &Settings::default(), b"1985-04-12\n1985-4-12\n")?;
+    print!("{}status {}\n", String::from_utf8_lossy(&got.out), got.status as u8);
+    Ok(())
+}

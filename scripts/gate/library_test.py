@@ -1,0 +1,124 @@
+#!/usr/bin/env python3
+"""Tests the library for C that `make lib` proved: each folder of examples/ runs through C and through the package of
+python/; then come settings, buffers and windows at their edges, four threads at once, each allocation refused in turn,
+and the examples in C++ and Rust.
+
+usage: library_test.py
+
+All is skipped where there is no such library, or a source is newer; so is what there is no compiler for. The script
+says so. CC and CXX name the compilers, `cc` and `c++` if not
+set.
+"""
+import os
+import pathlib
+import shlex
+import shutil
+import subprocess
+import sys
+import tempfile
+
+sys.path.insert(0, str(pathlib.Path(__file__).resolve().parents[1]))  # scripts/, for what groups share
+from build.library import CC, CRATE, SONAME, TOP, make, run
+from crates import below
+
+CXX = os.environ.get("CXX", "c++").split()
+FLAGS = ["-O2", "-Wall", "-Wextra"]
+# What the example in each language prints.
+DAYS = b"yes\nno\nstatus 1\n"
+REFUSED = ["-Wl,--wrap=malloc", "-Wl,--wrap=realloc", "-Wl,--wrap=free"]
+
+
+def why_skipped(proved):
+    """Returns why nothing is tested, if it is so."""
+    missing = [it for it in (CC[0], "ar", "nm", "objcopy") if not shutil.which(it)]
+    if missing:
+        return f"no {', '.join(missing)}"
+    if not proved.is_file():
+        return "`make lib` has not made it"
+    sources = (it for crate in {CRATE, *below(TOP, CRATE)} for it in (TOP / "crates" / crate / "src").rglob("*.rt"))
+    newer = [it for it in sources if it.stat().st_mtime > proved.stat().st_mtime]
+    return f"{newer[0].relative_to(TOP)} is newer: run `make lib`" if newer else ""
+
+
+class Test:
+    """The tests, with what they are made of."""
+
+    def __init__(self, folder):
+        self.folder, self.wrong = folder, False
+        self.environment = {**os.environ, "LD_LIBRARY_PATH": str(folder)}
+
+    def built(self, compiler, source, *words, flags=("-lfanquber",)):
+        """Compiles a source, and returns the program."""
+        program = self.folder / f"{source.stem}{source.suffix.replace('.', '_')}"
+        run(*compiler, *FLAGS, f"-I{TOP / 'c'}", "-o", program, source, *words, f"-L{self.folder}", *flags)
+        return program
+
+    def ends(self, title, words, status=0, out=None, err=None, **others):
+        """Runs a program, and notes whether it ends with the status and writes what is wanted."""
+        found = subprocess.run([str(it) for it in words], env=self.environment, capture_output=True, check=False,
+                               **others)
+        pairs = ((found.returncode, status), (found.stdout, out), (found.stderr, err))
+        if any(want is not None and it != want for it, want in pairs):
+            self.wrong = True
+            print(f"library: {title}: status {found.returncode}, {found.stdout[-400:]!r}, {found.stderr[-400:]!r}")
+        return found
+
+    def examples(self, program):
+        """Runs each folder of examples/ by the example in C."""
+        folders = [it for it in sorted((TOP / "examples").iterdir()) if it.is_dir()]
+        for it in folders:
+            words = shlex.split((it / "run.sh").read_text().splitlines()[-1].replace("<", " < "))
+            at = words.index("<")
+            told, status = it / "told.txt", it / "status"
+            with open(it / words[at + 1], "rb") as given:
+                self.ends(it.name, [program, *words[:at]], int(status.read_text()) if status.is_file() else 0,
+                          (it / "printed.txt").read_bytes(), told.read_bytes() if told.is_file() else b"",
+                          stdin=given, cwd=it)
+        return f"{len(folders)} examples through C"
+
+    def in_c(self):
+        """Runs what is written in C."""
+        uris = TOP / "examples/rfc3986/rfc3986.abnf"
+        self.ends("days.c", [self.built(CC, TOP / "c/examples/days.c")], out=DAYS)
+        told = [self.examples(self.built(CC, TOP / "c/examples/run.c"))]
+        self.ends("edges", [self.built(CC, TOP / "c/tests/edges.c")], out=b"")
+        self.ends("threads", [self.built(CC, TOP / "c/tests/threads.c", "-pthread"), uris], out=b"")
+        refused = self.built(CC, TOP / "c/tests/refused.c", *REFUSED, flags=(self.folder / "libfanquber.a",))
+        told += self.ends("refused", [refused, uris]).stdout.decode().splitlines()
+        return told
+
+    def in_others(self):
+        """Runs the examples in C++ and Rust, and the tests in Python."""
+        if shutil.which(CXX[0]):
+            self.ends("days.cpp", [self.built([*CXX, "-std=c++17"], TOP / "c/examples/days.cpp")], out=DAYS)
+        else:
+            print(f"library: C++: no compiler {CXX[0]}: skipped")
+        if shutil.which("rustc"):
+            program = self.folder / "days_rs"
+            run("rustc", "--edition", "2021", "-O", "-o", program, "-L", f"native={self.folder}", TOP / "rust/days.rs")
+            self.ends("days.rs", [program], out=DAYS)
+        else:
+            print("library: Rust: no compiler rustc: skipped")
+        self.environment |= {"FANQUBER_LIBRARY": str(self.folder / SONAME), "PYTHONPATH": str(TOP / "python")}
+        found = self.ends("python", [sys.executable, "-B", "-m", "unittest", "discover", "-s", TOP / "python/tests"])
+        return found.stderr.decode().splitlines()[-3:-2]
+
+
+def main():
+    proved = TOP / "bin" / f"lib{CRATE}.a"
+    why = why_skipped(proved)
+    if why:
+        print(f"library: {why}: skipped")
+        return 0
+    with tempfile.TemporaryDirectory() as made:
+        folder = pathlib.Path(made)
+        make(proved, folder)
+        tests = Test(folder)
+        for it in [*tests.in_c(), *tests.in_others()]:
+            print(f"library: {it}")
+    print(f"library: {'not ' if tests.wrong else ''}as it must be")
+    return 1 if tests.wrong else 0
+
+
+if __name__ == "__main__":
+    sys.exit(main())
