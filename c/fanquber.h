@@ -79,10 +79,10 @@ typedef struct fanquber_window {
 } fanquber_window;
 
 /* Runs a grammar on each window of an input by itself, as fanquber_peg would on its bytes alone, but reads and checks the
- * grammar once, and tells neither its notes nor its fault. What the runs write stands in the buffers, one run behind the other. There is one
- * result for each window, with the lengths and the status of its run, or FANQUBER_BAD_SETTINGS where the window does not
- * lie in the input. What is returned has the lengths of all, and the status FANQUBER_DONE; or FANQUBER_BAD_SETTINGS, and
- * nothing was done, also where results_len is not windows_len. */
+ * grammar once, and tells neither its notes nor its fault. What the runs write stands in the buffers, one run behind the
+ * other. There is one result for each window, with the lengths and the status of its run, or FANQUBER_BAD_SETTINGS where
+ * the window does not lie in the input. What is returned has the lengths of all, and the status FANQUBER_DONE; or
+ * FANQUBER_BAD_SETTINGS, and nothing was done, also where results_len is not windows_len. */
 fanquber_result fanquber_peg_windows(const fanquber_settings *settings, const void *grammar, size_t grammar_len,
                                      const void *name, size_t name_len, const void *input, size_t input_len,
                                      const fanquber_window *windows, size_t windows_len,

@@ -45,7 +45,7 @@ LARGEST_CRATE = 105
 LARGER = {"lazydfa": 121}
 # The most entries that a folder has, and the folders that have more.
 LARGEST_FOLDER = 40
-WIDER = {}
+WIDER = {"crates": 50}
 # Folders that hold no sources.
 BUILT = {".git", "__pycache__", "bin", "out"}
 TEXTS = {".antt", ".edit", ".md", ".py", ".rt", ".sh"}

@@ -1,5 +1,5 @@
-//! Callers of `memoryrun`, `pegrun`, `abnfrun` and `toolrun`: whole runs in memory, and a grammar that is read and checked
-//! once.
+//! Callers of `memoryrun`, `pegrun`, `abnfrun` and `toolrun`: whole runs in memory, and a grammar that is read and
+//! checked once.
 ghost use Rattle.std.specs.Prelude.{◌≡◌, true};
 ghost use Rattle.callers.specs.Taken.{IsTaken};
 ghost use Rattle.gramtools.specs.AbnfAnswers.{AbnfStates};

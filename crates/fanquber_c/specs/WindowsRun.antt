@@ -18,8 +18,8 @@ pub record Results : Type 0 where
   pub new : List CResult
 
 -- Each window was run with the settings that are asked for, by itself: what its run wrote behind what stands first on
--- the error output, the notes or the fault of the grammar, stands in the buffers, one run behind the other, as much as there is room for. Or no settings are asked for, or there is not
--- one result for each window, and nothing was done.
+-- the error output, the notes or the fault of the grammar, stands in the buffers, one run behind the other, as much as
+-- there is room for. Or no settings are asked for, or there is not one result for each window, and nothing was done.
 pub data IsWindowsRun (States : Settings → Input → List ℕ → Reply → Type 0) (asked : CSettings) (name input : List ℕ)
     (windows : List CWindow) (results : Results) (out err : Filled) (code : ℕ) : Type 0 where
   all_ran : (settings : Settings) (notes printed told : List ℕ) → IsMeant asked name settings

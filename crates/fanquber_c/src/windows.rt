@@ -45,7 +45,8 @@ fn run_window<L: Language>(
     texts: &mut Texts,
 ) -> CResult
     ensures { (run : WindowRun)
-        × IsWindowRun (planned (does_of (λ t. task_does L.canonical L.runs t settings.now) plan.now.task)) input.now window run
+        × IsWindowRun (planned (does_of (λ t. task_does L.canonical L.runs t settings.now) plan.now.task)) input.now
+        window run
         × (texts.new.out.items ≡ texts.old.out.items ++ run.out)
         × (texts.new.err.items ≡ texts.old.err.items ++ run.err) × (result ≡ result_of run) }
 {
@@ -65,8 +66,8 @@ pub fn run_windows<L: Language>(
     results: &mut [CResult],
 ) -> Texts
     requires count { length results.old ≡ length windows.now }
-    ensures { HaveRun (planned (does_of (λ t. task_does L.canonical L.runs t settings.now) plan.now.task)) input.now windows.now
-        result.out.items result.err.items results.new }
+    ensures { HaveRun (planned (does_of (λ t. task_does L.canonical L.runs t settings.now) plan.now.task)) input.now
+        windows.now result.out.items result.err.items results.new }
 {
     let mut texts = Texts {
         out: Vec::new(alloc),

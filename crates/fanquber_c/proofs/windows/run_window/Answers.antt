@@ -21,7 +21,8 @@ pub returns-in-Some : goal.returns-in-Some
 returns-in-Some g c = (
   c.append_run.ensures.0,
   ran c.in-Some.ensures.1
-      (rw (sym c.in-Some.ensures.0) (kept_is_planned (does_of (λ t. task_does g.L.Language.canonical g.L.Language.runs t c.args.settings.now)
+      (rw (sym c.in-Some.ensures.0) (kept_is_planned
+      (does_of (λ t. task_does g.L.Language.canonical g.L.Language.runs t c.args.settings.now)
       c.args.plan.now.task) c.in-Some.bytes.now (record {
         out = c.run_plan.result.out.items;
         err = c.run_plan.result.err.items;

@@ -15,7 +15,8 @@ loop-n-init g c = record {
 
 pub loop-n-preserved : goal.loop-n-preserved
 loop-n-preserved g c = record {
-  ran = one_more_at (planned (does_of (λ t. task_does g.L.Language.canonical g.L.Language.runs t c.args.settings.now) c.args.plan.now.task)) c.args.input.now
+  ran = one_more_at (planned (does_of (λ t. task_does g.L.Language.canonical g.L.Language.runs t
+      c.args.settings.now) c.args.plan.now.task)) c.args.input.now
       c.args.windows.now c.loop-n.n _ c.loop-n.texts.out.items c.loop-n.texts.err.items
       c.run_window.new.texts.out.items c.run_window.new.texts.err.items c.loop-n.results c.run_window.result
       c.run_window.ensures.0 c.loop-n-test.true c.loop-n.invariant.count c.loop-n.invariant.ran

@@ -8,9 +8,11 @@ use Rattle.memoryrun.proofs.planned_run.run_plan.Goals as goal
 
 pub returns : goal.returns
 returns g c =
-    planned_run (does_of (λ t. task_does g.L.Language.canonical g.L.Language.runs t c.args.settings.now) c.args.plan.now.task) c.args.input.now
+    planned_run (does_of (λ t. task_does g.L.Language.canonical g.L.Language.runs t c.args.settings.now)
+    c.args.plan.now.task) c.args.input.now
     (Some c.new-reader.result.rest.now) (Some c.act_on-stop.new.reader.rest.now)
-    (Some c.new-out.result.inner.items) (Some c.act_on-stop.new.out.inner.items) (Some c.finish-status.new.out.inner.items)
+    (Some c.new-out.result.inner.items) (Some c.act_on-stop.new.out.inner.items)
+    (Some c.finish-status.new.out.inner.items)
     (Some c.new-err.result.inner.items) (Some c.finish-status.new.err.inner.items)
     c.into_inner.result.items c.into_inner-2.result.items
     c.new-out.result.failed c.act_on-stop.new.out.failed c.finish-status.new.out.failed c.finish-status.new.err.failed
