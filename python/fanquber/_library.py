@@ -159,8 +159,8 @@ def peg_each(
     start: Optional[str] = None,
     raw: bool = False,
 ) -> List[Reply]:
-    """Returns for each text what pegi(1) writes for it, without the notes or the fault of the grammar, which is read and
-    checked once."""
+    """Returns for each text what pegi(1) writes for it, without the notes or the fault of the grammar. The
+    grammar is read and checked once."""
     parts = [as_bytes(text) for text in texts]
     windows, results = (_Window * len(parts))(), (_Result * len(parts))()
     at = 0

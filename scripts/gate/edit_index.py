@@ -42,7 +42,8 @@ EXEMPT = (
     "pegmatch: leaves.match_any", "feed: Feed.front", "pegnodes: cut.cut_grammar", "pegnodes: star_tables.find_tables",
     "pegnodes: template.cut_templates", "fanquber_c: exports.fanquber_abnf",
     # A crate above has such an edit.
-    "memoryrun: whole_run.abnf_in_memory", "memoryrun: whole_run.peg_in_memory", "toolrun: plan.plan_of", "toolrun: tool.act",
+    "memoryrun: whole_run.abnf_in_memory", "memoryrun: whole_run.peg_in_memory", "toolrun: plan.plan_of",
+    "toolrun: tool.act",
 )
 
 

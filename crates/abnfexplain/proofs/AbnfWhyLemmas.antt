@@ -4,7 +4,7 @@ use Rattle.std.proofs.Common.{◌≡◌, ℕ, ◌⊎◌, inl, inr, List, ◌++�
 use Rattle.std.proofs.Common.{length, take, Option, Bool, true, false, true≢false}
 use Rattle.lexer.proofs.ViabilityLemmas as viability
 use Rattle.picture.specs.PhraseLists.{listed}
-use Rattle.picture.specs.ToldPhrases.{Told}
+use Rattle.picture.specs.ToldPhrases.{AreTold}
 use Rattle.picture.proofs.OneToldLemmas.{one-told}
 use Rattle.ruletable.specs.declared.fault.ReadFault.{ReadFault}
 use Rattle.ruletable.specs.declared.fault.ReadFault.TheVariants as faults
@@ -14,7 +14,7 @@ use Rattle.abnfread.specs.AbnfSpelling.{Grammar}
 use Rattle.abnfread.specs.MarkedTokens.{Marked, AreMarked}
 use Rattle.abnfread.proofs.AbnfFaultLemmas.{marked-one}
 use Rattle.abnfread.proofs.HasTakenLemmas.{within-take}
-use Rattle.abnfexplain.specs.AbnfDecisions.{first_of, last_of}
+use Rattle.abnfexplain.specs.AbnfDecisions.{first_marked, last_marked}
 use Rattle.abnfexplain.specs.AbnfExpected.{CanStand, phrases}
 use Rattle.abnfexplain.specs.AbnfExplained.{Why, too_long, hopeless, too_deep, too_large, Explains, token_place}
 use Rattle.abnfexplain.specs.AbnfExplained.{token_facts}
@@ -61,7 +61,7 @@ not-bracket text all others i j m n are are' at at' h k is isnt =
 
 abbrev told_lines : List ℕ → List Marked → ℕ → Marked → List (List ℕ) → List ℕ
 told_lines text all i m told = token_place text m ++ (codes "expected " ++ (listed told ++ (codes "\n"
-    ++ token_facts text (first_of (take i all)) (last_of (take i all)) m)))
+    ++ token_facts text (first_marked (take i all)) (last_marked (take i all)) m)))
 
 one-why : (text a b : List ℕ) → Why text a → Why text b → a ≡ b
 one-why text a b (too_long l) (too_long k) = refl
@@ -74,7 +74,7 @@ one-why text a b (too_large w are at h is) (too_long l) = absurd (omega (arith, 
 one-why text a b (hopeless {all = all} {i = i} {m = m} {told = said} w are at h told)
     (hopeless {all = others} {i = j} {m = n} {told = say} v are' at' k tell) =
     let one = one-token text all others i j m n are are' at at' (inl h) (inl k) in
-    let there : Told (CanStand all i) phrases say = (let d = tell in rw (one.lists, one.numbers) at d) in
+    let there : AreTold (CanStand all i) phrases say = (let d = tell in rw (one.lists, one.numbers) at d) in
     ap (λ (x : Marked). told_lines text all i x said) one.tokens
     ∙ ap (λ (ws : List (List ℕ)). told_lines text all i n ws) (one-told told there)
     ∙ ap (λ (x : ℕ). told_lines text all x n say) (sym one.numbers)

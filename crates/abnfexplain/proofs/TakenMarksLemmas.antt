@@ -30,8 +30,8 @@ use Rattle.abnfexplain.specs.declared.abnf_decide.Refused.{Refused}
 use Rattle.abnfexplain.specs.declared.abnf_stand.Form.{Form}
 use Rattle.abnfexplain.specs.declared.abnf_stand.Place.{Place}
 use Rattle.abnfexplain.specs.declared.abnf_stand.Stand.TheVariants.{Start}
-use Rattle.abnfexplain.specs.AbnfDecisions.{first_of, last_of, IsTokenOf, IsRefused, NoneDecides}
-use Rattle.abnfexplain.specs.AbnfPlaces.{brackets_of, place_allows, IsAt}
+use Rattle.abnfexplain.specs.AbnfDecisions.{first_marked, last_marked, IsTokenOf, IsRefused, NoneDecides}
+use Rattle.abnfexplain.specs.AbnfPlaces.{brackets_of, place_allows, IsPlaceAt}
 use Rattle.abnfexplain.specs.AbnfStands.{behind, brackets_behind, innermost}
 use Rattle.abnfexplain.proofs.AbnfCanStandLemmas.{StandsAt, Onward, goes-on, stops-there, can-stand, cannot-stand}
 use Rattle.abnfexplain.proofs.AbnfCanStandLemmas.{said-kind, bad-nowhere}
@@ -43,12 +43,12 @@ pub record IsTaken (text : List ℕ) (left : List Marked → Type 0) (place : Pl
   pub config : Config
   pub taken : HasTaken text left config ms
   pub stands : StandsAt config place
-  pub origin_is : option_map marked_of origin ≡ first_of ms
-  pub before_is : option_map marked_of before ≡ last_of ms
+  pub origin_is : option_map marked_of origin ≡ first_marked ms
+  pub before_is : option_map marked_of before ≡ last_marked ms
 
 -- before the first token
 pub none-taken : (text : List ℕ) (left : List Marked → Type 0) (place : Place) → HasTaken text left start []
-    → IsAt place Start [] → IsTaken text left place None None []
+    → IsPlaceAt place Start [] → IsTaken text left place None None []
 none-taken text left place h at = record {
   config = start;
   taken = h;
@@ -57,22 +57,23 @@ none-taken text left place h at = record {
   before_is = refl;
 }
 
-pub last-snoc : (ms : List Marked) (m : Marked) → last_of (ms ++ m ∷ []) ≡ Some m
+pub last-snoc : (ms : List Marked) (m : Marked) → last_marked (ms ++ m ∷ []) ≡ Some m
 last-snoc [] m = refl
 last-snoc (n ∷ []) m = refl
 last-snoc (n ∷ o ∷ ms) m = last-snoc (o ∷ ms) m
 
-pub first-snoc : (ms : List Marked) (m o : Marked) → first_of ms ≡ Some o → first_of (ms ++ m ∷ []) ≡ Some o
+pub first-snoc : (ms : List Marked) (m o : Marked) → first_marked ms ≡ Some o → first_marked (ms ++ m ∷ []) ≡ Some o
 first-snoc [] m o e = absurd (let no : None ≡ Some o = e in cc)
 first-snoc (n ∷ ms) m o e = e
 
-pub first-alone : (ms : List Marked) (m : Marked) → first_of ms ≡ None → first_of (ms ++ m ∷ []) ≡ Some m
+pub first-alone : (ms : List Marked) (m : Marked) → first_marked ms ≡ None → first_marked (ms ++ m ∷ []) ≡ Some m
 first-alone [] m e = refl
 first-alone (n ∷ ms) m e = absurd (let no : Some n ≡ None = e in cc)
 
 -- the first token stays the first
-pub first-kept : (o : Option MarkedToken) (t : MarkedToken) (ms : List Marked) → option_map marked_of o ≡ first_of ms
-    → option_map marked_of (Some (unwrap_or o t)) ≡ first_of (ms ++ marked_of t ∷ [])
+pub first-kept : (o : Option MarkedToken) (t : MarkedToken) (ms : List Marked)
+    → option_map marked_of o ≡ first_marked ms
+    → option_map marked_of (Some (unwrap_or o t)) ≡ first_marked (ms ++ marked_of t ∷ [])
 first-kept None t ms e = sym (first-alone ms (marked_of t) (sym e))
 first-kept (Some o) t ms e = sym (first-snoc ms (marked_of t) (marked_of o) (sym e))
 
@@ -175,7 +176,7 @@ module _ {text : List ℕ} {left : List Marked → Type 0} {place : Place} {orig
       large-no_bracket g f said-here.1 (large said said-here.1),
     )
 
-    module _ (next : Place) (at : IsAt next (behind form) (brackets_behind k (brackets_of place))) where
+    module _ (next : Place) (at : IsPlaceAt next (behind form) (brackets_behind k (brackets_of place))) where
       next-stands : StandsAt step-onward.config next
       next-stands =
           let kind = said-kind said-here.1 in
@@ -206,7 +207,7 @@ module _ {text : List ℕ} {left : List Marked → Type 0} {place : Place} {orig
       -- one token more
       pub one-more : (onwards : List Marked → Type 0) (first last : Option MarkedToken) → onwards others
           → ((s : Said) → SaysKind k z p s → IsSmall s) → length next.brackets.items ≤ MAX_OPEN
-          → option_map marked_of first ≡ first_of (ms ++ here ∷ []) → option_map marked_of last ≡ Some here →
+          → option_map marked_of first ≡ first_marked (ms ++ here ∷ []) → option_map marked_of last ≡ Some here →
           IsTaken text onwards next first last (ms ++ here ∷ [])
       one-more onwards first last are small le o b = record {
         config = step-onward.config;

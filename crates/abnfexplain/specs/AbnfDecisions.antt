@@ -12,14 +12,14 @@ use Rattle.abnfexplain.specs.declared.abnf_stand.Place.{Place}
 use Rattle.abnfexplain.specs.AbnfExpected.{CanStand}
 use Rattle.abnfexplain.specs.AbnfPlaces.{place_allows}
 
-abbrev pub first_of : List Marked → Option Marked
-first_of [] = None
-first_of (m ∷ ms) = Some m
+abbrev pub first_marked : List Marked → Option Marked
+first_marked [] = None
+first_marked (m ∷ ms) = Some m
 
-abbrev pub last_of : List Marked → Option Marked
-last_of [] = None
-last_of (m ∷ []) = Some m
-last_of (m ∷ n ∷ ms) = last_of (n ∷ ms)
+abbrev pub last_marked : List Marked → Option Marked
+last_marked [] = None
+last_marked (m ∷ []) = Some m
+last_marked (m ∷ n ∷ ms) = last_marked (n ∷ ms)
 
 -- the token of the text for which that holds
 pub record IsTokenOf (text : List ℕ) (m : Marked) (Holds : List Marked → ℕ → Type 0) : Type 0 where
@@ -38,8 +38,8 @@ pub record TellsForms (place : Place) (ms : List Marked) (i : ℕ) : Type 0 wher
 pub record IsRefused (r : Refused) (ms : List Marked) (i : ℕ) : Type 0 where
   pub hopeless : IsHopeless ms i
   pub tells : TellsForms r.place ms i
-  pub origin : option_map marked_of r.origin ≡ first_of (take i ms)
-  pub before : option_map marked_of r.before ≡ last_of (take i ms)
+  pub origin : option_map marked_of r.origin ≡ first_marked (take i ms)
+  pub before : option_map marked_of r.before ≡ last_marked (take i ms)
 
 abbrev pub Decides : List ℕ → Decision → Type 0
 Decides text (Hopeless r) = IsTokenOf text (marked_of r.token) (IsRefused r)

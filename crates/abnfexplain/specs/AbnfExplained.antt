@@ -7,7 +7,7 @@ use Rattle.picture.specs.FirstBytes.{Row, first_told}
 use Rattle.picture.specs.LinesAround.{bytes_before}
 use Rattle.picture.specs.PhraseLists.{listed}
 use Rattle.picture.specs.Pictures.{place_told}
-use Rattle.picture.specs.ToldPhrases.{Told}
+use Rattle.picture.specs.ToldPhrases.{AreTold}
 use Rattle.abnfread.specs.declared.kind.AbnfKind.TheVariants.{Name, Bad, End}
 use Rattle.abnfread.specs.AbnfReading.{is_bracket}
 use Rattle.abnfread.specs.AbnfSays.{IsHopeless, IsOver}
@@ -15,7 +15,7 @@ use Rattle.abnfread.specs.MarkedTokens.{Marked, marked, tok_of, AreMarked}
 use Rattle.ruletable.specs.declared.fault.ReadFault.{ReadFault}
 use Rattle.ruletable.specs.declared.fault.ReadFault.TheVariants.{Memory}
 use Rattle.ruletable.specs.declared.lines.LineRule.TheVariants.{Lf}
-use Rattle.abnfexplain.specs.AbnfDecisions.{first_of, last_of}
+use Rattle.abnfexplain.specs.AbnfDecisions.{first_marked, last_marked}
 use Rattle.abnfexplain.specs.AbnfExpected.{CanStand, phrases}
 use Rattle.abnfexplain.specs.AbnfStands.{defines}
 
@@ -90,9 +90,9 @@ pub data Why (text : List ℕ) : List ℕ → Type 0 where
   too_long : MAX_GRAMMAR < length text → Why text (codes "  a grammar has at most 1048576 bytes\n")
   -- with that token the tokens begin no grammar: what could stand in its place
   hopeless : {all : List Marked} {i : ℕ} {m : Marked} {told : List (List ℕ)} → length text ≤ MAX_GRAMMAR
-      → AreMarked text all → slice_get all i ≡ Some m → IsHopeless all i → Told (CanStand all i) phrases told →
+      → AreMarked text all → slice_get all i ≡ Some m → IsHopeless all i → AreTold (CanStand all i) phrases told →
       Why text (token_place text m ++ (codes "expected " ++ (listed told ++ (codes "\n"
-      ++ token_facts text (first_of (take i all)) (last_of (take i all)) m))))
+      ++ token_facts text (first_marked (take i all)) (last_marked (take i all)) m))))
   -- that bracket is one too many of those open at once
   too_deep : {all : List Marked} {i : ℕ} {m : Marked} → length text ≤ MAX_GRAMMAR → AreMarked text all
       → slice_get all i ≡ Some m → IsOver all i → is_bracket m ≡ true →

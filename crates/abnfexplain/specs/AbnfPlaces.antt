@@ -15,6 +15,6 @@ abbrev pub place_allows : Place → Form → Bool
 place_allows p form = allows p.stand (innermost (brackets_of p)) form
 
 -- the place is that
-pub record IsAt (p : Place) (s : Stand) (bs : List Bracket) : Type 0 where
+pub record IsPlaceAt (p : Place) (s : Stand) (bs : List Bracket) : Type 0 where
   pub stand : p.stand ≡ s
   pub brackets : brackets_of p ≡ bs

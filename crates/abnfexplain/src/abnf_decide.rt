@@ -43,7 +43,7 @@ fn form_of(token: MarkedToken<'_>) -> Form
 /// Returns the token that decides, if the text is no grammar.
 ///
 /// # Errors
-/// `Memory` where a growth was refused.
+/// `Memory` if an allocation fails.
 pub(crate) fn deciding_token(alloc: Global, text: &[u8]) -> Result<Option<Decision<'_>>, Memory>
     ensures { IfOk result (λ o. MatchOption o (NoneDecides text.now) (λ d. Decides text.now d)) }
 {

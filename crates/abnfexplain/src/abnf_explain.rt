@@ -4,7 +4,7 @@ ghost use Rattle.std.specs.Option.{option_map};
 ghost use Rattle.lexer.specs.declared.limits.TheConstants.{MAX_GRAMMAR};
 ghost use Rattle.picture.specs.FactRows.{row_of};
 ghost use Rattle.picture.specs.PhraseLists.{listed};
-ghost use Rattle.picture.specs.ToldPhrases.{Told};
+ghost use Rattle.picture.specs.ToldPhrases.{AreTold};
 ghost use Rattle.abnfread.specs.AbnfReading.{IsFaultOf};
 ghost use Rattle.abnfread.specs.MarkedTokens.{marked_of};
 ghost use Rattle.abnfexplain.specs.AbnfDecisions.{NoneDecides};
@@ -189,7 +189,7 @@ fn push_name_fact(
 
 // Adds what can stand there.
 fn push_expected(alloc: Global, out: &mut Vec<u8>, place: &Place) -> Result<(), Memory>
-    ensures { OnOk result ((told : List (List ℕ)) × Told (λ k. place_allows place.now k ≡ true) phrases told
+    ensures { OnOk result ((told : List (List ℕ)) × AreTold (λ k. place_allows place.now k ≡ true) phrases told
         × (out.new.items ≡ out.old.items ++ listed told)) }
 {
     let told = told_phrases(alloc, place)?;
@@ -220,7 +220,7 @@ fn push_token_facts(
 fn hopeless_lines(alloc: Global, text: &[u8], refused: &Refused<'_>) -> Result<Vec<u8>, Memory>
     requires first { (o : Marks) → refused.now.origin ≡ Some o → o.token.span.start ≤ length text.now }
     requires within { refused.now.token.token.span.start ≤ length text.now }
-    ensures { IfOk result (λ v. (told : List (List ℕ)) × Told (λ k. place_allows refused.now.place k ≡ true) phrases
+    ensures { IfOk result (λ v. (told : List (List ℕ)) × AreTold (λ k. place_allows refused.now.place k ≡ true) phrases
         told × (v.items ≡ token_place text.now (marked_of refused.now.token) ++ (codes "expected " ++ (listed told
         ++ (codes "\n" ++ token_facts text.now (option_map marked_of refused.now.origin)
         (option_map marked_of refused.now.before) (marked_of refused.now.token)))))) }
@@ -285,7 +285,7 @@ fn explain_token(alloc: Global, text: &[u8]) -> Result<Vec<u8>, Memory>
 /// can stand in its place, and what is known of it and of the tokens before. There are none for want of memory.
 ///
 /// # Errors
-/// `Memory` where a growth was refused.
+/// `Memory` if an allocation fails.
 pub fn explain_abnf_fault(alloc: Global, text: &[u8], fault: ReadFault) -> Result<Vec<u8>, Memory>
     requires { IsFaultOf text.now fault }
     ensures { IfOk result (λ why. Explains text.now fault why.items) }

@@ -1,7 +1,7 @@
 //! The phrases that tell what can stand at a place in ABNF.
 ghost use Rattle.std.specs.Prelude.{◌≡◌, true, map, IfOk};
 ghost use Rattle.std.specs.List.{list_all, list_any};
-ghost use Rattle.picture.specs.ToldPhrases.{Told, tells};
+ghost use Rattle.picture.specs.ToldPhrases.{AreTold, tells};
 ghost use Rattle.abnfexplain.specs.AbnfExpected.{phrases};
 ghost use Rattle.abnfexplain.specs.AbnfPhraseRows.{phrase_of};
 ghost use Rattle.abnfexplain.specs.AbnfPlaces.{place_allows};
@@ -331,7 +331,7 @@ fn all_phrases() -> &'static [Phrase]
 
 // The words of the phrases of a table that are told.
 fn told_of(alloc: Global, place: &Place, table: &[Phrase]) -> Result<Vec<&'static [u8]>, Memory>
-    ensures { IfOk result (λ v. Told (λ k. place_allows place.now k ≡ true) (map phrase_of table.now)
+    ensures { IfOk result (λ v. AreTold (λ k. place_allows place.now k ≡ true) (map phrase_of table.now)
         (map (λ w. w.now) v.items)) }
 {
     let mut told = Vec::new(alloc);
@@ -346,9 +346,9 @@ fn told_of(alloc: Global, place: &Place, table: &[Phrase]) -> Result<Vec<&'stati
 /// Returns the words of the phrases that tell what can stand there, in their order.
 ///
 /// # Errors
-/// `Memory` where a growth was refused.
+/// `Memory` if an allocation fails.
 pub(crate) fn told_phrases(alloc: Global, place: &Place) -> Result<Vec<&'static [u8]>, Memory>
-    ensures { IfOk result (λ v. Told (λ k. place_allows place.now k ≡ true) phrases (map (λ w. w.now) v.items)) }
+    ensures { IfOk result (λ v. AreTold (λ k. place_allows place.now k ≡ true) phrases (map (λ w. w.now) v.items)) }
 {
     told_of(alloc, place, all_phrases())
 }

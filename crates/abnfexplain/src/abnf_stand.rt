@@ -122,10 +122,10 @@ pub(crate) struct Place {
 }
 
 impl Place {
-    ghost use Rattle.abnfexplain.specs.AbnfPlaces.{brackets_of, place_allows, IsAt};
+    ghost use Rattle.abnfexplain.specs.AbnfPlaces.{brackets_of, place_allows, IsPlaceAt};
 
     pub(crate) fn start(alloc: Global) -> Place
-        ensures { IsAt result Stand.Start [] }
+        ensures { IsPlaceAt result Stand.Start [] }
     {
         Place {
             stand: Stand::Start,
@@ -143,9 +143,9 @@ impl Place {
     /// Goes on behind such a token, which can stand here.
     ///
     /// # Errors
-    /// `Memory` where a growth was refused.
+    /// `Memory` if an allocation fails.
     pub(crate) fn advance(&mut self, form: Form) -> Result<(), Memory>
-        ensures { OnOk result (IsAt self.new (behind form) (brackets_behind form.kind (brackets_of self.old))) }
+        ensures { OnOk result (IsPlaceAt self.new (behind form) (brackets_behind form.kind (brackets_of self.old))) }
     {
         match form.kind {
             AbnfKind::LParen => self.brackets.push(Bracket::Paren)?,

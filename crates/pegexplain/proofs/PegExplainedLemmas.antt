@@ -8,7 +8,7 @@ use Rattle.lexer.specs.Pieces.{LiesIn}
 use Rattle.lexer.specs.TokenLists.{start_of}
 use Rattle.lexer.specs.declared.limits.TheConstants.{MAX_GRAMMAR}
 use Rattle.picture.specs.PhraseLists.{listed}
-use Rattle.picture.specs.ToldPhrases.{Told}
+use Rattle.picture.specs.ToldPhrases.{AreTold}
 use Rattle.picture.proofs.PhraseLemmas.{told-same}
 use Rattle.pegread.specs.declared.kind.Kind.{Kind}
 use Rattle.pegread.specs.Reading.{IsHopeless, IsTooDeep, IsDecidedAt, IsFaultOf}
@@ -39,14 +39,14 @@ module _ (place : Place) (ts : List Tok) (i : ℕ) (h : TellsKinds place ts i) w
   by-test k false e s = absurd (h.other k e s)
 
   -- what the place tells can stand there
-  pub place-tells : {ws : List (List ℕ)} → Told (λ k. allows place k ≡ true) phrases ws
-      → Told (CanStand ts i) phrases ws
+  pub place-tells : {ws : List (List ℕ)} → AreTold (λ k. allows place k ≡ true) phrases ws
+      → AreTold (CanStand ts i) phrases ws
   place-tells t = told-same h.stand (λ k s. by-test k (allows place k) refl s) t
 
 module _ (text : List ℕ) (t : Tok) (within : length text ≤ MAX_GRAMMAR) where
   pub hopeless-why : (place : Place) (told : List (List ℕ)) (why : List ℕ) →
       IsTokenOf text t (λ ts i. IsHopeless ts i × TellsKinds place ts i)
-      → Told (λ k. allows place k ≡ true) phrases told
+      → AreTold (λ k. allows place k ≡ true) phrases told
       → why ≡ token_place text t ++ (codes "expected " ++ (listed told ++ (codes "\n" ++ token_facts t)))
       → Why text why
   hopeless-why place told why h tells e = rw e

@@ -5,7 +5,7 @@ use Rattle.std.proofs.Common.{length, take}
 use Rattle.lexer.proofs.ViabilityLemmas as viability
 use Rattle.lexer.specs.declared.limits.TheConstants.{MAX_OPEN}
 use Rattle.picture.specs.PhraseLists.{listed}
-use Rattle.picture.specs.ToldPhrases.{Told}
+use Rattle.picture.specs.ToldPhrases.{AreTold}
 use Rattle.picture.proofs.OneToldLemmas.{one-told}
 use Rattle.ruletable.specs.declared.fault.ReadFault.{ReadFault}
 use Rattle.ruletable.specs.declared.fault.ReadFault.TheVariants as faults
@@ -66,7 +66,7 @@ one-why text a b (too_deep w are at h) (too_long l) = absurd (omega (arith, l, w
 one-why text a b (hopeless {all = all} {i = i} {t = t} {told = said} w are at h told)
     (hopeless {all = others} {i = j} {t = u} {told = say} v are' at' k tell) =
     let one = one-token text all others i j t u are are' at at' (inl h) (inl k) in
-    let there : Told (CanStand all i) phrases say = (let d = tell in rw (one.lists, one.numbers) at d) in
+    let there : AreTold (CanStand all i) phrases say = (let d = tell in rw (one.lists, one.numbers) at d) in
     ap (λ (x : Tok). told_lines text x said) one.tokens
     ∙ ap (λ (ws : List (List ℕ)). told_lines text u ws) (one-told told there)
 one-why text a b (hopeless {all = all} {i = i} {t = t} w are at h told)

@@ -5,7 +5,7 @@ use Rattle.lexer.specs.declared.limits.TheConstants.{MAX_GRAMMAR}
 use Rattle.picture.specs.FirstBytes.{Row, first_told}
 use Rattle.picture.specs.PhraseLists.{listed}
 use Rattle.picture.specs.Pictures.{place_told}
-use Rattle.picture.specs.ToldPhrases.{Told}
+use Rattle.picture.specs.ToldPhrases.{AreTold}
 use Rattle.pegread.specs.declared.kind.Kind.TheVariants.{Bad, End}
 use Rattle.pegread.specs.Reading.{IsHopeless, IsTooDeep}
 use Rattle.pegread.specs.Tokens.{Tok, AreTokens}
@@ -44,7 +44,7 @@ pub data Why (text : List ℕ) : List ℕ → Type 0 where
   -- with that token the tokens begin no grammar: what could stand in its place
   hopeless : {all : List Tok} {i : ℕ} {t : Tok} {told : List (List ℕ)} → length text ≤ MAX_GRAMMAR
       → AreTokens (length text) text all → slice_get all i ≡ Some t → IsHopeless all i
-      → Told (CanStand all i) phrases told →
+      → AreTold (CanStand all i) phrases told →
       Why text (token_place text t ++ (codes "expected " ++ (listed told ++ (codes "\n" ++ token_facts t))))
   -- that bracket is one too many of those open at once
   too_deep : {all : List Tok} {i : ℕ} {t : Tok} → length text ≤ MAX_GRAMMAR → AreTokens (length text) text all

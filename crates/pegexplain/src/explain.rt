@@ -4,7 +4,7 @@ ghost use Rattle.lexer.specs.TokenLists.{tok_of};
 ghost use Rattle.lexer.specs.declared.limits.TheConstants.{MAX_GRAMMAR, MAX_OPEN};
 ghost use Rattle.picture.specs.FactRows.{row_of};
 ghost use Rattle.picture.specs.PhraseLists.{listed};
-ghost use Rattle.picture.specs.ToldPhrases.{Told};
+ghost use Rattle.picture.specs.ToldPhrases.{AreTold};
 ghost use Rattle.pegread.specs.Reading.{IsFaultOf};
 ghost use Rattle.pegexplain.specs.PegDecisions.{NoneDecides};
 ghost use Rattle.pegexplain.specs.PegExpected.{phrases};
@@ -96,7 +96,7 @@ fn push_token_facts(out: &mut Vec<u8>, token: Token<'_, Kind>) -> Result<(), Mem
 // Adds what can stand there.
 fn push_expected(alloc: Global, out: &mut Vec<u8>, place: Place) -> Result<(), Memory>
     requires { place.depth ≤ MAX_OPEN }
-    ensures { OnOk result ((told : List (List ℕ)) × Told (λ k. allows place k ≡ true) phrases told
+    ensures { OnOk result ((told : List (List ℕ)) × AreTold (λ k. allows place k ≡ true) phrases told
         × (out.new.items ≡ out.old.items ++ listed told)) }
 {
     let told = told_phrases(alloc, place)?;
@@ -113,7 +113,7 @@ fn hopeless_lines(
 ) -> Result<Vec<u8>, Memory>
     requires depth { place.depth ≤ MAX_OPEN }
     requires within { token.span.start ≤ length text.now }
-    ensures { IfOk result (λ v. (told : List (List ℕ)) × Told (λ k. allows place k ≡ true) phrases told
+    ensures { IfOk result (λ v. (told : List (List ℕ)) × AreTold (λ k. allows place k ≡ true) phrases told
         × (v.items ≡ token_place text.now (tok_of token.entry) ++ (codes "expected " ++ (listed told
         ++ (codes "\n" ++ token_facts (tok_of token.entry)))))) }
 {
@@ -162,7 +162,7 @@ fn explain_token(alloc: Global, text: &[u8]) -> Result<Vec<u8>, Memory>
 /// can stand in its place, and what its first bytes tell. There are none for want of memory.
 ///
 /// # Errors
-/// `Memory` where a growth was refused.
+/// `Memory` if an allocation fails.
 pub fn explain_fault(alloc: Global, text: &[u8], fault: ReadFault) -> Result<Vec<u8>, Memory>
     requires { IsFaultOf text.now fault }
     ensures { IfOk result (λ why. Explains text.now fault why.items) }

@@ -2,7 +2,7 @@
 ghost use Rattle.std.specs.Prelude.{◌≡◌, ◌≤◌, true, map, IfOk};
 ghost use Rattle.std.specs.List.{list_all, list_any};
 ghost use Rattle.lexer.specs.declared.limits.TheConstants.{MAX_OPEN};
-ghost use Rattle.picture.specs.ToldPhrases.{Told, tells};
+ghost use Rattle.picture.specs.ToldPhrases.{AreTold, tells};
 ghost use Rattle.pegexplain.specs.PegExpected.{phrases};
 ghost use Rattle.pegexplain.specs.PegStands.{allows};
 ghost use Rattle.pegexplain.specs.PhraseRows.{phrase_of};
@@ -140,7 +140,7 @@ fn all_phrases() -> &'static [Phrase]
 // The words of the phrases of a table that are told.
 fn told_of(alloc: Global, place: Place, table: &[Phrase]) -> Result<Vec<&'static [u8]>, Memory>
     requires { place.depth ≤ MAX_OPEN }
-    ensures { IfOk result (λ v. Told (λ k. allows place k ≡ true) (map phrase_of table.now)
+    ensures { IfOk result (λ v. AreTold (λ k. allows place k ≡ true) (map phrase_of table.now)
         (map (λ w. w.now) v.items)) }
 {
     let mut told = Vec::new(alloc);
@@ -155,10 +155,10 @@ fn told_of(alloc: Global, place: Place, table: &[Phrase]) -> Result<Vec<&'static
 /// Returns the words of the phrases that tell what can stand there, in their order.
 ///
 /// # Errors
-/// `Memory` where a growth was refused.
+/// `Memory` if an allocation fails.
 pub(crate) fn told_phrases(alloc: Global, place: Place) -> Result<Vec<&'static [u8]>, Memory>
     requires { place.depth ≤ MAX_OPEN }
-    ensures { IfOk result (λ v. Told (λ k. allows place k ≡ true) phrases (map (λ w. w.now) v.items)) }
+    ensures { IfOk result (λ v. AreTold (λ k. allows place k ≡ true) phrases (map (λ w. w.now) v.items)) }
 {
     told_of(alloc, place, all_phrases())
 }

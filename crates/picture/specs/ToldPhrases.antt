@@ -9,17 +9,18 @@ pub record Phrase (K : Type 0) : Type 0 where
   pub bars : List K
 
 -- all that the phrase means can stand, and nothing that bars it
-pub record IsTold {K : Type 0} (CanStand : K → Type 0) (phrase : Phrase K) : Type 0 where
+pub record IsToldPhrase {K : Type 0} (CanStand : K → Type 0) (phrase : Phrase K) : Type 0 where
   pub stand : All CanStand phrase.kinds
   pub barred : All (λ k. CanStand k → ⊥) phrase.bars
 
 -- the words of those that are told, in the table's order
-pub data Told {K : Type 0} (CanStand : K → Type 0) : List (Phrase K) → List (List ℕ) → Type 0 where
-  told_none : Told CanStand [] []
-  told_more : {p : Phrase K} {ps : List (Phrase K)} {ws : List (List ℕ)} → IsTold CanStand p → Told CanStand ps ws
-      → Told CanStand (p ∷ ps) (p.words ∷ ws)
-  told_not : {p : Phrase K} {ps : List (Phrase K)} {ws : List (List ℕ)} → (IsTold CanStand p → ⊥)
-      → Told CanStand ps ws → Told CanStand (p ∷ ps) ws
+pub data AreTold {K : Type 0} (CanStand : K → Type 0) : List (Phrase K) → List (List ℕ) → Type 0 where
+  told_none : AreTold CanStand [] []
+  told_more : {p : Phrase K} {ps : List (Phrase K)} {ws : List (List ℕ)} → IsToldPhrase CanStand p
+      → AreTold CanStand ps ws
+      → AreTold CanStand (p ∷ ps) (p.words ∷ ws)
+  told_not : {p : Phrase K} {ps : List (Phrase K)} {ws : List (List ℕ)} → (IsToldPhrase CanStand p → ⊥)
+      → AreTold CanStand ps ws → AreTold CanStand (p ∷ ps) ws
 
 -- whether the phrase is told where those kinds can stand that pass the test
 abbrev pub tells : {K : Type 0} → (K → Bool) → Phrase K → Bool

@@ -55,7 +55,7 @@ fn push_right(out: &mut Vec<u8>, place: LineAround<'_>) -> Result<(), Memory>
 /// line 72 bytes are shown, with `..` where others are left out.
 ///
 /// # Errors
-/// `Memory` where a growth was refused.
+/// `Memory` if an allocation fails.
 pub fn push_picture(out: &mut Vec<u8>, place: LineAround<'_>) -> Result<(), Memory>
     requires { place.before ≤ length place.line.now }
     ensures { OnOk result (out.new.items ≡ out.old.items ++ picture place.entry.line.now place.entry.before) }
@@ -75,7 +75,7 @@ pub fn push_picture(out: &mut Vec<u8>, place: LineAround<'_>) -> Result<(), Memo
 /// bytes of the line from 1.
 ///
 /// # Errors
-/// `Memory` where a growth was refused.
+/// `Memory` if an allocation fails.
 pub fn push_place(
     out: &mut Vec<u8>,
     text: &[u8],

@@ -38,7 +38,7 @@ fn find_fact(facts: &[Fact], text: &[u8]) -> Option<Fact>
 /// Adds a line of the first row with which the text begins, if there is one.
 ///
 /// # Errors
-/// `Memory` where a growth was refused.
+/// `Memory` if an allocation fails.
 pub fn push_fact(out: &mut Vec<u8>, facts: &[Fact], text: &[u8]) -> Result<(), Memory>
     ensures { OnOk result (out.new.items ≡ out.old.items ++ first_told (map row_of facts.now) text.now) }
 {

@@ -18,7 +18,7 @@ fn mark(left: usize) -> &'static [u8]
 /// Adds the phrases, with `or` before the last and commas between the others.
 ///
 /// # Errors
-/// `Memory` where a growth was refused.
+/// `Memory` if an allocation fails.
 pub fn push_phrases(out: &mut Vec<u8>, phrases: &[&[u8]]) -> Result<(), Memory>
     ensures { OnOk result (out.new.items ≡ out.old.items ++ listed (map (λ p. p.now) phrases.now)) }
 {

@@ -34,7 +34,7 @@ fn push_shown_byte(out: &mut Vec<u8>, b: u8) -> Result<(), Memory>
 /// Adds the bytes as they are shown, all in ASCII: a tab as a space, and a byte that is not printable as `\xHH`.
 ///
 /// # Errors
-/// `Memory` where a growth was refused.
+/// `Memory` if an allocation fails.
 pub fn push_shown(out: &mut Vec<u8>, bytes: &[u8]) -> Result<(), Memory>
     ensures { OnOk result (out.new.items ≡ out.old.items ++ shown bytes.now) }
 {
@@ -57,7 +57,7 @@ pub(crate) fn push_dots(out: &mut Vec<u8>, are_left_out: bool) -> Result<(), Mem
 /// Adds the number in decimal digits.
 ///
 /// # Errors
-/// `Memory` where a growth was refused.
+/// `Memory` if an allocation fails.
 pub fn push_number(out: &mut Vec<u8>, n: usize) -> Result<(), Memory>
     ensures { OnOk result (out.new.items ≡ out.old.items ++ decimal n) }
 {
@@ -70,7 +70,7 @@ pub fn push_number(out: &mut Vec<u8>, n: usize) -> Result<(), Memory>
 /// Adds the first 60 bytes as they are shown, and `..` where there are more.
 ///
 /// # Errors
-/// `Memory` where a growth was refused.
+/// `Memory` if an allocation fails.
 pub fn push_cut(out: &mut Vec<u8>, bytes: &[u8]) -> Result<(), Memory>
     ensures { OnOk result (out.new.items ≡ out.old.items ++ cut bytes.now) }
 {

@@ -7,8 +7,8 @@ use Rattle.fanquber_c.proofs.windows.run_windows.Given as goal
 
 abbrev pub invariant-loop-n : goal.invariant-loop-n
 invariant-loop-n g l = record {
-  ran : HaveRun (planned (does_of (λ t. task_does g.L.Language.canonical g.L.Language.runs t l.settings) l.plan.task)) l.input
-      (take l.n l.windows) l.texts.out.items
+  ran : HaveRun (planned (does_of (λ t. task_does g.L.Language.canonical g.L.Language.runs t l.settings) l.plan.task))
+      l.input (take l.n l.windows) l.texts.out.items
       l.texts.err.items (take l.n l.results);
   count : length l.results ≡ length l.windows;
 }
