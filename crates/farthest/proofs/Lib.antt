@@ -1,0 +1,7 @@
+pub mod AddsLemmas
+pub mod CellWalksLemmas
+pub mod CellAsksLemmas
+pub mod EvaluatedLemmas
+pub mod OutsideLemmas
+pub mod StoppedLemmas
+pub mod VisitOrderLemmas

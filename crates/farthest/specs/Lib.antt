@@ -1,0 +1,4 @@
+pub mod VisitLists
+pub mod Farthest
+pub mod CellAsks
+pub mod Stopped
