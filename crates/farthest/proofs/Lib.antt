@@ -5,3 +5,4 @@ pub mod EvaluatedLemmas
 pub mod OutsideLemmas
 pub mod StoppedLemmas
 pub mod VisitOrderLemmas
+pub mod IsFarthestLemmas

@@ -47,19 +47,14 @@ stops_once {x = x} {p = p} {f = f} {h = h} a b =
     stops_by_once x a.shape p f h a.by (subst (λ v. StopsBy x v p h) same b.by)
 
 -- what was found for a node's own comparison
-module _ (nodes : List Node) (x : List ℕ) (n p : ℕ) (code : Node) (at : slice_get nodes n ≡ Some code)
-    (r : Option ℕ) (some : IfSome r (λ f. StopsBy x (shape_of code) p f))
-    (none : IfNone r ((f : ℕ) → StopsBy x (shape_of code) p f → ⊥)) where
-  pub found_stops : (f : ℕ) → r ≡ Some f → Stops (shapes_of nodes) x n p f
-  found_stops f is = record { shape = shape_of code; at = shape_at nodes n code at;
-    by = rw is at some; }
+module _ (nodes : List Node) (x : List ℕ) (n p : ℕ) (code : Node) (at : slice_get nodes n ≡ Some code) where
+  pub found_stops : {f : ℕ} → StopsBy x (shape_of code) p f → Stops (shapes_of nodes) x n p f
+  found_stops by = record { shape = shape_of code; at = shape_at nodes n code at; by = by }
 
-  stops_by : (f : ℕ) → Stops (shapes_of nodes) x n p f → StopsBy x (shape_of code) p f
-  stops_by f s = let same : s.shape ≡ shape_of code = cc (s.at, shape_at nodes n code at) in
-      subst (λ v. StopsBy x v p f) same s.by
-
-  pub none_stops : (f : ℕ) → r ≡ None → Stops (shapes_of nodes) x n p f → ⊥
-  none_stops f is s = (rw is at none) f (stops_by f s)
+  pub none_stops : ((f : ℕ) → StopsBy x (shape_of code) p f → ⊥) → (f : ℕ) → Stops (shapes_of nodes) x n p f → ⊥
+  none_stops none f s =
+      let same : s.shape ≡ shape_of code = cc (s.at, shape_at nodes n code at) in
+      none f (subst (λ v. StopsBy x v p f) same s.by)
 
 module _ (nodes : List Shape) (x : List ℕ) (vs : List Visit) where
   abbrev At : Visit → ℕ → Type 0
@@ -80,11 +75,11 @@ module _ (nodes : List Shape) (x : List ℕ) (vs : List Visit) where
         let is : slice_get vs i ≡ Some u = subst (λ z. slice_get vs z ≡ Some u) same h in cc (is, here)
 
     pub greatest_same : (o : Option ℕ) → ((f : ℕ) → At v f → ⊥) → GreatestBelow i o → GreatestBelow (i + 1) o
-    greatest_same None none g k u f lt h s = by (cases_lt k i)
+    greatest_same None none g = λ k u f lt h s. by k u f lt h s (cases_lt k i)
       where
-        by : (k < i) ⊎ (i ≤ k) → ⊥
-        by (inl less) = g k u f less h s
-        by (inr le) = none f (subst (λ z. At z f) (is_last k u h le lt) s)
+        by : (k : ℕ) (u : Visit) (f : ℕ) → k < i + 1 → slice_get vs k ≡ Some u → At u f → (k < i) ⊎ (i ≤ k) → ⊥
+        by k u f lt h s (inl less) = g k u f less h s
+        by k u f lt h s (inr le) = none f (subst (λ z. At z f) (is_last k u h le lt) s)
     greatest_same (Some f) none g = (
       (g.0.0, g.0.1, omega (arith, g.0.2), g.0.3, g.0.4),
       λ k u h lt at s. by k u h at lt s (cases_lt k i),
@@ -118,7 +113,7 @@ module _ (nodes : List Shape) (x : List ℕ) (vs : List Visit) where
             omega (arith, same, own)
 
   pub greatest_ends : (i : ℕ) (o : Option ℕ) → length vs ≤ i → GreatestBelow i o → IsGreatest nodes x vs o
-  greatest_ends i None le g v f l s = g l.0 v f (omega (arith, slice_get_within vs l.0 v l.1)) l.1 s
+  greatest_ends i None le g = λ v f l s. g l.0 v f (omega (arith, slice_get_within vs l.0 v l.1)) l.1 s
   greatest_ends i (Some f) le g = (
     (g.0.1, (g.0.0, g.0.3), g.0.4),
     λ v h l s. g.1 l.0 v h (omega (arith, slice_get_within vs l.0 v l.1)) l.1 s,

@@ -12,6 +12,7 @@ use Rattle.std.proofs.lemmas.List.Sorted.{Contains-permutation, IsPermutation-sy
 use Rattle.std.proofs.lemmas.Map.Keys.{IsDistinct-IsPermutation}
 use Rattle.std.proofs.lemmas.Option.{slice_get_within, get_or_from_slice_get, slice_get-get_or}
 use Rattle.std.specs.declared.cmp.Ordering.{Ordering}
+use Rattle.std.specs.declared.cmp.Ordering.TheVariants.{Less, Equal, Greater}
 use Rattle.farthest.specs.declared.visit.Visit.{Visit}
 use Rattle.farthest.specs.VisitLists.{Lists, StandsBefore, Ascends, AreOnce}
 use Rattle.farthest.proofs.AddsLemmas.{is_visit}
@@ -68,6 +69,7 @@ pair_differs v w not = by (same_pair v w) refl
     by false is = is
 
 once_distinct : (vs : List Visit) → AreOnce vs → IsDistinct same_pair vs
+unfolding IsDistinct
 once_distinct [] o = tt
 once_distinct (v ∷ vs) o = (
   all_of (λ w. same_pair v w ≡ false) vs (λ k w g. pair_differs v w (λ same.
@@ -77,6 +79,7 @@ once_distinct (v ∷ vs) o = (
 
 distinct_at : (vs : List Visit) → IsDistinct same_pair vs → (i j : ℕ) (v w : Visit) → i < j → slice_get vs i ≡ Some v
     → slice_get vs j ≡ Some w → same_pair v w ≡ false
+unfolding IsDistinct
 distinct_at [] d i j v w lt h g = absurd (cc h)
 distinct_at (u ∷ vs) d i zero v w lt h g = absurd (omega arith)
 distinct_at (u ∷ vs) d zero (suc j) v w lt h g =
@@ -96,7 +99,15 @@ at_most_on u v w (inr a) (inr b) = inr (a.0 ∙ b.0, omega (arith, a.1, b.1))
 
 not_below : (a b c d : ℕ) → is_lt (ordering_then (nat_cmp a b) (nat_cmp c d)) ≡ false
     → (b < a) ⊎ ((b ≡ a) × (d ≤ c))
-not_below a b c d h = ?
+not_below a b c d h = by (nat_lt a b) (a == b) (nat_lt c d) refl refl refl h
+  where
+    by : (u v w : Bool) → nat_lt a b ≡ u → (a == b) ≡ v → nat_lt c d ≡ w
+        → is_lt (ordering_then (cond u Less (cond v Equal Greater)) (cond w Less (cond (c == d) Equal Greater))) ≡ false
+        → (b < a) ⊎ ((b ≡ a) × (d ≤ c))
+    by true v w p q r h = absurd (cc h)
+    by false false w p q r h = inl (let le = ltb-false a b p in let not = eqb-false a b q in omega arith)
+    by false true true p q r h = absurd (cc h)
+    by false true false p q r h = inr (sym (eqb-true a b q), ltb-false c d r)
 
 module _ (vs : List Visit) (sorted : IsSorted visit_cmp vs) where
   adjacent : (k : ℕ) (v w : Visit) → slice_get vs k ≡ Some v → slice_get vs (suc k) ≡ Some w → AtMost v w

@@ -21,8 +21,16 @@ stop_of-requires c =
 
 pub loop-visit-preserved : goal.loop-visit-preserved
 loop-visit-preserved c = elim c.match-stop_of.branch [
-  | in-Some w ↦ ?
-  | in_default w ↦ ?
+  | in-Some w ↦ rw w.farthest-is (greatest_more (shapes_of c.args.peg.now.nodes) c.args.window.now c.args.visits.now
+      c.loop-visit.visit-index _ (slice_get-get_or c.args.visits.now c.loop-visit.visit-index _ c.loop-visit-test.true)
+      c.loop-visit.farthest _ w.farther.result
+      (found_stops c.args.peg.now.nodes c.args.window.now _ _ _ c.node.ensures w.in-Some.ensures.some)
+      w.farther.ensures.own w.farther.ensures.other w.farther.ensures.is c.loop-visit.invariant)
+  | in_default w ↦ rw w.farthest-is (greatest_same (shapes_of c.args.peg.now.nodes) c.args.window.now c.args.visits.now
+      c.loop-visit.visit-index _ (slice_get-get_or c.args.visits.now c.loop-visit.visit-index _ c.loop-visit-test.true)
+      c.loop-visit.farthest
+      (none_stops c.args.peg.now.nodes c.args.window.now _ _ _ c.node.ensures w.in_default.ensures.none)
+      c.loop-visit.invariant)
 ]
 
 pub returns : goal.returns

@@ -22,9 +22,24 @@ stop_of-requires c =
 
 pub loop-visit-preserved : goal.loop-visit-preserved
 loop-visit-preserved c = elim c.match-stop_of.branch [
-  | in-Some+then-stop-place+in_ok-push w ↦ ?
-  | in-Some+else-stop-place w ↦ ?
-  | in_default w ↦ ?
+  | in-Some+then-stop-place+in_ok-push w ↦ rw (w.stopped-is, w.in_ok-push.ensures.items)
+      (stopped_more (shapes_of c.args.peg.now.nodes) c.args.window.now c.args.visits.now c.args.place
+      c.loop-visit.visit-index _ (slice_get-get_or c.args.visits.now c.loop-visit.visit-index _ c.loop-visit-test.true)
+      c.loop-visit.stopped.items
+      (rw w.if-stop-place.true at (found_stops c.args.peg.now.nodes c.args.window.now _ _ _ c.node.ensures
+      w.in-Some.ensures.some)) c.loop-visit.invariant)
+  | in-Some+else-stop-place w ↦ rw w.stopped-is
+      (stopped_same (shapes_of c.args.peg.now.nodes) c.args.window.now c.args.visits.now c.args.place
+      c.loop-visit.visit-index _ (slice_get-get_or c.args.visits.now c.loop-visit.visit-index _ c.loop-visit-test.true)
+      c.loop-visit.stopped.items
+      (λ s. w.if-stop-place.false (stops_once (found_stops c.args.peg.now.nodes c.args.window.now _ _ _ c.node.ensures
+      w.in-Some.ensures.some) s)) c.loop-visit.invariant)
+  | in_default w ↦ rw w.stopped-is
+      (stopped_same (shapes_of c.args.peg.now.nodes) c.args.window.now c.args.visits.now c.args.place
+      c.loop-visit.visit-index _ (slice_get-get_or c.args.visits.now c.loop-visit.visit-index _ c.loop-visit-test.true)
+      c.loop-visit.stopped.items
+      (none_stops c.args.peg.now.nodes c.args.window.now _ _ _ c.node.ensures w.in_default.ensures.none _)
+      c.loop-visit.invariant)
 ]
 
 pub returns-clause-listed : goal.returns-clause-listed
