@@ -6,3 +6,5 @@ pub mod OutsideLemmas
 pub mod StoppedLemmas
 pub mod VisitOrderLemmas
 pub mod IsFarthestLemmas
+pub mod FailingLeafLemmas
+pub mod AscendsLemmas

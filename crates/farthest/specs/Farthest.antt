@@ -4,6 +4,7 @@ use Rattle.std.specs.Prelude.{◌≡◌, ◌↔◌, ℕ, ◌+◌, ◌<◌, ◌�
 use Rattle.pegread.specs.Pattern.{Rule}
 use Rattle.gramcheck.specs.Nodes.{Shape, Any, Bytes, Set, Name, Seq, Choice, Star, Plus, Opt, And, Not, Act, Open}
 use Rattle.gramcheck.specs.Nodes.{Close}
+use Rattle.gramcheck.specs.NodeWays.{way_of, Leaf}
 use Rattle.visits.specs.Visits.{Asks}
 use Rattle.farthest.specs.declared.visit.Visit.{Visit}
 use Rattle.farthest.specs.VisitLists.{Lists, Ascends}
@@ -11,6 +12,10 @@ use Rattle.farthest.specs.VisitLists.{Lists, Ascends}
 -- the node is a `!`
 abbrev pub IsDenial : List Shape → ℕ → Type 0
 IsDenial nodes n = (k : ℕ) × (slice_get nodes n ≡ Some (Not k))
+
+-- the node has no operands
+abbrev pub IsLeaf : List Shape → ℕ → Type 0
+IsLeaf nodes n = (shape : Shape) × (slice_get nodes n ≡ Some shape) × (way_of n shape ≡ Leaf)
 
 -- from p on the input has the literal's first k bytes, and behind them another byte than the literal, or its end
 pub record PartsAt (x : List ℕ) (p : ℕ) (literal : List ℕ) (k : ℕ) : Type 0 where

@@ -2,3 +2,4 @@ pub mod VisitLists
 pub mod Farthest
 pub mod CellAsks
 pub mod Stopped
+pub mod ToldUnit

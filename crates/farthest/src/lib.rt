@@ -6,10 +6,14 @@ mod asked;
 mod evaluated;
 mod failures;
 mod greatest;
+mod laws;
 mod order;
 mod outside;
 mod stop;
+mod told;
 mod visit;
 
 pub use failures::{Farthest, farthest_failure};
+pub use laws::{failing_leaf_stops, farthest_or_none, one_farthest, stops_fail};
+pub use told::{Told, told_unit};
 pub use visit::Visit;
