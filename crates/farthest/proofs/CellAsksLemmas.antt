@@ -1,18 +1,17 @@
 -- The cells of all that was evaluated say what each pair asks for.
 -- Serves: farthest_failure
-use Rattle.std.proofs.Common.{◌≡◌, ◌⊎◌, inl, inr, ℕ, false, List, ◌∷◌, Some, refl, sym, subst}
+use Rattle.std.proofs.Common.{◌≡◌, inl, inr, ℕ, false, List, Some, refl, sym, subst}
 use Rattle.std.specs.Prelude.{slice_get}
 use Rattle.pegread.specs.Pattern.{Rule}
 use Rattle.pegread.specs.PegViews.{rules_of}
 use Rattle.gramcheck.specs.Grammar.{Grammar, IsSoundGrammar}
 use Rattle.gramcheck.specs.Nodes as node
 use Rattle.gramcheck.specs.Nodes.{Shape, shapes_of}
-use Rattle.memo.specs.declared.found.Found.{Found}
 use Rattle.memo.specs.declared.found.Found.TheVariants.{Failed, Took}
 use Rattle.memo.specs.Entries.{found_at}
 use Rattle.visits.specs.CellOutcomes.{HasCell}
 use Rattle.visits.specs.Visits.{NodeTakes, NodeFails, AsksMember, member_here, member_later, AsksAlternative}
-use Rattle.visits.specs.Visits.{alternative_here, alternative_later, AsksBy, Asks, Visits, asked}
+use Rattle.visits.specs.Visits.{alternative_here, alternative_later, AsksBy, Visits, asked}
 use Rattle.desk.specs.Desk.{View, IsDone}
 use Rattle.desk.proofs.HaveTakenLemmas.{ends_alike, not_both, nor_both, takes_by, fails_by}
 use Rattle.farthest.specs.CellAsks.{WalksTo, walk_here, walk_later, TriesTo, try_here, try_later, CellAsksBy}

@@ -1,16 +1,15 @@
 -- Members and alternatives that the cells ask for, one after the other.
 -- Serves: farthest_failure
 use Rattle.std.proofs.Common.{◌≡◌, ◌⊎◌, inl, inr, ℕ, ◌+◌, add-one, ◌<◌, ◌≤◌, List, [], ◌∷◌, length, drop, get_or, Some}
-use Rattle.std.proofs.Common.{refl, sym, ◌∙◌, subst}
+use Rattle.std.proofs.Common.{refl, subst}
 use Rattle.std.proofs.Math.Seq.{drop-cons}
 use Rattle.std.proofs.lemmas.List.{drop_all}
-use Rattle.memo.specs.declared.found.Found.{Found}
 use Rattle.memo.specs.declared.found.Found.TheVariants.{Failed, Took}
 use Rattle.memo.specs.Entries.{Entry, found_at}
 use Rattle.farthest.specs.declared.visit.Visit.{Visit}
-use Rattle.farthest.specs.VisitLists.{Adds}
+use Rattle.farthest.specs.VisitLists.{AddsVisits}
 use Rattle.farthest.specs.CellAsks.{WalksTo, walk_here, walk_later, TriesTo, try_here, try_later}
-use Rattle.farthest.proofs.AddsLemmas.{AddsBut, ends_adding, goes_adding, adds_alike, adds_both}
+use Rattle.farthest.proofs.AddsVisitsLemmas.{AddsBut, ends_adding, goes_adding, adds_alike, adds_both}
 
 pub front_at : (ms : List ℕ) (i : ℕ) → i < length ms → drop i ms ≡ get_or ms i 0 ∷ drop (i + 1) ms
 front_at ms i lt = rw (add-one, drop-cons ms i 0) refl
@@ -47,7 +46,7 @@ module _ (cells : List Entry) where
   no_try t = elim t [ ]
 
   module _ (Whole : ℕ → ℕ → Type 0) (old mid new : List Visit) (ls rest : List ℕ) (k p : ℕ) (is : ls ≡ k ∷ rest)
-      (adds : Adds (One k p) mid new) where
+      (adds : AddsVisits (One k p) mid new) where
     walk_front : AddsBut Whole (WalksTo cells ls p) old mid → AddsBut Whole (WalksTo cells (k ∷ rest) p) old mid
     walk_front a = subst (λ v. AddsBut Whole (WalksTo cells v p) old mid) is a
 
@@ -61,7 +60,7 @@ module _ (cells : List Entry) where
         ])
 
     pub walk_stops : ((r : ℕ) → found_at cells k p ≡ Some (Took r) → ⊥) → AddsBut Whole (WalksTo cells ls p) old mid
-        → Adds Whole old new
+        → AddsVisits Whole old new
     walk_stops none a = ends_adding (goes_adding {Next = λ m q. ⊥} (walk_front a) adds (walk_one k p rest)
         (λ m q w. absurd w)
         (λ m q w. elim (walk_parts w) [
@@ -85,7 +84,7 @@ module _ (cells : List Entry) where
           | inr later ↦ inr (later.1, w.1)
         ])
 
-    pub try_stops : (found_at cells k p ≡ Some Failed → ⊥) → AddsBut Whole (Tries ls) old mid → Adds Whole old new
+    pub try_stops : (found_at cells k p ≡ Some Failed → ⊥) → AddsBut Whole (Tries ls) old mid → AddsVisits Whole old new
     try_stops none a = ends_adding (goes_adding {Next = λ m q. ⊥} (try_front a) adds
         (λ m q o. (try_one k p rest m o.0, o.1)) (λ m q w. absurd w)
         (λ m q w. elim (try_parts w.0) [
@@ -94,24 +93,24 @@ module _ (cells : List Entry) where
         ])) (λ m q w. w)
 
   pub walk_ends : {Whole : ℕ → ℕ → Type 0} {old new : List Visit} {ls : List ℕ} {p : ℕ} → ls ≡ []
-      → AddsBut Whole (WalksTo cells ls p) old new → Adds Whole old new
+      → AddsBut Whole (WalksTo cells ls p) old new → AddsVisits Whole old new
   walk_ends {p = p} is a = ends_adding a (λ m q w. no_walk (subst (λ v. WalksTo cells v p m q) is w))
 
   pub try_ends : {Whole : ℕ → ℕ → Type 0} {old new : List Visit} {ls : List ℕ} {p : ℕ} → ls ≡ []
-      → AddsBut Whole (λ m q. TriesTo cells p ls m × (q ≡ p)) old new → Adds Whole old new
+      → AddsBut Whole (λ m q. TriesTo cells p ls m × (q ≡ p)) old new → AddsVisits Whole old new
   try_ends {p = p} is a = ends_adding a (λ m q w. no_try (subst (λ v. TriesTo cells p v m) is w.0))
 
   -- what a repetition asks for: its operand, and where that ends the repetition again
-  module _ (k s p : ℕ) (old mid : List Visit) (adds : Adds (One k p) old mid) where
+  module _ (k s p : ℕ) (old mid : List Visit) (adds : AddsVisits (One k p) old mid) where
     abbrev Turns : ℕ → ℕ → Type 0
     Turns m q = One k p m q ⊎ ((m ≡ s) × (found_at cells k p ≡ Some (Took q)))
 
-    pub turn_on : (new : List Visit) (r : ℕ) → found_at cells k p ≡ Some (Took r) → Adds (One s r) mid new
-        → Adds Turns old new
+    pub turn_on : (new : List Visit) (r : ℕ) → found_at cells k p ≡ Some (Took r) → AddsVisits (One s r) mid new
+        → AddsVisits Turns old new
     turn_on new r h more = adds_alike (adds_both adds more)
-        (λ m q a. elim a [ | inl is ↦ inl is | inr is ↦ inr (is.0, rw is.1 h) ])
-        (λ m q a. elim a [ | inl is ↦ inl is | inr is ↦ inr (is.0, cc (is.1, h)) ])
+        (λ m q a. elim a [ inl is ↦ inl is | inr is ↦ inr (is.0, rw is.1 h) ])
+        (λ m q a. elim a [ inl is ↦ inl is | inr is ↦ inr (is.0, cc (is.1, h)) ])
 
-    pub turn_stops : ((r : ℕ) → found_at cells k p ≡ Some (Took r) → ⊥) → Adds Turns old mid
+    pub turn_stops : ((r : ℕ) → found_at cells k p ≡ Some (Took r) → ⊥) → AddsVisits Turns old mid
     turn_stops none = adds_alike adds (λ m q a. inl a)
-        (λ m q a. elim a [ | inl is ↦ is | inr is ↦ absurd (none q is.1) ])
+        (λ m q a. elim a [ inl is ↦ is | inr is ↦ absurd (none q is.1) ])

@@ -1,6 +1,6 @@
 -- The plain machine, run to its end.
 -- Serves: farthest_failure
-use Rattle.std.proofs.Common.{◌≡◌, inl, inr, ℕ, ◌+◌, ◌-◌, ◌*◌, ◌<◌, ◌≤◌, false, List, length, Some, None, ap, arith}
+use Rattle.std.proofs.Common.{inl, inr, ℕ, ◌+◌, ◌-◌, ◌*◌, ◌<◌, ◌≤◌, false, List, length, Some, None, ap, arith}
 use Rattle.std.proofs.lemmas.List.{length-map}
 use Rattle.gramcheck.specs.Grammar.{Grammar, IsSoundGrammar}
 use Rattle.gramcheck.specs.Nodes.{shape_of}

@@ -1,18 +1,18 @@
 -- A leaf's comparison fails exactly where the leaf does.
 -- Serves: stops_fail, failing_leaf_stops
-use Rattle.std.proofs.Common.{◌≡◌, ◌⊎◌, inl, inr, ℕ, zero, suc, ◌+◌, ◌<◌, ◌≤◌, Bool, true, false, ◌&&◌, ◌==◌, List, [], ◌∷◌}
+use Rattle.std.proofs.Common.{◌≡◌, ℕ, zero, suc, ◌+◌, ◌<◌, Bool, true, false, ◌&&◌, ◌==◌, List, [], ◌∷◌}
 use Rattle.std.proofs.Common.{length, drop, Option, Some, None, refl, sym, ◌∙◌, ap, subst, arith}
 use Rattle.std.specs.Prelude.{slice_get}
-use Rattle.std.proofs.lemmas.Bool.{eqb-true, eq-eqb, eqb-false}
+use Rattle.std.proofs.lemmas.Bool.{eqb-true, eqb-false}
 use Rattle.pegread.specs.Pattern as expr
 use Rattle.pegread.specs.Pattern.{Pattern, Rule}
 use Rattle.gramcheck.specs.Nodes as node
 use Rattle.gramcheck.specs.Nodes.{Shape, Spells}
-use Rattle.gramcheck.specs.Outcome.{Fails, begins_with, compared, looked_at, Gives, any_at_end, set_fails, set_at_end}
+use Rattle.gramcheck.specs.Outcome.{Fails, begins_with, Gives, any_at_end, set_fails, set_at_end}
 use Rattle.gramcheck.specs.Outcome.{bytes_fail}
 use Rattle.gramcheck.specs.NodeWays.{way_of, Leaf}
 use Rattle.gramcheck.proofs.HasShapeLemmas.{has_shape}
-use Rattle.farthest.specs.Farthest.{PartsAt, StopsBy, Stops, IsLeaf}
+use Rattle.farthest.specs.Farthest.{PartsAt, StopsBy, LeafStops, IsLeafNode}
 
 -- what stands behind the first p bytes
 pub get_drop : (x : List ℕ) (p i : ℕ) → slice_get (drop p x) i ≡ slice_get x (p + i)
@@ -46,11 +46,15 @@ record Parted (t bs : List ℕ) : Type 0 where
   pub differ : slice_get t count ≡ slice_get bs count → ⊥
 
 -- a text that does not begin with a literal has some of its first bytes, and not the next
-parted : (t bs : List ℕ) → begins_with t bs ≡ false → Parted t bs
-parted t [] h = absurd (cc h)
-parted [] (b ∷ bs) h = record { count = 0; inside = omega arith; agree = λ i lt. absurd (omega arith);
-  differ = λ is. cc is; }
-parted (c ∷ t) (b ∷ bs) h = by (c == b) refl h (λ g. parted t bs g)
+parted_text : (t bs : List ℕ) → begins_with t bs ≡ false → Parted t bs
+parted_text t [] h = absurd (cc h)
+parted_text [] (b ∷ bs) h = record {
+  count = 0;
+  inside = omega arith;
+  agree = λ i lt. absurd (omega arith);
+  differ = λ is. cc is;
+}
+parted_text (c ∷ t) (b ∷ bs) h = by (c == b) refl h (λ g. parted_text t bs g)
   where
     agreeing : (q : Parted t bs) → c ≡ b → (i : ℕ) → i < suc q.count → slice_get (c ∷ t) i ≡ slice_get (b ∷ bs) i
     agreeing q same zero lt = ap Some same
@@ -58,12 +62,21 @@ parted (c ∷ t) (b ∷ bs) h = by (c == b) refl h (λ g. parted t bs g)
 
     by : (v : Bool) → (c == b) ≡ v → (v && begins_with t bs) ≡ false → (begins_with t bs ≡ false → Parted t bs)
         → Parted (c ∷ t) (b ∷ bs)
-    by true is g later = let q = later g in record { count = suc q.count; inside = omega (arith, q.inside);
-      agree = agreeing q (eqb-true c b is); differ = q.differ; }
-    by false is g later = record { count = 0; inside = omega arith; agree = λ i lt. absurd (omega arith);
-      differ = λ same. eqb-false c b is (cc same); }
+    by true is g later = let q = later g in record {
+      count = suc q.count;
+      inside = omega (arith, q.inside);
+      agree = agreeing q (eqb-true c b is);
+      differ = q.differ;
+    }
+    by false is g later = record {
+      count = 0;
+      inside = omega arith;
+      agree = λ i lt. absurd (omega arith);
+      differ = λ same. eqb-false c b is (cc same);
+    }
 
-module _ (rules : List Rule) (nodes : List Shape) (x : List ℕ) (n p : ℕ) (e : Pattern) (s : Spells rules nodes n e) where
+module _ (rules : List Rule) (nodes : List Shape) (x : List ℕ) (n p : ℕ) (e : Pattern)
+    (s : Spells rules nodes n e) where
   as_shape : {k : ℕ} {d : Pattern} → e ≡ d → Gives rules x d p Fails k → (k : ℕ) × Gives rules x e p Fails k
   as_shape {k = k} is g = (k, subst (λ v. Gives rules x v p Fails k) (sym is) g)
 
@@ -95,7 +108,7 @@ module _ (rules : List Rule) (nodes : List Shape) (x : List ℕ) (n p : ℕ) (e 
   fails_by node.Open at f h = absurd h
   fails_by node.Close at f h = absurd h
 
-  pub stop_fails : (f : ℕ) → Stops nodes x n p f → (k : ℕ) × Gives rules x e p Fails k
+  pub stop_fails : (f : ℕ) → LeafStops nodes x n p f → (k : ℕ) × Gives rules x e p Fails k
   stop_fails f h = fails_by h.shape h.at f h.by
 
   any_stops : {k : ℕ} → Gives rules x expr.Any p Fails k → slice_get x p ≡ None
@@ -108,11 +121,14 @@ module _ (rules : List Rule) (nodes : List Shape) (x : List ℕ) (n p : ℕ) (e 
   set_stops (set_at_end h) b is = absurd (cc (h, is))
 
   bytes_stop : {bs : List ℕ} {k : ℕ} → Gives rules x (expr.Bytes bs) p Fails k → (k : ℕ) × PartsAt x p bs k
-  bytes_stop {bs = bs} (bytes_fail h) = let q = parted (drop p x) bs h in (q.count, record {
-    inside = q.inside;
-    agree = λ i lt. sym (get_drop x p i) ∙ q.agree i lt;
-    differ = λ is. q.differ (get_drop x p q.count ∙ is);
-  })
+  bytes_stop {bs = bs} (bytes_fail h) = let q = parted_text (drop p x) bs h in (
+    q.count,
+    record {
+      inside = q.inside;
+      agree = λ i lt. sym (get_drop x p i) ∙ q.agree i lt;
+      differ = λ is. q.differ (get_drop x p q.count ∙ is);
+    },
+  )
 
   no_act : {t : List ℕ} {k : ℕ} → Gives rules x (expr.Act t) p Fails k → ⊥
   no_act g = elim g [ ]
@@ -147,6 +163,6 @@ module _ (rules : List Rule) (nodes : List Shape) (x : List ℕ) (n p : ℕ) (e 
   stops_by node.Close at way k g =
       absurd (no_close (subst (λ v. Gives rules x v p Fails k) (has_shape rules nodes s node.Close at) g))
 
-  pub failing_stops : (k : ℕ) → IsLeaf nodes n → Gives rules x e p Fails k → (f : ℕ) × Stops nodes x n p f
+  pub failing_stops : (k : ℕ) → IsLeafNode nodes n → Gives rules x e p Fails k → (f : ℕ) × LeafStops nodes x n p f
   failing_stops k leaf g = let by = stops_by leaf.0 leaf.1 leaf.2 k g in
       (by.0, record { shape = leaf.0; at = leaf.1; by = by.1 })

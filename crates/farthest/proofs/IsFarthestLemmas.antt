@@ -1,22 +1,22 @@
 -- The farthest failing comparison, of the pairs that are asked for outside of `!`.
 -- Serves: farthest_failure
-use Rattle.std.proofs.Common.{◌≡◌, ◌↔◌, ℕ, List, Some, None}
+use Rattle.std.proofs.Common.{◌↔◌, ℕ, List, Some, None}
 use Rattle.pegread.specs.Pattern.{Rule}
 use Rattle.gramcheck.specs.Nodes.{Shape}
 use Rattle.farthest.specs.declared.visit.Visit.{Visit}
-use Rattle.farthest.specs.Farthest.{Stops, Outside, NoneFails, IsFarthest}
-use Rattle.farthest.specs.Stopped.{IsGreatest}
-use Rattle.farthest.specs.VisitLists.{Lists, Ascends}
-use Rattle.farthest.proofs.AddsLemmas.{visit}
+use Rattle.farthest.specs.Farthest.{LeafStops, Outside, NoneFails, IsFarthest}
+use Rattle.farthest.specs.GreatestStop.{IsGreatest}
+use Rattle.farthest.specs.VisitLists.{ListsVisit, Ascends}
+use Rattle.farthest.proofs.AddsVisitsLemmas.{visit}
 
 module _ (rules : List Rule) (nodes : List Shape) (bodies x : List ℕ) (start : ℕ) (seen : List Visit)
-    (listed : (v : Visit) → Lists seen v ↔ Outside rules nodes bodies x start v.node v.place) where
+    (listed : (v : Visit) → ListsVisit seen v ↔ Outside rules nodes bodies x start v.node v.place) where
   pub none_fails : IsGreatest nodes x seen None → NoneFails rules nodes bodies x start
   none_fails none n p f h = none (visit n p) f ((listed (visit n p)).1 h.0) h.1
 
   pub is_farthest : (f : ℕ) (stopped expected : List Visit) → IsGreatest nodes x seen (Some f)
-      → ((v : Visit) → Lists stopped v ↔ (Lists seen v × Stops nodes x v.node v.place f))
-      → Ascends expected → ((v : Visit) → Lists expected v ↔ Lists stopped v)
+      → ((v : Visit) → ListsVisit stopped v ↔ (ListsVisit seen v × LeafStops nodes x v.node v.place f))
+      → Ascends expected → ((v : Visit) → ListsVisit expected v ↔ ListsVisit stopped v)
       → IsFarthest rules nodes bodies x start f expected
   is_farthest f stopped expected greatest stops ordered same = record {
     some = (

@@ -1,4 +1,4 @@
-pub mod AddsLemmas
+pub mod AddsVisitsLemmas
 pub mod CellWalksLemmas
 pub mod CellAsksLemmas
 pub mod EvaluatedLemmas

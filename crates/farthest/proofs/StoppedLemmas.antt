@@ -1,7 +1,8 @@
 -- Of pairs those whose comparison fails.
 -- Serves: farthest_failure
-use Rattle.std.proofs.Common.{◌≡◌, ◌⊎◌, inl, inr, ◌↔◌, ℕ, ◌+◌, ◌<◌, ◌≤◌, List, [], ◌∷◌, ◌++◌, length, Option, Some, None}
-use Rattle.std.proofs.Common.{IfSome, IfNone, refl, sym, ◌∙◌, ap, subst, arith}
+use Rattle.std.proofs.Common.{◌≡◌, ◌⊎◌, inl, inr, ◌↔◌, ℕ, ◌+◌, ◌<◌, ◌≤◌, List, [], ◌∷◌, ◌++◌, length, Option, Some}
+use Rattle.std.proofs.Common.{None}
+use Rattle.std.proofs.Common.{IfSome, sym, ◌∙◌, ap, subst, arith}
 use Rattle.std.specs.Prelude.{slice_get}
 use Rattle.std.proofs.lemmas.Bool.{cases_order, cases_lt}
 use Rattle.std.proofs.lemmas.Option.{slice_get_within}
@@ -10,11 +11,11 @@ use Rattle.gramcheck.specs.Nodes as node
 use Rattle.gramcheck.specs.Nodes.{Shape, shape_of, shapes_of}
 use Rattle.pegmatch.proofs.NodeShapeLemmas.{shape_at}
 use Rattle.farthest.specs.declared.visit.Visit.{Visit}
-use Rattle.farthest.specs.Farthest.{PartsAt, StopsBy, Stops}
-use Rattle.farthest.specs.Stopped.{IsGreatest}
-use Rattle.farthest.specs.VisitLists.{Lists, AreOnce}
+use Rattle.farthest.specs.Farthest.{PartsAt, StopsBy, LeafStops}
+use Rattle.farthest.specs.GreatestStop.{IsGreatest}
+use Rattle.farthest.specs.VisitLists.{ListsVisit, AreOnce}
 use Rattle.gramcheck.proofs.AreCutsLemmas.{get_new}
-use Rattle.farthest.proofs.AddsLemmas.{adds_last, get_kept, get_cases}
+use Rattle.farthest.proofs.AddsVisitsLemmas.{adds_last, get_kept, get_cases}
 
 parts_once : (x : List ℕ) (p : ℕ) (bs : List ℕ) (k j : ℕ) → PartsAt x p bs k → PartsAt x p bs j → k ≡ j
 parts_once x p bs k j a b = by (cases_order k j)
@@ -27,7 +28,8 @@ parts_once x p bs k j a b = by (cases_order k j)
 -- a comparison fails at one byte
 stops_by_once : (x : List ℕ) (shape : Shape) (p f h : ℕ) → StopsBy x shape p f → StopsBy x shape p h → f ≡ h
 stops_by_once x node.Any p f h a b = a.1 ∙ sym b.1
-stops_by_once x (node.Bytes bs) p f h a b = let same = parts_once x p bs a.0 b.0 a.1 b.1 in omega (arith, same, a.2, b.2)
+stops_by_once x (node.Bytes bs) p f h a b = let same = parts_once x p bs a.0 b.0 a.1 b.1 in
+    omega (arith, same, a.2, b.2)
 stops_by_once x (node.Set s) p f h a b = a.1 ∙ sym b.1
 stops_by_once x (node.Name id) p f h a b = absurd a
 stops_by_once x (node.Seq ms) p f h a b = absurd a
@@ -41,24 +43,25 @@ stops_by_once x (node.Act t) p f h a b = absurd a
 stops_by_once x node.Open p f h a b = absurd a
 stops_by_once x node.Close p f h a b = absurd a
 
-pub stops_once : {nodes : List Shape} {x : List ℕ} {n p f h : ℕ} → Stops nodes x n p f → Stops nodes x n p h → f ≡ h
+pub stops_once : {nodes : List Shape} {x : List ℕ} {n p f h : ℕ} → LeafStops nodes x n p f → LeafStops nodes x n p h
+    → f ≡ h
 stops_once {x = x} {p = p} {f = f} {h = h} a b =
     let same : b.shape ≡ a.shape = cc (b.at, a.at) in
     stops_by_once x a.shape p f h a.by (subst (λ v. StopsBy x v p h) same b.by)
 
 -- what was found for a node's own comparison
 module _ (nodes : List Node) (x : List ℕ) (n p : ℕ) (code : Node) (at : slice_get nodes n ≡ Some code) where
-  pub found_stops : {f : ℕ} → StopsBy x (shape_of code) p f → Stops (shapes_of nodes) x n p f
+  pub found_stops : {f : ℕ} → StopsBy x (shape_of code) p f → LeafStops (shapes_of nodes) x n p f
   found_stops by = record { shape = shape_of code; at = shape_at nodes n code at; by = by }
 
-  pub none_stops : ((f : ℕ) → StopsBy x (shape_of code) p f → ⊥) → (f : ℕ) → Stops (shapes_of nodes) x n p f → ⊥
+  pub none_stops : ((f : ℕ) → StopsBy x (shape_of code) p f → ⊥) → (f : ℕ) → LeafStops (shapes_of nodes) x n p f → ⊥
   none_stops none f s =
       let same : s.shape ≡ shape_of code = cc (s.at, shape_at nodes n code at) in
       none f (subst (λ v. StopsBy x v p f) same s.by)
 
 module _ (nodes : List Shape) (x : List ℕ) (vs : List Visit) where
   abbrev At : Visit → ℕ → Type 0
-  At v f = Stops nodes x v.node v.place f
+  At v f = LeafStops nodes x v.node v.place f
 
   -- the greatest byte at which the comparison of one of the first i pairs fails
   abbrev pub GreatestBelow : ℕ → Option ℕ → Type 0
@@ -91,7 +94,8 @@ module _ (nodes : List Shape) (x : List ℕ) (vs : List Visit) where
 
     pub greatest_more : (o : Option ℕ) (f r : ℕ) → At v f → f ≤ r → IfSome o (λ h. h ≤ r)
         → (r ≡ f) ⊎ (o ≡ Some r) → GreatestBelow i o → GreatestBelow (i + 1) (Some r)
-    greatest_more o f r here_stops own other is g = (one o is g, λ k u h lt at s. by o other g k u h at lt s (cases_lt k i))
+    greatest_more o f r here_stops own other is g =
+        (one o is g, λ k u h lt at s. by o other g k u h at lt s (cases_lt k i))
       where
         one : (o : Option ℕ) → (r ≡ f) ⊎ (o ≡ Some r) → GreatestBelow i o → (k : ℕ) × (u : Visit) × (k < i + 1)
             × (slice_get vs k ≡ Some u) × At u r
@@ -121,13 +125,16 @@ module _ (nodes : List Shape) (x : List ℕ) (vs : List Visit) where
 
   -- those of the first i pairs whose comparison fails at byte f
   pub record AreStopped (f i : ℕ) (stopped : List Visit) : Type 0 where
-    pub only : (v : Visit) → Lists stopped v → (k : ℕ) × (k < i) × (slice_get vs k ≡ Some v) × At v f
-    pub all : (k : ℕ) (v : Visit) → k < i → slice_get vs k ≡ Some v → At v f → Lists stopped v
+    pub only : (v : Visit) → ListsVisit stopped v → (k : ℕ) × (k < i) × (slice_get vs k ≡ Some v) × At v f
+    pub all : (k : ℕ) (v : Visit) → k < i → slice_get vs k ≡ Some v → At v f → ListsVisit stopped v
     pub once : AreOnce vs → AreOnce stopped
 
   pub stopped_begins : (f : ℕ) → AreStopped f 0 []
-  stopped_begins f = record { only = λ v h. absurd (cc h.1); all = λ k v lt h s. absurd (omega arith);
-    once = λ o i j v h g. absurd (cc h); }
+  stopped_begins f = record {
+    only = λ v h. absurd (cc h.1);
+    all = λ k v lt h s. absurd (omega arith);
+    once = λ o i j v h g. absurd (cc h);
+  }
 
   module _ (f i : ℕ) (v : Visit) (here : slice_get vs i ≡ Some v) (stopped : List Visit) where
     pub stopped_same : (At v f → ⊥) → AreStopped f i stopped → AreStopped f (i + 1) stopped
@@ -137,7 +144,8 @@ module _ (nodes : List Shape) (x : List ℕ) (vs : List Visit) where
       once = a.once;
     }
       where
-        by : (k : ℕ) (u : Visit) → k < i + 1 → slice_get vs k ≡ Some u → At u f → (k < i) ⊎ (i ≤ k) → Lists stopped u
+        by : (k : ℕ) (u : Visit) → k < i + 1 → slice_get vs k ≡ Some u → At u f → (k < i) ⊎ (i ≤ k)
+            → ListsVisit stopped u
         by k u lt h s (inl less) = a.all k u less h s
         by k u lt h s (inr le) = absurd (none (subst (λ z. At z f) (is_last i v here k u h le lt) s))
 
@@ -152,17 +160,17 @@ module _ (nodes : List Shape) (x : List ℕ) (vs : List Visit) where
     }
       where
         by : (k : ℕ) (u : Visit) → k < i + 1 → slice_get vs k ≡ Some u → At u f → (k < i) ⊎ (i ≤ k)
-            → Lists (stopped ++ v ∷ []) u
+            → ListsVisit (stopped ++ v ∷ []) u
         by k u lt h s (inl less) = let l = a.all k u less h s in (l.0, get_kept stopped v u l.0 l.1)
         by k u lt h s (inr le) =
             (length stopped, get_new stopped v ∙ ap Some (sym (is_last i v here k u h le lt)))
 
-        new : AreOnce vs → Lists stopped v → ⊥
+        new : AreOnce vs → ListsVisit stopped v → ⊥
         new o h = let there = a.only v h in
             let same = o there.0 i v there.2 here in omega (arith, same, there.1)
 
   pub stopped_ends : (f i : ℕ) (stopped : List Visit) → length vs ≤ i → AreStopped f i stopped → (v : Visit)
-      → Lists stopped v ↔ (Lists vs v × At v f)
+      → ListsVisit stopped v ↔ (ListsVisit vs v × At v f)
   stopped_ends f i stopped le a v = (
     λ h. let o = a.only v h in ((o.0, o.2), o.3),
     λ h. a.all h.0.0 v (omega (arith, slice_get_within vs h.0.0 v h.0.1)) h.0.1 h.1,

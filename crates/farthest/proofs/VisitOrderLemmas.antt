@@ -1,7 +1,7 @@
 -- Pairs that are sorted.
 -- Serves: farthest_failure
-use Rattle.std.proofs.Common.{◌≡◌, ◌⊎◌, inl, inr, ℕ, zero, suc, ◌+◌, ◌<◌, ◌≤◌, Bool, true, false, cond, ◌&&◌, ◌==◌}
-use Rattle.std.proofs.Common.{nat_lt, List, [], ◌∷◌, length, get_or, Some, None, refl, sym, ◌∙◌, ap, subst, arith, add-one}
+use Rattle.std.proofs.Common.{◌≡◌, ◌⊎◌, inl, inr, ℕ, zero, suc, ◌<◌, ◌≤◌, Bool, true, false, cond, ◌&&◌, ◌==◌}
+use Rattle.std.proofs.Common.{nat_lt, List, [], ◌∷◌, get_or, Some, refl, sym, ◌∙◌, ap, subst, arith, add-one}
 use Rattle.std.proofs.Common.{Contains, IsPermutation}
 use Rattle.std.specs.Prelude.{slice_get}
 use Rattle.std.specs.List.{IsDistinct, AllByRecursion}
@@ -14,8 +14,8 @@ use Rattle.std.proofs.lemmas.Option.{slice_get_within, get_or_from_slice_get, sl
 use Rattle.std.specs.declared.cmp.Ordering.{Ordering}
 use Rattle.std.specs.declared.cmp.Ordering.TheVariants.{Less, Equal, Greater}
 use Rattle.farthest.specs.declared.visit.Visit.{Visit}
-use Rattle.farthest.specs.VisitLists.{Lists, StandsBefore, Ascends, AreOnce}
-use Rattle.farthest.proofs.AddsLemmas.{is_visit}
+use Rattle.farthest.specs.VisitLists.{ListsVisit, StandsBefore, Ascends, AreOnce}
+use Rattle.farthest.proofs.AddsVisitsLemmas.{is_visit}
 
 abbrev pub visit_cmp : Visit → Visit → Ordering
 visit_cmp v w = ordering_then (nat_cmp v.node w.node) (nat_cmp v.place w.place)
@@ -36,16 +36,16 @@ pair_flips : (v w : Visit) → same_pair v w ≡ same_pair w v
 pair_flips v w = λ i. eqb_flips v.node w.node i && eqb_flips v.place w.place i
 
 -- members by place and by `Contains`
-contained : (vs : List Visit) (v : Visit) → Lists vs v → Contains vs v
-contained vs v h = (h.0, slice_get_within vs h.0 v h.1, get_or_from_slice_get vs h.0 v v h.1)
+contains_listed : (vs : List Visit) (v : Visit) → ListsVisit vs v → Contains vs v
+contains_listed vs v h = (h.0, slice_get_within vs h.0 v h.1, get_or_from_slice_get vs h.0 v v h.1)
 
-listed : (vs : List Visit) (v : Visit) → Contains vs v → Lists vs v
-listed vs v h = (h.0, slice_get-get_or vs h.0 v h.1 ∙ ap Some h.2)
+lists_contained : (vs : List Visit) (v : Visit) → Contains vs v → ListsVisit vs v
+lists_contained vs v h = (h.0, slice_get-get_or vs h.0 v h.1 ∙ ap Some h.2)
 
-pub permutation_lists : (vs ws : List Visit) → IsPermutation vs ws → (v : Visit) → Lists vs v → Lists ws v
-permutation_lists vs ws p v h = listed ws v (Contains-permutation vs ws v p (contained vs v h))
+pub permutation_lists : (vs ws : List Visit) → IsPermutation vs ws → (v : Visit) → ListsVisit vs v → ListsVisit ws v
+permutation_lists vs ws p v h = lists_contained ws v (Contains-permutation vs ws v p (contains_listed vs v h))
 
-pub permutation_back : (vs ws : List Visit) → IsPermutation vs ws → (v : Visit) → Lists ws v → Lists vs v
+pub permutation_back : (vs ws : List Visit) → IsPermutation vs ws → (v : Visit) → ListsVisit ws v → ListsVisit vs v
 permutation_back vs ws p v h = permutation_lists ws vs (IsPermutation-sym vs ws p) v h
 
 -- no pair is there twice, by recursion
@@ -110,29 +110,29 @@ not_below a b c d h = by (nat_lt a b) (a == b) (nat_lt c d) refl refl refl h
     by false true false p q r h = inr (sym (eqb-true a b q), ltb-false c d r)
 
 module _ (vs : List Visit) (sorted : IsSorted visit_cmp vs) where
-  adjacent : (k : ℕ) (v w : Visit) → slice_get vs k ≡ Some v → slice_get vs (suc k) ≡ Some w → AtMost v w
-  adjacent k v w h g =
+  adjacent_at_most : (k : ℕ) (v w : Visit) → slice_get vs k ≡ Some v → slice_get vs (suc k) ≡ Some w → AtMost v w
+  adjacent_at_most k v w h g =
       let lt = slice_get_within vs (suc k) w g in
       let first = get_or_from_slice_get vs k v v h in
       let second = get_or_from_slice_get vs (suc k) w v g in
       let is = sorted k v (omega arith) (omega arith) in
       not_below w.node v.node w.place v.place (rw (add-one, first, second) at is)
 
-  far : (i j : ℕ) (v w : Visit) → i < j → slice_get vs i ≡ Some v → slice_get vs j ≡ Some w → AtMost v w
-  far i zero v w lt h g = absurd (omega arith)
-  far i (suc j) v w lt h g =
-      by (cases_lt i j) (λ less. far i j v (get_or vs j v) less h at) 
+  far_at_most : (i j : ℕ) (v w : Visit) → i < j → slice_get vs i ≡ Some v → slice_get vs j ≡ Some w → AtMost v w
+  far_at_most i zero v w lt h g = absurd (omega arith)
+  far_at_most i (suc j) v w lt h g =
+      by (cases_lt i j) (λ less. far_at_most i j v (get_or vs j v) less h at)
     where
       at : slice_get vs j ≡ Some (get_or vs j v)
       at = slice_get-get_or vs j v (let lt = slice_get_within vs (suc j) w g in omega arith)
 
       by : (i < j) ⊎ (j ≤ i) → (i < j → AtMost v (get_or vs j v)) → AtMost v w
-      by (inl less) ih = at_most_on v (get_or vs j v) w (ih less) (adjacent j (get_or vs j v) w at g)
+      by (inl less) ih = at_most_on v (get_or vs j v) w (ih less) (adjacent_at_most j (get_or vs j v) w at g)
       by (inr le) ih = let same : i ≡ j = omega arith in
-          adjacent j v w (subst (λ z. slice_get vs z ≡ Some v) same h) g
+          adjacent_at_most j v w (subst (λ z. slice_get vs z ≡ Some v) same h) g
 
   pub sorted_ascends : (olds : List Visit) → AreOnce olds → IsPermutation olds vs → Ascends vs
-  sorted_ascends olds o p i j v w lt h g = by (far i j v w lt h g) (cases_order v.place w.place)
+  sorted_ascends olds o p i j v w lt h g = by (far_at_most i j v w lt h g) (cases_order v.place w.place)
       (distinct_at vs (IsDistinct-IsPermutation same_pair pair_flips olds vs p (once_distinct olds o)) i j v w lt h g)
     where
       by : AtMost v w → (v.place ≡ w.place) ⊎ ((v.place < w.place) ⊎ (w.place < v.place)) → same_pair v w ≡ false

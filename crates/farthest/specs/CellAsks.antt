@@ -6,13 +6,13 @@ use Rattle.memo.specs.declared.found.Found.TheVariants.{Failed, Took}
 use Rattle.memo.specs.Entries.{Entry, found_at}
 
 module _ (cells : List Entry) where
-  -- a sequence at p asks for its first member there, and for each later one where the cells say that those before it end
+  -- a sequence at p asks for its first member there, and for each later one where by the cells those before it end
   pub data WalksTo : List ℕ → ℕ → ℕ → ℕ → Type 0 where
     walk_here : {m p : ℕ} {ms : List ℕ} → WalksTo (m ∷ ms) p m p
     walk_later : {k m p r q : ℕ} {ms : List ℕ} → found_at cells k p ≡ Some (Took r) → WalksTo ms r m q
         → WalksTo (k ∷ ms) p m q
 
-  -- a choice asks for its first alternative, and for each later one where the cells say that those before it fail
+  -- a choice asks for its first alternative, and for each later one where by the cells those before it fail
   pub data TriesTo (p : ℕ) : List ℕ → ℕ → Type 0 where
     try_here : {m : ℕ} {ms : List ℕ} → TriesTo p (m ∷ ms) m
     try_later : {k m : ℕ} {ms : List ℕ} → found_at cells k p ≡ Some Failed → TriesTo p ms m → TriesTo p (k ∷ ms) m

@@ -1,21 +1,21 @@
--- Where the comparisons of a start rule's evaluation fail outside of `!`, and the farthest such place (Ford 2004, section
--- 3.3: what an expression gives; a comparison is that of `any`, of a class or of a literal with the input).
-use Rattle.std.specs.Prelude.{◌≡◌, ◌↔◌, ℕ, ◌+◌, ◌<◌, ◌≤◌, Bool, false, List, length, slice_get, Some, None}
+-- Where the comparisons of a start rule's evaluation fail outside of `!`, and the farthest such place (Ford 2004,
+-- section 3.3: what an expression gives; a comparison is that of `.`, of a class or of a literal with the input).
+use Rattle.std.specs.Prelude.{◌≡◌, ◌↔◌, ℕ, ◌+◌, ◌<◌, ◌≤◌, false, List, length, slice_get, Some, None}
 use Rattle.pegread.specs.Pattern.{Rule}
 use Rattle.gramcheck.specs.Nodes.{Shape, Any, Bytes, Set, Name, Seq, Choice, Star, Plus, Opt, And, Not, Act, Open}
 use Rattle.gramcheck.specs.Nodes.{Close}
 use Rattle.gramcheck.specs.NodeWays.{way_of, Leaf}
 use Rattle.visits.specs.Visits.{Asks}
 use Rattle.farthest.specs.declared.visit.Visit.{Visit}
-use Rattle.farthest.specs.VisitLists.{Lists, Ascends}
+use Rattle.farthest.specs.VisitLists.{ListsVisit, Ascends}
 
 -- the node is a `!`
 abbrev pub IsDenial : List Shape → ℕ → Type 0
 IsDenial nodes n = (k : ℕ) × (slice_get nodes n ≡ Some (Not k))
 
 -- the node has no operands
-abbrev pub IsLeaf : List Shape → ℕ → Type 0
-IsLeaf nodes n = (shape : Shape) × (slice_get nodes n ≡ Some shape) × (way_of n shape ≡ Leaf)
+abbrev pub IsLeafNode : List Shape → ℕ → Type 0
+IsLeafNode nodes n = (shape : Shape) × (slice_get nodes n ≡ Some shape) × (way_of n shape ≡ Leaf)
 
 -- from p on the input has the literal's first k bytes, and behind them another byte than the literal, or its end
 pub record PartsAt (x : List ℕ) (p : ℕ) (literal : List ℕ) (k : ℕ) : Type 0 where
@@ -41,7 +41,7 @@ StopsBy x Open p f = ⊥
 StopsBy x Close p f = ⊥
 
 -- node n's own comparison at p fails at byte f
-pub record Stops (nodes : List Shape) (x : List ℕ) (n p f : ℕ) : Type 0 where
+pub record LeafStops (nodes : List Shape) (x : List ℕ) (n p f : ℕ) : Type 0 where
   pub shape : Shape
   pub at : slice_get nodes n ≡ Some shape
   pub by : StopsBy x shape p f
@@ -51,8 +51,8 @@ module _ (rules : List Rule) (nodes : List Shape) (bodies x : List ℕ) where
   abbrev pub AsksOutside : ℕ → ℕ → ℕ → ℕ → Type 0
   AsksOutside n p m q = (IsDenial nodes n → ⊥) × Asks rules nodes bodies x n p m q
 
-  -- The least set that holds the start rule's body at 0 and, with each pair that is not of a `!`, those whose outcome it
-  -- asks for.
+  -- The least set that holds the start rule's body at 0 and, with each pair that is not of a `!`, those whose outcome
+  -- it asks for.
   pub data Outside (start : ℕ) : ℕ → ℕ → Type 0 where
     first_outside : {n : ℕ} → slice_get bodies start ≡ Some n → Outside start n 0
     asked_outside : {n p m q : ℕ} → Outside start n p → AsksOutside n p m q → Outside start m q
@@ -60,7 +60,7 @@ module _ (rules : List Rule) (nodes : List Shape) (bodies x : List ℕ) where
   module _ (start : ℕ) where
     -- a comparison outside of `!` fails at byte f: that of node n at p
     abbrev pub FailsAt : ℕ → ℕ → ℕ → Type 0
-    FailsAt n p f = Outside start n p × Stops nodes x n p f
+    FailsAt n p f = Outside start n p × LeafStops nodes x n p f
 
     -- no comparison fails outside of `!`
     abbrev pub NoneFails : Type 0
@@ -72,4 +72,4 @@ module _ (rules : List Rule) (nodes : List Shape) (bodies x : List ℕ) where
       pub some : (n : ℕ) × (p : ℕ) × FailsAt n p f
       pub none_further : (n p h : ℕ) → FailsAt n p h → h ≤ f
       pub ordered : Ascends expected
-      pub exact : (v : Visit) → Lists expected v ↔ FailsAt v.node v.place f
+      pub exact : (v : Visit) → ListsVisit expected v ↔ FailsAt v.node v.place f

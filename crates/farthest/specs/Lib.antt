@@ -1,5 +1,5 @@
 pub mod VisitLists
 pub mod Farthest
 pub mod CellAsks
-pub mod Stopped
+pub mod GreatestStop
 pub mod ToldUnit

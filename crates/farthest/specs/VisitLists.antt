@@ -3,8 +3,8 @@ use Rattle.std.specs.Prelude.{◌≡◌, ◌⊎◌, ℕ, ◌<◌, ◌≤◌, Lis
 use Rattle.farthest.specs.declared.visit.Visit.{Visit}
 
 -- the pair is in the list
-abbrev pub Lists : List Visit → Visit → Type 0
-Lists vs v = (k : ℕ) × (slice_get vs k ≡ Some v)
+abbrev pub ListsVisit : List Visit → Visit → Type 0
+ListsVisit vs v = (k : ℕ) × (slice_get vs k ≡ Some v)
 
 -- v stands before w: by the node, and then by the place
 abbrev pub StandsBefore : Visit → Visit → Type 0
@@ -20,11 +20,11 @@ AreOnce vs = (i j : ℕ) (v : Visit) → slice_get vs i ≡ Some v → slice_get
 
 -- the nodes are there, and the places are of the input or its end
 abbrev pub AreWithin : ℕ → ℕ → List Visit → Type 0
-AreWithin nodes length vs = (v : Visit) → Lists vs v → (v.node < nodes) × (v.place ≤ length)
+AreWithin nodes length vs = (v : Visit) → ListsVisit vs v → (v.node < nodes) × (v.place ≤ length)
 
 -- The pairs of a set are added to a list, each once, behind what it has.
-pub record Adds (Added : ℕ → ℕ → Type 0) (old new : List Visit) : Type 0 where
+pub record AddsVisits (Added : ℕ → ℕ → Type 0) (old new : List Visit) : Type 0 where
   pub kept : (k : ℕ) (v : Visit) → slice_get old k ≡ Some v → slice_get new k ≡ Some v
-  pub only : (v : Visit) → Lists new v → Lists old v ⊎ Added v.node v.place
-  pub all : (n p : ℕ) → Added n p → Lists new (record { node = n; place = p })
+  pub only : (v : Visit) → ListsVisit new v → ListsVisit old v ⊎ Added v.node v.place
+  pub all : (n p : ℕ) → Added n p → ListsVisit new (record { node = n; place = p })
   pub once : AreOnce old → AreOnce new

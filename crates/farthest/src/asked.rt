@@ -3,7 +3,7 @@ ghost use Rattle.std.specs.Prelude.{◌≡◌, ◌⊎◌, ◌↔◌, ℕ, ◌<�
 ghost use Rattle.gramcheck.specs.Nodes.{shape_of, Name};
 ghost use Rattle.memo.specs.Entries.{found_at};
 ghost use Rattle.farthest.specs.CellAsks.{WalksTo, TriesTo, CellAsksBy};
-ghost use Rattle.farthest.specs.VisitLists.{Adds};
+ghost use Rattle.farthest.specs.VisitLists.{AddsVisits};
 
 use crate::visit::{Visit, add};
 use desk::Desk;
@@ -43,7 +43,8 @@ fn add_members(
     place: usize,
     seen: &mut IndexSet<Visit>,
 ) -> Result<(), Memory>
-    ensures { OnOk result (Adds (λ m q. WalksTo desk.now.cells members.now place m q) seen.old.keys seen.new.keys) }
+    ensures { OnOk result (AddsVisits (λ m q. WalksTo desk.now.cells members.now place m q) seen.old.keys
+        seen.new.keys) }
 {
     let mut end = place;
     for member in members {
@@ -63,8 +64,8 @@ fn add_alternatives(
     place: usize,
     seen: &mut IndexSet<Visit>,
 ) -> Result<(), Memory>
-    ensures { OnOk result (Adds (λ m q. TriesTo desk.now.cells place alternatives.now m × (q ≡ place)) seen.old.keys
-        seen.new.keys) }
+    ensures { OnOk result (AddsVisits (λ m q. TriesTo desk.now.cells place alternatives.now m × (q ≡ place))
+        seen.old.keys seen.new.keys) }
 {
     for alternative in alternatives {
         add(seen, *alternative, place)?;
@@ -83,7 +84,7 @@ fn add_turns(
     place: usize,
     seen: &mut IndexSet<Visit>,
 ) -> Result<(), Memory>
-    ensures { OnOk result (Adds (λ m q. ((m ≡ operand) × (q ≡ place)) ⊎ ((m ≡ again)
+    ensures { OnOk result (AddsVisits (λ m q. ((m ≡ operand) × (q ≡ place)) ⊎ ((m ≡ again)
         × (found_at desk.now.cells operand place ≡ Some (Found.Took q)))) seen.old.keys seen.new.keys) }
 {
     add(seen, operand, place)?;
@@ -97,7 +98,7 @@ fn add_turns(
 ///
 /// # Errors
 /// `Memory` if an allocation fails.
-#[tactic(auto, using(crate::proofs::AddsLemmas::adds_nothing))]
+#[tactic(auto, using(crate::proofs::AddsVisitsLemmas::adds_nothing))]
 pub(crate) fn add_asked(
     peg: &SoundPeg,
     desk: &Desk,
@@ -106,7 +107,7 @@ pub(crate) fn add_asked(
     seen: &mut IndexSet<Visit>,
 ) -> Result<(), Memory>
     requires { (id : ℕ) → shape_of node.now ≡ Name id → id < length peg.now.bodies }
-    ensures { OnOk result (Adds (λ m q. CellAsksBy desk.now.cells peg.now.bodies (shape_of node.now) visit.node
+    ensures { OnOk result (AddsVisits (λ m q. CellAsksBy desk.now.cells peg.now.bodies (shape_of node.now) visit.node
         visit.place m q) seen.old.keys seen.new.keys) }
 {
     let place = visit.place;

@@ -1,9 +1,9 @@
 //! Of pairs the farthest failing comparison.
 ghost use Rattle.std.specs.Prelude.{◌≡◌, ◌↔◌, ◌⊎◌, ℕ, ◌≤◌, length, Some, IfOk, IfSome};
 ghost use Rattle.gramcheck.specs.Nodes.{shapes_of};
-ghost use Rattle.farthest.specs.Farthest.{Stops};
-ghost use Rattle.farthest.specs.Stopped.{IsGreatest};
-ghost use Rattle.farthest.specs.VisitLists.{Lists, AreOnce, AreWithin};
+ghost use Rattle.farthest.specs.Farthest.{LeafStops};
+ghost use Rattle.farthest.specs.GreatestStop.{IsGreatest};
+ghost use Rattle.farthest.specs.VisitLists.{ListsVisit, AreOnce, AreWithin};
 
 use crate::stop::stop_of;
 use crate::visit::Visit;
@@ -18,13 +18,7 @@ fn farther(farthest: Option<usize>, stop: usize) -> usize
 {
     match farthest {
         None => stop,
-        Some(place) => {
-            if place < stop {
-                stop
-            } else {
-                place
-            }
-        }
+        Some(place) => { if place < stop { stop } else { place } }
     }
 }
 
@@ -54,8 +48,8 @@ pub(crate) fn stopped_at(
     place: usize,
 ) -> Result<Vec<Visit>, Memory>
     requires { AreWithin (length peg.now.nodes) (length window.now) visits.now }
-    ensures listed { IfOk result (λ stopped. (v : Visit) → Lists stopped.items v ↔ (Lists visits.now v
-        × Stops (shapes_of peg.now.nodes) window.now v.node v.place place)) }
+    ensures listed { IfOk result (λ stopped. (v : Visit) → ListsVisit stopped.items v ↔ (ListsVisit visits.now v
+        × LeafStops (shapes_of peg.now.nodes) window.now v.node v.place place)) }
     ensures once { IfOk result (λ stopped. AreOnce visits.now → AreOnce stopped.items) }
 {
     let mut stopped = Vec::new(alloc);

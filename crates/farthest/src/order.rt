@@ -1,6 +1,6 @@
 //! Pairs in the grammar's order.
 ghost use Rattle.std.specs.Prelude.{◌↔◌};
-ghost use Rattle.farthest.specs.VisitLists.{Lists, AreOnce, Ascends};
+ghost use Rattle.farthest.specs.VisitLists.{ListsVisit, AreOnce, Ascends};
 
 use crate::visit::Visit;
 
@@ -8,7 +8,7 @@ use crate::visit::Visit;
 pub(crate) fn put_in_order(visits: &mut Vec<Visit>)
     requires { AreOnce visits.old.items }
     ensures ordered { Ascends visits.new.items }
-    ensures same { (v : Visit) → Lists visits.new.items v ↔ Lists visits.old.items v }
+    ensures same { (v : Visit) → ListsVisit visits.new.items v ↔ ListsVisit visits.old.items v }
 {
     visits.sort_unstable();
 }

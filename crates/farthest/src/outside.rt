@@ -3,7 +3,7 @@ ghost use Rattle.std.specs.Prelude.{◌≡◌, ◌↔◌, ℕ, length, IfOk};
 ghost use Rattle.pegread.specs.PegViews.{rules_of};
 ghost use Rattle.gramcheck.specs.Nodes.{shapes_of};
 ghost use Rattle.farthest.specs.Farthest.{Outside};
-ghost use Rattle.farthest.specs.VisitLists.{Lists, AreOnce, AreWithin};
+ghost use Rattle.farthest.specs.VisitLists.{ListsVisit, AreOnce, AreWithin};
 
 use crate::asked::add_asked;
 use crate::evaluated::evaluate;
@@ -23,7 +23,7 @@ pub(crate) fn outside(
     peg: &SoundPeg,
     window: &[u8],
 ) -> Result<IndexSet<Visit>, Memory>
-    ensures listed { IfOk result (λ seen. (v : Visit) → Lists seen.keys v ↔ Outside (rules_of peg.now.rules)
+    ensures listed { IfOk result (λ seen. (v : Visit) → ListsVisit seen.keys v ↔ Outside (rules_of peg.now.rules)
         (shapes_of peg.now.nodes) peg.now.bodies window.now peg.now.start v.node v.place) }
     ensures once { IfOk result (λ seen. AreOnce seen.keys) }
     ensures within { IfOk result (λ seen. AreWithin (length peg.now.nodes) (length window.now) seen.keys) }

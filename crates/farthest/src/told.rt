@@ -1,6 +1,6 @@
 //! Of which unit the farthest failure is told.
 ghost use Rattle.std.specs.Prelude.{◌≡◌};
-ghost use Rattle.farthest.specs.ToldUnit.{told_of};
+ghost use Rattle.farthest.specs.ToldUnit.{told_unit_of};
 
 /// One of the last two units of a run.
 #[derive(Clone, Copy, PartialEq, Eq, Debug)]
@@ -16,7 +16,7 @@ pub enum Told {
 ///
 /// Each place is that of the unit's farthest failing comparison, in bytes from the front of the input, if it has one.
 pub fn told_unit(before: Option<u128>, last: Option<u128>) -> Told
-    ensures { result ≡ told_of before last }
+    ensures { result ≡ told_unit_of before last }
 {
     match (before, last) {
         (Some(before), Some(last)) => {

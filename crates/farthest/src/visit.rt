@@ -1,6 +1,6 @@
 //! Pairs of a node and a place.
 ghost use Rattle.std.specs.Prelude.{◌≡◌, ℕ, OnOk};
-ghost use Rattle.farthest.specs.VisitLists.{Adds};
+ghost use Rattle.farthest.specs.VisitLists.{AddsVisits};
 
 use indexmap::IndexSet;
 use ruletable::Memory;
@@ -19,7 +19,7 @@ pub struct Visit {
 /// # Errors
 /// `Memory` if an allocation fails.
 pub(crate) fn add(seen: &mut IndexSet<Visit>, node: usize, place: usize) -> Result<(), Memory>
-    ensures { OnOk result (Adds (λ m q. (m ≡ node) × (q ≡ place)) seen.old.keys seen.new.keys) }
+    ensures { OnOk result (AddsVisits (λ m q. (m ≡ node) × (q ≡ place)) seen.old.keys seen.new.keys) }
 {
     seen.insert(Visit { node, place })?;
     Ok(())

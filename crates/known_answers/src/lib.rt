@@ -12,6 +12,8 @@ mod code_points;
 #[cfg(test)]
 mod desk_units;
 #[cfg(test)]
+mod farthest_failures;
+#[cfg(test)]
 mod feed_window;
 #[cfg(test)]
 mod grammar_notes;

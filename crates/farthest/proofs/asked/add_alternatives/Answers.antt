@@ -1,4 +1,4 @@
-use Rattle.farthest.proofs.AddsLemmas.{begins_adding}
+use Rattle.farthest.proofs.AddsVisitsLemmas.{begins_adding}
 use Rattle.farthest.proofs.CellWalksLemmas.{front_at, none_left, try_on, try_stops, try_ends}
 use Rattle.farthest.proofs.asked.add_alternatives.Goals as goal
 

@@ -1,6 +1,6 @@
 use Rattle.std.proofs.Common.{◌≡◌, drop}
 use Rattle.farthest.specs.CellAsks.{TriesTo}
-use Rattle.farthest.proofs.AddsLemmas.{AddsBut}
+use Rattle.farthest.proofs.AddsVisitsLemmas.{AddsBut}
 use Rattle.farthest.proofs.asked.add_alternatives.Given as goal
 
 abbrev pub invariant-loop-alternative : goal.invariant-loop-alternative

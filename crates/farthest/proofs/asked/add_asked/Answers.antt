@@ -1,7 +1,7 @@
-use Rattle.std.proofs.Common.{refl, ap}
+use Rattle.std.proofs.Common.{ap}
 use Rattle.std.proofs.lemmas.Result.{on_ok_weaker}
 use Rattle.gramcheck.specs.Nodes.{shape_of}
-use Rattle.farthest.proofs.AddsLemmas.{adds_alike}
+use Rattle.farthest.proofs.AddsVisitsLemmas.{adds_alike}
 use Rattle.farthest.proofs.asked.add_asked.Goals as goal
 
 pub body_node-requires : goal.body_node-requires

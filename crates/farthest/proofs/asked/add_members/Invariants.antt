@@ -1,6 +1,6 @@
 use Rattle.std.proofs.Common.{drop}
 use Rattle.farthest.specs.CellAsks.{WalksTo}
-use Rattle.farthest.proofs.AddsLemmas.{AddsBut}
+use Rattle.farthest.proofs.AddsVisitsLemmas.{AddsBut}
 use Rattle.farthest.proofs.asked.add_members.Given as goal
 
 abbrev pub invariant-loop-member : goal.invariant-loop-member

@@ -1,4 +1,3 @@
-use Rattle.std.proofs.Common.{arith, ◌≡◌, length}
 use Rattle.std.proofs.lemmas.Option.{slice_get-get_or}
 use Rattle.gramcheck.specs.Nodes.{shapes_of}
 use Rattle.farthest.proofs.StoppedLemmas.{found_stops, none_stops, greatest_begins, greatest_same, greatest_more}
@@ -11,13 +10,19 @@ loop-visit-init c = greatest_begins _ _ _
 
 pub node-requires : goal.node-requires
 node-requires c =
-    (c.requires _ (c.loop-visit.visit-index, slice_get-get_or c.args.visits.now c.loop-visit.visit-index _
-    c.loop-visit-test.true)).0
+    (c.requires _ (
+      c.loop-visit.visit-index,
+      slice_get-get_or c.args.visits.now c.loop-visit.visit-index _
+          c.loop-visit-test.true,
+    )).0
 
 pub stop_of-requires : goal.stop_of-requires
 stop_of-requires c =
-    (c.requires _ (c.loop-visit.visit-index, slice_get-get_or c.args.visits.now c.loop-visit.visit-index _
-    c.loop-visit-test.true)).1
+    (c.requires _ (
+      c.loop-visit.visit-index,
+      slice_get-get_or c.args.visits.now c.loop-visit.visit-index _
+          c.loop-visit-test.true,
+    )).1
 
 pub loop-visit-preserved : goal.loop-visit-preserved
 loop-visit-preserved c = elim c.match-stop_of.branch [

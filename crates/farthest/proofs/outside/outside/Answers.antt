@@ -1,4 +1,4 @@
-use Rattle.std.proofs.Common.{arith, length, Some, ap, ◌∙◌}
+use Rattle.std.proofs.Common.{arith, Some, ap, ◌∙◌}
 use Rattle.std.proofs.lemmas.Option.{slice_get-get_or}
 use Rattle.pegmatch.proofs.NodeShapeLemmas.{shape_at}
 use Rattle.farthest.proofs.OutsideLemmas.{name_has_body, spread_begins, spread_on, spread_few, spread_whole}
@@ -13,7 +13,7 @@ visits-init c =
 pub visits-smaller : goal.visits-smaller
 visits-smaller c =
     let few = spread_few c.args.peg.now c.args.window.now c.start.ensures.sound c.visits.next c.visits.seen.keys
-        c.visits.invariant in
+    c.visits.invariant in
     omega (arith, few, c.visits-test.true)
 
 pub visits-preserved : goal.visits-preserved
@@ -26,7 +26,7 @@ visits-preserved c =
 pub node-requires : goal.node-requires
 node-requires c =
     let there = spread_within c.args.peg.now c.args.window.now c.start.ensures.sound c.visits.next c.visits.seen.keys
-        c.visits.invariant _ (c.visits.next, slice_get-get_or c.visits.seen.keys c.visits.next _ (omega arith)) in
+    c.visits.invariant _ (c.visits.next, slice_get-get_or c.visits.seen.keys c.visits.next _ (omega arith)) in
     rw c.as_slice.ensures.keys there.0
 
 pub add_asked-requires : goal.add_asked-requires

@@ -1,6 +1,5 @@
 use Rattle.std.proofs.Common.{refl}
-use Rattle.farthest.proofs.AddsLemmas.{adds_one}
-use Rattle.farthest.specs.VisitLists.{Adds}
+use Rattle.farthest.proofs.AddsVisitsLemmas.{adds_one}
 use Rattle.farthest.proofs.visit.add.Goals as goal
 
 pub returns : goal.returns

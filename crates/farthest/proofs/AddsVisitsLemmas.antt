@@ -1,14 +1,13 @@
 -- Lists of visited pairs to which pairs are added.
 -- Serves: farthest_failure
-use Rattle.std.proofs.Common.{◌≡◌, ◌⊎◌, inl, inr, ℕ, zero, suc, ◌+◌, ◌<◌, ◌≤◌, Bool, true, false, ◌&&◌, ◌||◌, ◌==◌, List}
-use Rattle.std.proofs.Common.{[], ◌∷◌, ◌++◌, length, Some, None, if◌then◌else◌, refl, sym, ◌∙◌, ap, subst, arith}
+use Rattle.std.proofs.Common.{◌≡◌, ◌⊎◌, inl, inr, ℕ, zero, suc, Bool, true, false, ◌&&◌, ◌||◌, ◌==◌, List}
+use Rattle.std.proofs.Common.{[], ◌∷◌, ◌++◌, length, Some, if◌then◌else◌, refl, sym, ◌∙◌, ap}
 use Rattle.std.specs.Prelude.{slice_get}
 use Rattle.std.specs.List.{list_any}
 use Rattle.std.proofs.lemmas.Bool.{eqb-true, eq-eqb, and_parts, and_from}
-use Rattle.std.proofs.lemmas.Option.{slice_get_within}
 use Rattle.gramcheck.proofs.AreCutsLemmas.{get_new}
 use Rattle.farthest.specs.declared.visit.Visit.{Visit}
-use Rattle.farthest.specs.VisitLists.{Lists, AreOnce, Adds}
+use Rattle.farthest.specs.VisitLists.{ListsVisit, AreOnce, AddsVisits}
 
 abbrev pub visit : ℕ → ℕ → Visit
 visit n p = record { node = n; place = p }
@@ -16,7 +15,7 @@ visit n p = record { node = n; place = p }
 pub is_visit : (v : Visit) (n p : ℕ) → v.node ≡ n → v.place ≡ p → v ≡ visit n p
 is_visit v n p a b = λ i. record { node = a i; place = b i }
 
-listed_as : (vs : List Visit) (n p m q : ℕ) → (m ≡ n) × (q ≡ p) → Lists vs (visit n p) → Lists vs (visit m q)
+listed_as : (vs : List Visit) (n p m q : ℕ) → (m ≡ n) × (q ≡ p) → ListsVisit vs (visit n p) → ListsVisit vs (visit m q)
 listed_as vs n p m q h there = (there.0, there.1 ∙ ap Some (sym (is_visit (visit m q) n p h.0 h.1)))
 
 pub get_kept : (vs : List Visit) (w v : Visit) (k : ℕ) → slice_get vs k ≡ Some v → slice_get (vs ++ w ∷ []) k ≡ Some v
@@ -35,8 +34,8 @@ get_cases (u ∷ vs) w v (suc k) h = elim (get_cases vs w v k h) [
 ]
 
 -- a pair that is not there yet goes last
-pub adds_last : (vs : List Visit) (n p : ℕ) → (Lists vs (visit n p) → ⊥)
-    → Adds (λ m q. (m ≡ n) × (q ≡ p)) vs (vs ++ visit n p ∷ [])
+pub adds_last : (vs : List Visit) (n p : ℕ) → (ListsVisit vs (visit n p) → ⊥)
+    → AddsVisits (λ m q. (m ≡ n) × (q ≡ p)) vs (vs ++ visit n p ∷ [])
 adds_last vs n p new = record {
   kept = λ k v h. get_kept vs (visit n p) v k h;
   only = λ v h. elim (get_cases vs (visit n p) v h.0 h.1) [
@@ -55,7 +54,7 @@ adds_last vs n p new = record {
     by o i j v (inr h) (inr g) = h.0 ∙ sym g.0
 
 -- a pair that is there already
-pub adds_none : (vs : List Visit) (n p : ℕ) → Lists vs (visit n p) → Adds (λ m q. (m ≡ n) × (q ≡ p)) vs vs
+pub adds_none : (vs : List Visit) (n p : ℕ) → ListsVisit vs (visit n p) → AddsVisits (λ m q. (m ≡ n) × (q ≡ p)) vs vs
 adds_none vs n p there = record {
   kept = λ k v h. h;
   only = λ v h. inl h;
@@ -72,16 +71,17 @@ module _ (test : Visit → Bool) (n p : ℕ) (tells : (k : Visit) → test k ≡
   own_test : test (visit n p) ≡ true
   own_test = tells (visit n p) ∙ and_from (n == n) (p == p) (eq-eqb n n refl) (eq-eqb p p refl)
 
-  found_in : (vs : List Visit) → list_any test vs ≡ true → Lists vs (visit n p)
+  found_in : (vs : List Visit) → list_any test vs ≡ true → ListsVisit vs (visit n p)
   found_in [] h = absurd (cc h)
   found_in (v ∷ vs) h = by (test v) refl h (λ g. found_in vs g)
     where
-      by : (b : Bool) → test v ≡ b → (b || list_any test vs) ≡ true → (list_any test vs ≡ true → Lists vs (visit n p))
-          → Lists (v ∷ vs) (visit n p)
+      by : (b : Bool) → test v ≡ b → (b || list_any test vs) ≡ true → (list_any test vs ≡ true
+          → ListsVisit vs (visit n p))
+          → ListsVisit (v ∷ vs) (visit n p)
       by true is g later = (0, ap Some (is_tested v is))
       by false is g later = let l = later g in (suc l.0, l.1)
 
-  not_found : (vs : List Visit) → list_any test vs ≡ false → Lists vs (visit n p) → ⊥
+  not_found : (vs : List Visit) → list_any test vs ≡ false → ListsVisit vs (visit n p) → ⊥
   not_found [] h (k, g) = absurd (cc g)
   not_found (v ∷ vs) h (k, g) = by (test v) refl h k g (λ q k g. not_found vs q (k, g))
     where
@@ -92,38 +92,43 @@ module _ (test : Visit → Bool) (n p : ℕ) (tells : (k : Visit) → test k ≡
       by false is q (suc k) g later = later q k g
 
   -- what an insertion makes of a list
-  pub adds_one : (vs : List Visit) → Adds (λ m q. (m ≡ n) × (q ≡ p)) vs
+  pub adds_one : (vs : List Visit) → AddsVisits (λ m q. (m ≡ n) × (q ≡ p)) vs
       (if list_any test vs then vs else vs ++ visit n p ∷ [])
   adds_one vs = by (list_any test vs) refl
     where
-      by : (b : Bool) → list_any test vs ≡ b → Adds (λ m q. (m ≡ n) × (q ≡ p)) vs
+      by : (b : Bool) → list_any test vs ≡ b → AddsVisits (λ m q. (m ≡ n) × (q ≡ p)) vs
           (if b then vs else vs ++ visit n p ∷ [])
       by true is = adds_none vs n p (found_in vs is)
       by false is = adds_last vs n p (not_found vs is)
 
-pub lists_kept : {A : ℕ → ℕ → Type 0} {old new : List Visit} (v : Visit) → Adds A old new → Lists old v → Lists new v
+pub lists_kept : {A : ℕ → ℕ → Type 0} {old new : List Visit} (v : Visit) → AddsVisits A old new → ListsVisit old v
+    → ListsVisit new v
 lists_kept v a h = (h.0, a.kept h.0 v h.1)
 
 -- the same pairs, said otherwise
-pub adds_alike : {A B : ℕ → ℕ → Type 0} {old new : List Visit} → Adds A old new → ((m q : ℕ) → A m q → B m q)
-    → ((m q : ℕ) → B m q → A m q) → Adds B old new
+pub adds_alike : {A B : ℕ → ℕ → Type 0} {old new : List Visit} → AddsVisits A old new → ((m q : ℕ) → A m q → B m q)
+    → ((m q : ℕ) → B m q → A m q) → AddsVisits B old new
 adds_alike a to back = record {
   kept = a.kept;
-  only = λ v h. elim (a.only v h) [ | inl is ↦ inl is | inr is ↦ inr (to v.node v.place is) ];
+  only = λ v h. elim (a.only v h) [ inl is ↦ inl is | inr is ↦ inr (to v.node v.place is) ];
   all = λ m q h. a.all m q (back m q h);
   once = a.once;
 }
 
-pub adds_nothing : {A : ℕ → ℕ → Type 0} (vs : List Visit) → ((m q : ℕ) → A m q → ⊥) → Adds A vs vs
-adds_nothing vs none = record { kept = λ k v h. h; only = λ v h. inl h; all = λ m q h. absurd (none m q h);
-  once = λ o. o; }
+pub adds_nothing : {A : ℕ → ℕ → Type 0} (vs : List Visit) → ((m q : ℕ) → A m q → ⊥) → AddsVisits A vs vs
+adds_nothing vs none = record {
+  kept = λ k v h. h;
+  only = λ v h. inl h;
+  all = λ m q h. absurd (none m q h);
+  once = λ o. o;
+}
 
-pub adds_both : {A B : ℕ → ℕ → Type 0} {old mid new : List Visit} → Adds A old mid → Adds B mid new
-    → Adds (λ m q. A m q ⊎ B m q) old new
+pub adds_both : {A B : ℕ → ℕ → Type 0} {old mid new : List Visit} → AddsVisits A old mid → AddsVisits B mid new
+    → AddsVisits (λ m q. A m q ⊎ B m q) old new
 adds_both {A = A} {B = B} {old = old} {mid = mid} {new = new} a b = record {
   kept = λ k v h. b.kept k v (a.kept k v h);
   only = λ v h. elim (b.only v h) [
-    | inl is ↦ elim (a.only v is) [ | inl l ↦ inl l | inr r ↦ inr (inl r) ]
+    | inl is ↦ elim (a.only v is) [ inl l ↦ inl l | inr r ↦ inr (inl r) ]
     | inr is ↦ inr (inr is)
   ];
   all = λ m q h. elim h [
@@ -136,26 +141,31 @@ adds_both {A = A} {B = B} {old = old} {mid = mid} {new = new} a b = record {
 -- of the pairs of a set all are added but those that are left
 pub record AddsBut (Whole Left : ℕ → ℕ → Type 0) (old new : List Visit) : Type 0 where
   pub kept : (k : ℕ) (v : Visit) → slice_get old k ≡ Some v → slice_get new k ≡ Some v
-  pub only : (v : Visit) → Lists new v → Lists old v ⊎ Whole v.node v.place
+  pub only : (v : Visit) → ListsVisit new v → ListsVisit old v ⊎ Whole v.node v.place
   pub left : (m q : ℕ) → Left m q → Whole m q
-  pub done : (m q : ℕ) → Whole m q → Lists new (visit m q) ⊎ Left m q
+  pub done : (m q : ℕ) → Whole m q → ListsVisit new (visit m q) ⊎ Left m q
   pub once : AreOnce old → AreOnce new
 
 pub begins_adding : (Whole : ℕ → ℕ → Type 0) (vs : List Visit) → AddsBut Whole Whole vs vs
-begins_adding Whole vs = record { kept = λ k v h. h; only = λ v h. inl h; left = λ m q h. h; done = λ m q h. inr h;
-  once = λ o. o; }
+begins_adding Whole vs = record {
+  kept = λ k v h. h;
+  only = λ v h. inl h;
+  left = λ m q h. h;
+  done = λ m q h. inr h;
+  once = λ o. o;
+}
 
 pub ends_adding : {Whole Left : ℕ → ℕ → Type 0} {old new : List Visit} → AddsBut Whole Left old new
-    → ((m q : ℕ) → Left m q → ⊥) → Adds Whole old new
+    → ((m q : ℕ) → Left m q → ⊥) → AddsVisits Whole old new
 ends_adding a none = record {
   kept = a.kept;
   only = a.only;
-  all = λ m q h. elim (a.done m q h) [ | inl is ↦ is | inr is ↦ absurd (none m q is) ];
+  all = λ m q h. elim (a.done m q h) [ inl is ↦ is | inr is ↦ absurd (none m q is) ];
   once = a.once;
 }
 
 pub goes_adding : {Whole Left Next A : ℕ → ℕ → Type 0} {old mid new : List Visit} → AddsBut Whole Left old mid
-    → Adds A mid new → ((m q : ℕ) → A m q → Left m q) → ((m q : ℕ) → Next m q → Left m q)
+    → AddsVisits A mid new → ((m q : ℕ) → A m q → Left m q) → ((m q : ℕ) → Next m q → Left m q)
     → ((m q : ℕ) → Left m q → A m q ⊎ Next m q) → AddsBut Whole Next old new
 goes_adding a b among rest parts = record {
   kept = λ k v h. b.kept k v (a.kept k v h);
