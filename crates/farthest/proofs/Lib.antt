@@ -1,7 +1,7 @@
 pub mod AddsVisitsLemmas
 pub mod CellWalksLemmas
 pub mod CellAsksLemmas
-pub mod EvaluatedLemmas
+pub mod IsDoneLemmas
 pub mod OutsideLemmas
 pub mod StoppedLemmas
 pub mod VisitOrderLemmas

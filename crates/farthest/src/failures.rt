@@ -23,10 +23,10 @@ pub struct Farthest {
 }
 
 /// Returns the farthest byte at which a comparison outside of `!` fails when the start rule is matched at the front of
-/// the window, with all that was expected there; nothing if no comparison fails outside of `!`. The window is the whole
-/// rest of the input, or as much of it as the unit looked at and one byte more.
+/// the window, with all that was expected there; nothing if no comparison fails outside of `!`. The window is taken as
+/// the whole rest of the input, whether the start rule succeeds on it or not.
 ///
-/// It evaluates the unit anew, each node at each place once.
+/// It evaluates the start rule anew, each node at each place once.
 ///
 /// # Errors
 /// `Memory` if an allocation fails.

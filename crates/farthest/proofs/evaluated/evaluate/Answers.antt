@@ -1,5 +1,5 @@
 use Rattle.std.proofs.Common.{ap}
-use Rattle.farthest.proofs.EvaluatedLemmas.{step_goes_on, step_ends}
+use Rattle.farthest.proofs.IsDoneLemmas.{step_goes_on, step_ends}
 use Rattle.farthest.proofs.evaluated.evaluate.Goals as goal
 
 pub steps-init : goal.steps-init
