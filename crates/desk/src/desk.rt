@@ -1,6 +1,7 @@
 //! The machine that evaluates each node at each place at most once.
 ghost use Rattle.std.specs.Prelude.{◌≡◌, ℕ, ◌+◌, ◌*◌, ◌<◌, ◌≤◌, Bool, List, [], ◌∷◌, length, true, slice_get, Some};
 ghost use Rattle.std.specs.Prelude.{IfOk, OnOk, OnErr};
+ghost use Rattle.memo.specs.Entries.{found_at};
 ghost use Rattle.desk.specs.declared.frame.Frame.{Frame};
 ghost use Rattle.desk.specs.Desk.{empty, beginning as begun_at, Fits, HasFrames, IsStep, unit_of};
 
@@ -113,6 +114,13 @@ impl Desk {
         ensures { result ≡ length self.now.cells }
     {
         self.cells.len()
+    }
+
+    /// Returns what the node gave at the place, if it has a cell there.
+    pub fn found(&self, node: usize, place: usize) -> Option<Found>
+        ensures { result ≡ found_at self.now.cells node place }
+    {
+        self.cells.get(node, place)
     }
 
     /// Empties it, and takes no memory.

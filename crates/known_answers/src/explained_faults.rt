@@ -25,11 +25,7 @@ fn abnf_lines(alloc: Global, text: &[u8]) -> Result<Vec<u8>, Memory> {
 
 // A text, and the lines that explain its fault, without the spaces that they begin with.
 static PEG: [(&[u8], &[&[u8]]); 8] = [
-    (
-        b"S <- 'a'",
-        &[
-        ],
-    ),
+    (b"S <- 'a'", &[]),
     (
         b"S <-\t'\xC3\xA9' \xE2\x86\x90 x\n",
         &[
@@ -53,14 +49,7 @@ static PEG: [(&[u8], &[&[u8]]); 8] = [
             b"at the end of the text: expected an element, \"&\", \"!\", \"?\", \"*\", \"+\", \"/\" or \")\"",
         ],
     ),
-    (
-        b"'a'",
-        &[
-            b"'a'",
-            b"^",
-            b"column 1: expected a name",
-        ],
-    ),
+    (b"'a'", &[b"'a'", b"^", b"column 1: expected a name"]),
     (
         b"S\r = 'a'",
         &[
@@ -90,11 +79,7 @@ static PEG: [(&[u8], &[&[u8]]); 8] = [
 ];
 
 static ABNF: [(&[u8], &[&[u8]]); 8] = [
-    (
-        b"a = b\n",
-        &[
-        ],
-    ),
+    (b"a = b\n", &[]),
     (
         b"my_rule = \"x\"\n",
         &[
@@ -146,12 +131,7 @@ static ABNF: [(&[u8], &[&[u8]]); 8] = [
             b"column 9: expected white space and an element, \"/\" or \"]\"",
         ],
     ),
-    (
-        b"a = ",
-        &[
-            b"at the end of the text: expected an element",
-        ],
-    ),
+    (b"a = ", &[b"at the end of the text: expected an element"]),
 ];
 
 // Whether that is the text of the lines, each behind two spaces.
@@ -169,7 +149,11 @@ fn are_lines(alloc: Global, told: &[u8], lines: &[&[u8]]) -> Result<bool, Memory
 fn peg_faults_are_explained(rt: HostRuntime) -> Result<(), Fail> {
     for row in &PEG {
         let told = peg_lines(rt.alloc(), row.0)?;
-        assert!(rt; are_lines(rt.alloc(), told.as_slice(), row.1)?, "{:?}", row.0);
+        assert!(rt;
+            are_lines(rt.alloc(), told.as_slice(), row.1)?,
+            "{:?}",
+            row.0
+        );
     }
     Ok(())
 }
@@ -178,7 +162,11 @@ fn peg_faults_are_explained(rt: HostRuntime) -> Result<(), Fail> {
 fn abnf_faults_are_explained(rt: HostRuntime) -> Result<(), Fail> {
     for row in &ABNF {
         let told = abnf_lines(rt.alloc(), row.0)?;
-        assert!(rt; are_lines(rt.alloc(), told.as_slice(), row.1)?, "{:?}", row.0);
+        assert!(rt;
+            are_lines(rt.alloc(), told.as_slice(), row.1)?,
+            "{:?}",
+            row.0
+        );
     }
     Ok(())
 }

@@ -16,6 +16,8 @@ mod desk_units;
 #[cfg(test)]
 mod explained_faults;
 #[cfg(test)]
+mod farthest_failures;
+#[cfg(test)]
 mod feed_window;
 #[cfg(test)]
 mod grammar_notes;

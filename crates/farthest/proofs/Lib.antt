@@ -1,0 +1,10 @@
+pub mod AddsVisitsLemmas
+pub mod CellWalksLemmas
+pub mod CellAsksLemmas
+pub mod IsDoneLemmas
+pub mod OutsideLemmas
+pub mod StoppedLemmas
+pub mod VisitOrderLemmas
+pub mod IsFarthestLemmas
+pub mod FailingLeafLemmas
+pub mod AscendsLemmas

@@ -1,0 +1,5 @@
+pub mod VisitLists
+pub mod Farthest
+pub mod CellAsks
+pub mod GreatestStop
+pub mod ToldUnit
