@@ -1,6 +1,6 @@
 #!/usr/bin/env python3
 """Writes the tests of the folders of examples/, which hold their texts word for word: in crates/known_runs/src/ the
-file tests/examples.rt for those of pegi, and abnf_examples.rt for those of abnfi.
+file run_peg_rows/examples.rt for those of pegi, and run_abnf_examples.rt for those of abnfi.
 
 With the word `check` it compares the files with what it would write, and writes nothing.
 """
@@ -9,8 +9,8 @@ import re
 import sys
 
 top = pathlib.Path(__file__).resolve().parents[2]
-peg_file = top / "crates/known_runs/src/tests/examples.rt"
-abnf_file = top / "crates/known_runs/src/abnf_examples.rt"
+peg_file = top / "crates/known_runs/src/run_peg_rows/examples.rt"
+abnf_file = top / "crates/known_runs/src/run_abnf_examples.rt"
 inputs = {
     "calculator": "input.txt",
     "csv": "input.txt",
@@ -46,7 +46,7 @@ fn examples_print_what_they_must(rt: HostRuntime) {{
 
 ABNF_HEAD = '''//! The folders of `examples/` in ABNF, word for word: `scripts/docs/example_tests.py` wrote this file.
 
-use crate::abnf_runs::{AbnfRow, check_row};
+use crate::run_abnf_rows::{AbnfRow, check_row};
 use gramtools::{DEFAULT_LIMIT, Status};
 '''
 

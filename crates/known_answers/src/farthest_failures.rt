@@ -1,6 +1,6 @@
 //! The farthest failing comparison of a unit, worked by hand.
 
-use crate::unit_texts::sound;
+use crate::pegmatch_units::sound;
 use farthest::{
     Told, Visit, failing_leaf_stops, farthest_failure, farthest_or_none, one_farthest, stops_fail,
     told_unit,

@@ -2,50 +2,50 @@
 #![tactic(auto)]
 
 #[cfg(test)]
-mod abnf_checks;
+mod abnfcheck_notes;
 #[cfg(test)]
-mod abnf_texts;
+mod abnfprint_print;
 #[cfg(test)]
-mod automaton_rooms;
+mod abnfread_faults;
 #[cfg(test)]
-mod canonical_texts;
+mod abnfread_texts;
 #[cfg(test)]
-mod code_points;
+mod desk_steps;
 #[cfg(test)]
-mod desk_units;
+mod earley_judge;
 #[cfg(test)]
-mod explained_faults;
+mod explain_fault_lines;
 #[cfg(test)]
 mod farthest_failures;
 #[cfg(test)]
-mod feed_window;
+mod feed_fill;
 #[cfg(test)]
-mod grammar_notes;
+mod gramcheck_notes;
 #[cfg(test)]
-mod judged_grammars;
+mod lazydfa_rooms;
 #[cfg(test)]
-mod judged_lines;
+mod leastset_calls;
 #[cfg(test)]
-mod least_sets;
+mod letters_utf8;
 #[cfg(test)]
-mod log_rows;
+mod lines_answers;
 #[cfg(test)]
-mod matchers_agree;
+mod memo_key_log;
 #[cfg(test)]
-mod packrat_units;
+mod packrat_beside_desk;
 #[cfg(test)]
-mod printed_abnf;
+mod packrat_match_unit;
 #[cfg(test)]
-mod refused_abnf;
+mod pegmatch_units;
 #[cfg(test)]
-mod refused_texts;
+mod pegread_escapes;
 #[cfg(test)]
-mod shared_parts;
+mod pegread_faults;
 #[cfg(test)]
-mod spellings;
+mod pegread_print;
 #[cfg(test)]
-mod token_rows;
+mod pegread_tokens;
 #[cfg(test)]
-mod unit_texts;
+mod ruletable_calls;
 #[cfg(test)]
-mod viable_beginnings;
+mod viable_verdicts;

@@ -3,24 +3,24 @@
 #![tactic(auto)]
 
 #[cfg(test)]
-mod abnf_examples;
+mod abnfi_main_repeats;
 #[cfg(test)]
-mod abnf_runs;
+mod abnfi_main_rows;
 #[cfg(test)]
-mod abnfi_rows;
-#[cfg(test)]
-mod command_rows;
-#[cfg(test)]
-mod command_words;
+mod commands_words;
 #[cfg(test)]
 mod ends;
 #[cfg(test)]
-mod explain_runs;
+mod pegi_main_rows;
 #[cfg(test)]
-mod record_runs;
+mod run_abnf_examples;
 #[cfg(test)]
-mod repeat_rows;
+mod run_abnf_records;
 #[cfg(test)]
-mod tests;
+mod run_abnf_rows;
 #[cfg(test)]
-mod viable_runs;
+mod run_abnf_viable;
+#[cfg(test)]
+mod run_peg_rows;
+#[cfg(test)]
+mod run_tool_explained;

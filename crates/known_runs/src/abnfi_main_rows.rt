@@ -1,6 +1,6 @@
 //! Whole runs of `abnfi`, with the grammar in a file.
 
-use crate::command_words::{CommandRow, check_rows};
+use crate::commands_words::{CommandRow, check_rows};
 use gramtools::{Program, Status};
 use std::test::Fail;
 

@@ -1,4 +1,4 @@
-use Rattle.known_answers.proofs.matchers_agree.answered.Goals as goal
+use Rattle.known_answers.proofs.packrat_beside_desk.answered.Goals as goal
 
 pub step-requires-clause-frame : goal.step-requires-clause-frame
 step-requires-clause-frame c = c.loop-i.invariant.some

@@ -1,4 +1,4 @@
-use Rattle.known_answers.proofs.desk_units.count_steps.Goals as goal
+use Rattle.known_answers.proofs.desk_steps.count_steps.Goals as goal
 
 pub step-requires-clause-frame : goal.step-requires-clause-frame
 step-requires-clause-frame c = c.loop-i.invariant.some

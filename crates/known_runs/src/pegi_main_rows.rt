@@ -1,6 +1,6 @@
 //! Whole runs of `pegi`, with the grammar in a file.
 
-use crate::command_words::{CommandRow, check_rows, run_on};
+use crate::commands_words::{CommandRow, check_rows, run_on};
 use gramtools::{Program, Status};
 use std::test::Fail;
 

@@ -1,6 +1,6 @@
 -- A line has at most so many bytes, or more.
 use Rattle.std.proofs.Common.{◌-◌, length, ltb, refl, if◌then◌else◌}
-use Rattle.known_answers.proofs.judged_lines.ShortJudgeU8.decided.Goals as goal
+use Rattle.known_answers.proofs.lines_answers.ShortJudgeU8.decided.Goals as goal
 use Rattle.lines.specs.declared.answers.Answer.TheVariants as answer
 
 pub returns : goal.returns

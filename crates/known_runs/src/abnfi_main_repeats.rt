@@ -1,6 +1,6 @@
 //! Whole runs of `abnfi` on repetitions with large numbers.
 
-use crate::command_words::{CommandRow, check_rows};
+use crate::commands_words::{CommandRow, check_rows};
 use gramtools::{Program, Status};
 use std::test::Fail;
 

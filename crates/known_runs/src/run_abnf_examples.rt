@@ -1,6 +1,6 @@
 //! The folders of `examples/` in ABNF, word for word: `scripts/docs/example_tests.py` wrote this file.
 
-use crate::abnf_runs::{AbnfRow, check_row};
+use crate::run_abnf_rows::{AbnfRow, check_row};
 use gramtools::{DEFAULT_LIMIT, Status};
 
 const ABNF_GRAMMAR: &[u8] =

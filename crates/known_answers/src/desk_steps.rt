@@ -3,7 +3,7 @@ ghost use Rattle.std.specs.Prelude.{◌≡◌, List, ◌∷◌, false};
 ghost use Rattle.desk.specs.Desk.{Fits};
 ghost use Rattle.desk.specs.declared.frame.Frame.{Frame};
 
-use crate::unit_texts::sound;
+use crate::pegmatch_units::sound;
 use desk::Desk;
 use gramcheck::SoundPeg;
 use pegmatch::Unit;

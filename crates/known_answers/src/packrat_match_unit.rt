@@ -1,6 +1,6 @@
 //! Units by hand, and how many evaluations they take.
 
-use crate::unit_texts::{end_of, matched, sound};
+use crate::pegmatch_units::{end_of, matched, sound};
 use gramcheck::SoundPeg;
 use packrat::Packrat;
 use pegmatch::{Matcher, Plain, Unit};
