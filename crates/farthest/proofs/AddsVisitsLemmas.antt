@@ -146,8 +146,8 @@ pub record AddsBut (Whole Left : ℕ → ℕ → Type 0) (old new : List Visit) 
   pub done : (m q : ℕ) → Whole m q → ListsVisit new (visit m q) ⊎ Left m q
   pub once : AreOnce old → AreOnce new
 
-pub begins_adding : (Whole : ℕ → ℕ → Type 0) (vs : List Visit) → AddsBut Whole Whole vs vs
-begins_adding Whole vs = record {
+pub adds_but_start : (Whole : ℕ → ℕ → Type 0) (vs : List Visit) → AddsBut Whole Whole vs vs
+adds_but_start Whole vs = record {
   kept = λ k v h. h;
   only = λ v h. inl h;
   left = λ m q h. h;
@@ -155,19 +155,19 @@ begins_adding Whole vs = record {
   once = λ o. o;
 }
 
-pub ends_adding : {Whole Left : ℕ → ℕ → Type 0} {old new : List Visit} → AddsBut Whole Left old new
+pub adds_but_end : {Whole Left : ℕ → ℕ → Type 0} {old new : List Visit} → AddsBut Whole Left old new
     → ((m q : ℕ) → Left m q → ⊥) → AddsVisits Whole old new
-ends_adding a none = record {
+adds_but_end a none = record {
   kept = a.kept;
   only = a.only;
   all = λ m q h. elim (a.done m q h) [ inl is ↦ is | inr is ↦ absurd (none m q is) ];
   once = a.once;
 }
 
-pub goes_adding : {Whole Left Next A : ℕ → ℕ → Type 0} {old mid new : List Visit} → AddsBut Whole Left old mid
+pub adds_but_step : {Whole Left Next A : ℕ → ℕ → Type 0} {old mid new : List Visit} → AddsBut Whole Left old mid
     → AddsVisits A mid new → ((m q : ℕ) → A m q → Left m q) → ((m q : ℕ) → Next m q → Left m q)
     → ((m q : ℕ) → Left m q → A m q ⊎ Next m q) → AddsBut Whole Next old new
-goes_adding a b among rest parts = record {
+adds_but_step a b among rest parts = record {
   kept = λ k v h. b.kept k v (a.kept k v h);
   only = λ v h. elim (b.only v h) [
     | inl is ↦ a.only v is

@@ -9,7 +9,7 @@ use Rattle.memo.specs.Entries.{Entry, found_at}
 use Rattle.farthest.specs.declared.visit.Visit.{Visit}
 use Rattle.farthest.specs.VisitLists.{AddsVisits}
 use Rattle.farthest.specs.CellAsks.{WalksTo, walk_here, walk_later, TriesTo, try_here, try_later}
-use Rattle.farthest.proofs.AddsVisitsLemmas.{AddsBut, ends_adding, goes_adding, adds_alike, adds_both}
+use Rattle.farthest.proofs.AddsVisitsLemmas.{AddsBut, adds_but_end, adds_but_step, adds_alike, adds_both}
 
 pub front_at : (ms : List ℕ) (i : ℕ) → i < length ms → drop i ms ≡ get_or ms i 0 ∷ drop (i + 1) ms
 front_at ms i lt = rw (add-one, drop-cons ms i 0) refl
@@ -52,7 +52,7 @@ module _ (cells : List Entry) where
 
     pub walk_on : (r : ℕ) → found_at cells k p ≡ Some (Took r) → AddsBut Whole (WalksTo cells ls p) old mid
         → AddsBut Whole (WalksTo cells rest r) old new
-    walk_on r h a = goes_adding (walk_front a) adds (walk_one k p rest) (λ m q w. walk_later h w)
+    walk_on r h a = adds_but_step (walk_front a) adds (walk_one k p rest) (λ m q w. walk_later h w)
         (λ m q w. elim (walk_parts w) [
           | inl one ↦ inl one
           | inr later ↦ let same : later.0 ≡ r = cc (later.1, h) in
@@ -61,7 +61,7 @@ module _ (cells : List Entry) where
 
     pub walk_stops : ((r : ℕ) → found_at cells k p ≡ Some (Took r) → ⊥) → AddsBut Whole (WalksTo cells ls p) old mid
         → AddsVisits Whole old new
-    walk_stops none a = ends_adding (goes_adding {Next = λ m q. ⊥} (walk_front a) adds (walk_one k p rest)
+    walk_stops none a = adds_but_end (adds_but_step {Next = λ m q. ⊥} (walk_front a) adds (walk_one k p rest)
         (λ m q w. absurd w)
         (λ m q w. elim (walk_parts w) [
           | inl one ↦ inl one
@@ -77,7 +77,7 @@ module _ (cells : List Entry) where
 
     pub try_on : found_at cells k p ≡ Some Failed → AddsBut Whole (Tries ls) old mid
         → AddsBut Whole (Tries rest) old new
-    try_on h a = goes_adding (try_front a) adds (λ m q o. (try_one k p rest m o.0, o.1))
+    try_on h a = adds_but_step (try_front a) adds (λ m q o. (try_one k p rest m o.0, o.1))
         (λ m q w. (try_later h w.0, w.1))
         (λ m q w. elim (try_parts w.0) [
           | inl one ↦ inl (one, w.1)
@@ -85,7 +85,7 @@ module _ (cells : List Entry) where
         ])
 
     pub try_stops : (found_at cells k p ≡ Some Failed → ⊥) → AddsBut Whole (Tries ls) old mid → AddsVisits Whole old new
-    try_stops none a = ends_adding (goes_adding {Next = λ m q. ⊥} (try_front a) adds
+    try_stops none a = adds_but_end (adds_but_step {Next = λ m q. ⊥} (try_front a) adds
         (λ m q o. (try_one k p rest m o.0, o.1)) (λ m q w. absurd w)
         (λ m q w. elim (try_parts w.0) [
           | inl one ↦ inl (one, w.1)
@@ -94,11 +94,11 @@ module _ (cells : List Entry) where
 
   pub walk_ends : {Whole : ℕ → ℕ → Type 0} {old new : List Visit} {ls : List ℕ} {p : ℕ} → ls ≡ []
       → AddsBut Whole (WalksTo cells ls p) old new → AddsVisits Whole old new
-  walk_ends {p = p} is a = ends_adding a (λ m q w. no_walk (subst (λ v. WalksTo cells v p m q) is w))
+  walk_ends {p = p} is a = adds_but_end a (λ m q w. no_walk (subst (λ v. WalksTo cells v p m q) is w))
 
   pub try_ends : {Whole : ℕ → ℕ → Type 0} {old new : List Visit} {ls : List ℕ} {p : ℕ} → ls ≡ []
       → AddsBut Whole (λ m q. TriesTo cells p ls m × (q ≡ p)) old new → AddsVisits Whole old new
-  try_ends {p = p} is a = ends_adding a (λ m q w. no_try (subst (λ v. TriesTo cells p v m) is w.0))
+  try_ends {p = p} is a = adds_but_end a (λ m q w. no_try (subst (λ v. TriesTo cells p v m) is w.0))
 
   -- what a repetition asks for: its operand, and where that ends the repetition again
   module _ (k s p : ℕ) (old mid : List Visit) (adds : AddsVisits (One k p) old mid) where

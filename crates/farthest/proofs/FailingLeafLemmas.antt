@@ -56,16 +56,16 @@ parted_text [] (b ∷ bs) h = record {
 }
 parted_text (c ∷ t) (b ∷ bs) h = by (c == b) refl h (λ g. parted_text t bs g)
   where
-    agreeing : (q : Parted t bs) → c ≡ b → (i : ℕ) → i < suc q.count → slice_get (c ∷ t) i ≡ slice_get (b ∷ bs) i
-    agreeing q same zero lt = ap Some same
-    agreeing q same (suc i) lt = q.agree i (omega arith)
+    agree_on : (q : Parted t bs) → c ≡ b → (i : ℕ) → i < suc q.count → slice_get (c ∷ t) i ≡ slice_get (b ∷ bs) i
+    agree_on q same zero lt = ap Some same
+    agree_on q same (suc i) lt = q.agree i (omega arith)
 
     by : (v : Bool) → (c == b) ≡ v → (v && begins_with t bs) ≡ false → (begins_with t bs ≡ false → Parted t bs)
         → Parted (c ∷ t) (b ∷ bs)
     by true is g later = let q = later g in record {
       count = suc q.count;
       inside = omega (arith, q.inside);
-      agree = agreeing q (eqb-true c b is);
+      agree = agree_on q (eqb-true c b is);
       differ = q.differ;
     }
     by false is g later = record {
@@ -163,6 +163,6 @@ module _ (rules : List Rule) (nodes : List Shape) (x : List ℕ) (n p : ℕ) (e 
   stops_by node.Close at way k g =
       absurd (no_close (subst (λ v. Gives rules x v p Fails k) (has_shape rules nodes s node.Close at) g))
 
-  pub failing_stops : (k : ℕ) → IsLeafNode nodes n → Gives rules x e p Fails k → (f : ℕ) × LeafStops nodes x n p f
-  failing_stops k leaf g = let by = stops_by leaf.0 leaf.1 leaf.2 k g in
+  pub failure_stops : (k : ℕ) → IsLeafNode nodes n → Gives rules x e p Fails k → (f : ℕ) × LeafStops nodes x n p f
+  failure_stops k leaf g = let by = stops_by leaf.0 leaf.1 leaf.2 k g in
       (by.0, record { shape = leaf.0; at = leaf.1; by = by.1 })

@@ -1,9 +1,9 @@
-use Rattle.farthest.proofs.AddsVisitsLemmas.{begins_adding}
+use Rattle.farthest.proofs.AddsVisitsLemmas.{adds_but_start}
 use Rattle.farthest.proofs.CellWalksLemmas.{front_at, none_left, try_on, try_stops, try_ends}
 use Rattle.farthest.proofs.asked.add_alternatives.Goals as goal
 
 pub loop-alternative-init : goal.loop-alternative-init
-loop-alternative-init c = begins_adding _ _
+loop-alternative-init c = adds_but_start _ _
 
 pub returns-then-not-fails_at : goal.returns-then-not-fails_at
 returns-then-not-fails_at c =

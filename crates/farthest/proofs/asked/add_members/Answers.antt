@@ -1,9 +1,9 @@
-use Rattle.farthest.proofs.AddsVisitsLemmas.{begins_adding}
+use Rattle.farthest.proofs.AddsVisitsLemmas.{adds_but_start}
 use Rattle.farthest.proofs.CellWalksLemmas.{front_at, none_left, walk_on, walk_stops, walk_ends}
 use Rattle.farthest.proofs.asked.add_members.Goals as goal
 
 pub loop-member-init : goal.loop-member-init
-loop-member-init c = begins_adding _ _
+loop-member-init c = adds_but_start _ _
 
 pub loop-member-preserved : goal.loop-member-preserved
 loop-member-preserved c =
