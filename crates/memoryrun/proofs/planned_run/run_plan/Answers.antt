@@ -10,15 +10,15 @@ pub returns : goal.returns
 returns g c =
     planned_run (does_of (λ t. task_does g.L.Language.canonical g.L.Language.runs t c.args.settings.now)
     c.args.plan.now.task) c.args.input.now
-    (Some c.new-reader.result.rest.now) (Some c.act_on-stop.new.reader.rest.now)
-    (Some c.new-out.result.inner.items) (Some c.act_on-stop.new.out.inner.items)
+    (Some c.new-reader.result.rest.now) (Some c.act-stop.new.reader.rest.now)
+    (Some c.new-out.result.inner.items) (Some c.act-stop.new.out.inner.items)
     (Some c.finish-status.new.out.inner.items)
     (Some c.new-err.result.inner.items) (Some c.finish-status.new.err.inner.items)
     c.into_inner.result.items c.into_inner-2.result.items
-    c.new-out.result.failed c.act_on-stop.new.out.failed c.finish-status.new.out.failed c.finish-status.new.err.failed
-    c.act_on-stop.result (code_of c.finish-status.result)
+    c.new-out.result.failed c.act-stop.new.out.failed c.finish-status.new.out.failed c.finish-status.new.err.failed
+    c.act-stop.result (code_of c.finish-status.result)
     c.new-reader.ensures.remaining
     (c.new-out.ensures.contents ∙ ap (λ (x : List ℕ). Some x) c.new.ensures.items)
     (c.new-err.ensures.contents ∙ ap (λ (x : List ℕ). Some x) c.new-2.ensures.items)
     c.new-out.ensures.failed c.into_inner.ensures c.into_inner-2.ensures
-    c.act_on-stop.ensures c.finish-status.ensures.kept c.finish-status.ensures.stays c.finish-status.ensures.told
+    c.act-stop.ensures c.finish-status.ensures.kept c.finish-status.ensures.stays c.finish-status.ensures.told
