@@ -118,7 +118,7 @@ planned_is_memory States first Does plan bytes run p = by (plan.stated (bounded 
       whole = λ low. let all = p.whole low in (all.0, ap (λ w. first ++ w) all.1, all.2);
       part = p.part;
     }
-    by (in_reply none s) = record {
+    by (in_reply empty s) = record {
       notes = [];
       stated = told_behind first p.stated;
       states = s;
