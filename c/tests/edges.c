@@ -46,10 +46,10 @@ static void bad_settings(void) {
         fanquber_settings settings;
         const char *name;
     } rows[] = {
-        { { 0, FANQUBER_RUN, FANQUBER_BYTES, false, false, false, false }, "" },
-        { { FANQUBER_MAX_LIMIT + 1, FANQUBER_RUN, FANQUBER_BYTES, false, false, false, false }, "" },
-        { { 9, 3, FANQUBER_BYTES, false, false, false, false }, "" },
-        { { 9, FANQUBER_RUN, 2, false, false, false, false }, "" },
+        { { 0, FANQUBER_RUN, FANQUBER_BYTES, false, false, false, false, false }, "" },
+        { { FANQUBER_MAX_LIMIT + 1, FANQUBER_RUN, FANQUBER_BYTES, false, false, false, false, false }, "" },
+        { { 9, 3, FANQUBER_BYTES, false, false, false, false, false }, "" },
+        { { 9, FANQUBER_RUN, 2, false, false, false, false, false }, "" },
         { { 9, FANQUBER_RUN, FANQUBER_BYTES, true, false, false, false }, "\xff" },
     };
     size_t out_size = ROOM, err_size = ROOM;
