@@ -50,7 +50,7 @@ static void bad_settings(void) {
         { { FANQUBER_MAX_LIMIT + 1, FANQUBER_RUN, FANQUBER_BYTES, false, false, false, false, false }, "" },
         { { 9, 3, FANQUBER_BYTES, false, false, false, false, false }, "" },
         { { 9, FANQUBER_RUN, 2, false, false, false, false, false }, "" },
-        { { 9, FANQUBER_RUN, FANQUBER_BYTES, true, false, false, false }, "\xff" },
+        { { 9, FANQUBER_RUN, FANQUBER_BYTES, true, false, false, false, false }, "\xff" },
     };
     size_t out_size = ROOM, err_size = ROOM;
     for (size_t at = 0; at < sizeof rows / sizeof *rows; at++) {
