@@ -12,7 +12,7 @@ try:
 # Proves the crates that the programs stand on, as many side by side as processors and memory allow (JOBS=n says how
 # many), builds the programs, and puts them into bin/.
 programs:
-	@python3 -B scripts/build/prove.py pegi abnfi
+	@python3 -B scripts/build/prove.py pegi abnfi abnfx
 
 # The library for C: proves what it stands on, and puts it into bin/, static and shared. It needs a C compiler.
 lib:
@@ -52,8 +52,8 @@ install: programs put
 put:
 	install -d $(DESTDIR)$(PREFIX)/bin $(SHARE)/man/man1 $(SHARE)/doc/fanquber
 	install -d $(SHARE)/bash-completion/completions $(SHARE)/zsh/site-functions $(SHARE)/fish/vendor_completions.d
-	install -m 755 bin/pegi bin/abnfi $(DESTDIR)$(PREFIX)/bin
-	install -m 644 man/pegi.1 man/abnfi.1 $(SHARE)/man/man1
+	install -m 755 bin/pegi bin/abnfi bin/abnfx $(DESTDIR)$(PREFIX)/bin
+	install -m 644 man/pegi.1 man/abnfi.1 man/abnfx.1 $(SHARE)/man/man1
 	install -m 644 completions/bash/* $(SHARE)/bash-completion/completions
 	install -m 644 completions/zsh/* $(SHARE)/zsh/site-functions
 	install -m 644 completions/fish/* $(SHARE)/fish/vendor_completions.d

@@ -1,7 +1,8 @@
 /* fanquber.h: whole runs of two proved grammar tools over memory. See fanquber(3).
  *
  * fanquber_peg runs a grammar in the syntax of peg(1) on an input, as pegi(1) does. fanquber_abnf judges the lines of an
- * input by a grammar in ABNF (RFC 5234, RFC 7405), as abnfi(1) does. */
+ * input by a grammar in ABNF (RFC 5234, RFC 7405), as abnfi(1) does. fanquber_abnf_open reads such a grammar once, and
+ * fanquber_abnf_judge judges line after line by it. */
 #ifndef FANQUBER_H
 #define FANQUBER_H
 
@@ -31,7 +32,8 @@ enum {
     FANQUBER_OVERLONG = 3,    /* a unit or a line is longer than the limit */
     FANQUBER_FAULT = 4,       /* an allocation for an output failed */
     FANQUBER_NO_MEMORY = 5,   /* another allocation failed */
-    FANQUBER_BAD_SETTINGS = 6 /* the settings are out of range, or the name is no UTF-8: nothing was done */
+    FANQUBER_BAD_SETTINGS = 6 /* the settings are out of range, the name is no UTF-8, or a judge is open that is to be
+                               * closed, or closed that is to be open: nothing was done */
 };
 
 enum { FANQUBER_DEFAULT_LIMIT = 65536, FANQUBER_MAX_LIMIT = 16777216 };
@@ -45,7 +47,7 @@ typedef struct fanquber_settings {
     bool raw;        /* fanquber_peg: actions are printed verbatim */
     bool viable;     /* fanquber_abnf: `no N` in place of `no`: the longest viable beginning has N letters */
     bool nul;        /* fanquber_abnf: lines end with NUL in place of LF, and may hold LF */
-    bool explain;    /* a fault of the grammar's text is explained behind its message */
+    bool explain;    /* a fault of the grammar's text, or a note on it, is explained behind its message */
 } fanquber_settings;
 
 #define FANQUBER_SETTINGS { FANQUBER_DEFAULT_LIMIT, FANQUBER_RUN, FANQUBER_BYTES, false, false, false, false, false }
@@ -79,15 +81,47 @@ typedef struct fanquber_window {
 } fanquber_window;
 
 /* Runs a grammar on each window of an input by itself, as fanquber_peg would on its bytes alone, but reads and checks the
- * grammar once, and tells neither its notes nor its fault. What the runs write stands in the buffers, one run behind the
- * other. There is one result for each window, with the lengths and the status of its run, or FANQUBER_BAD_SETTINGS where
- * the window does not lie in the input. What is returned has the lengths of all, and the status FANQUBER_DONE; or
- * FANQUBER_BAD_SETTINGS, and nothing was done, also where results_len is not windows_len. */
+ * grammar once. What each of these runs would tell of the grammar, its notes or the fault of its text, stands once at the
+ * front of err. Behind it, and in out, stands what the runs write, one run behind the other. There is one result for each
+ * window, with the status of its run and the lengths of what it wrote there, or FANQUBER_BAD_SETTINGS where the window does
+ * not lie in the input. What is returned has the lengths of all, and the status FANQUBER_DONE: so err_len less those of the
+ * results is the length of what is told of the grammar. Or it is FANQUBER_BAD_SETTINGS, and nothing was done, also where
+ * results_len is not windows_len. */
 fanquber_result fanquber_peg_windows(const fanquber_settings *settings, const void *grammar, size_t grammar_len,
                                      const void *name, size_t name_len, const void *input, size_t input_len,
                                      const fanquber_window *windows, size_t windows_len,
                                      fanquber_result *results, size_t results_len,
                                      void *out, size_t out_size, void *err, size_t err_size);
+
+/* What judges lines by a grammar that is read, checked and lowered once. It begins as FANQUBER_JUDGE, which is closed. The
+ * fields belong to the library. A judge may be moved, but of two copies only one may be used. It stays on the thread that
+ * opened it, and serves one call at a time. */
+typedef struct fanquber_judge {
+    void *at;
+    bool is_open;
+} fanquber_judge;
+
+#define FANQUBER_JUDGE { NULL, false }
+
+/* The answer to a line. */
+typedef struct fanquber_answer {
+    size_t reached; /* settings.viable: how many letters of a line that is not derived begin something derived; else 0 */
+    uint8_t status; /* FANQUBER_DONE: the line is derived; FANQUBER_NO_MATCH: it is not; FANQUBER_OVERLONG: it is not
+                     * judged, since it is longer than the limit; FANQUBER_NO_MEMORY; FANQUBER_BAD_SETTINGS: the judge is
+                     * closed */
+} fanquber_answer;
+
+/* Opens a closed judge by a grammar in ABNF, and writes what fanquber_abnf tells of the grammar into the buffer, its notes or
+ * the fault of its text. The status is FANQUBER_DONE and the judge is open, or FANQUBER_REFUSED, FANQUBER_NO_MEMORY or
+ * FANQUBER_BAD_SETTINGS, and it stays closed. The mode is not looked at, nor is the end of lines. out_len is 0. */
+fanquber_result fanquber_abnf_open(const fanquber_settings *settings, const void *grammar, size_t grammar_len,
+                                   const void *name, size_t name_len, fanquber_judge *judge, void *err, size_t err_size);
+
+/* Judges a line, as fanquber_abnf would. It may hold any bytes. */
+fanquber_answer fanquber_abnf_judge(fanquber_judge *judge, const void *line, size_t line_len);
+
+/* Frees what an open judge holds, and closes it. */
+void fanquber_abnf_close(fanquber_judge *judge);
 
 #ifdef __cplusplus
 }

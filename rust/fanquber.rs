@@ -14,10 +14,17 @@ struct CSettings {
 }
 
 #[repr(C)]
+#[derive(Clone, Copy)]
 struct CResult {
     out_len: usize,
     err_len: usize,
     status: u8,
+}
+
+#[repr(C)]
+struct CWindow {
+    at: usize,
+    len: usize,
 }
 
 type Call = unsafe extern "C" fn(
@@ -34,6 +41,33 @@ unsafe extern "C" {
         settings: *const CSettings, grammar: *const u8, grammar_len: usize, name: *const u8, name_len: usize,
         input: *const u8, input_len: usize, out: *mut u8, out_size: usize, err: *mut u8, err_size: usize,
     ) -> CResult;
+    fn fanquber_peg_windows(
+        settings: *const CSettings, grammar: *const u8, grammar_len: usize, name: *const u8, name_len: usize,
+        input: *const u8, input_len: usize, windows: *const CWindow, windows_len: usize, results: *mut CResult,
+        results_len: usize, out: *mut u8, out_size: usize, err: *mut u8, err_size: usize,
+    ) -> CResult;
+}
+
+#[repr(C)]
+struct CJudge {
+    at: *mut u8,
+    is_open: bool,
+}
+
+#[repr(C)]
+struct CAnswer {
+    reached: usize,
+    status: u8,
+}
+
+#[link(name = "fanquber")]
+unsafe extern "C" {
+    fn fanquber_abnf_open(
+        settings: *const CSettings, grammar: *const u8, grammar_len: usize, name: *const u8, name_len: usize,
+        judge: *mut CJudge, err: *mut u8, err_size: usize,
+    ) -> CResult;
+    fn fanquber_abnf_judge(judge: *mut CJudge, line: *const u8, line_len: usize) -> CAnswer;
+    fn fanquber_abnf_close(judge: *mut CJudge);
 }
 
 /// The greatest limit.
@@ -121,18 +155,37 @@ impl fmt::Display for Error {
 
 impl std::error::Error for Error {}
 
+impl CResult {
+    fn status(&self) -> Result<Status, Error> {
+        match self.status {
+            0 => Ok(Status::Done),
+            1 => Ok(Status::NoMatch),
+            2 => Ok(Status::Refused),
+            3 => Ok(Status::Overlong),
+            6 => Err(Error::Settings),
+            _ => Err(Error::Memory),
+        }
+    }
+}
+
+impl Settings<'_> {
+    fn for_c(&self) -> CSettings {
+        CSettings {
+            limit: self.limit,
+            mode: self.mode as u8,
+            letters: self.letters as u8,
+            named: self.start.is_some(),
+            raw: self.raw,
+            viable: self.viable,
+            nul: self.nul,
+            explain: self.explain,
+        }
+    }
+}
+
 /// Runs a grammar on an input.
 pub fn run(tool: Tool, grammar: &[u8], settings: &Settings, input: &[u8]) -> Result<Reply, Error> {
-    let asked = CSettings {
-        limit: settings.limit,
-        mode: settings.mode as u8,
-        letters: settings.letters as u8,
-        named: settings.start.is_some(),
-        raw: settings.raw,
-        viable: settings.viable,
-        nul: settings.nul,
-        explain: settings.explain,
-    };
+    let asked = settings.for_c();
     let call: Call = match tool {
         Tool::Peg => fanquber_peg,
         Tool::Abnf => fanquber_abnf,
@@ -157,14 +210,7 @@ pub fn run(tool: Tool, grammar: &[u8], settings: &Settings, input: &[u8]) -> Res
                 err.len(),
             )
         };
-        let status = match got.status {
-            0 => Status::Done,
-            1 => Status::NoMatch,
-            2 => Status::Refused,
-            3 => Status::Overlong,
-            6 => return Err(Error::Settings),
-            _ => return Err(Error::Memory),
-        };
+        let status = got.status()?;
         if got.out_len <= out.len() && got.err_len <= err.len() {
             out.truncate(got.out_len);
             err.truncate(got.err_len);
@@ -172,5 +218,158 @@ pub fn run(tool: Tool, grammar: &[u8], settings: &Settings, input: &[u8]) -> Res
         }
         out.resize(got.out_len.max(out.len()), 0);
         err.resize(got.err_len.max(err.len()), 0);
+    }
+}
+
+/// Runs a grammar of peg(1) on each of some inputs by itself: each reply is that of `run`. The grammar is read and checked
+/// once.
+pub fn run_each(grammar: &[u8], settings: &Settings, inputs: &[&[u8]]) -> Result<Vec<Reply>, Error> {
+    let asked = settings.for_c();
+    let name = settings.start.unwrap_or("").as_bytes();
+    let input = inputs.concat();
+    let mut at = 0;
+    let mut windows = Vec::new();
+    for part in inputs {
+        windows.push(CWindow { at, len: part.len() });
+        at += part.len();
+    }
+    let none = CResult {
+        out_len: 0,
+        err_len: 0,
+        status: 0,
+    };
+    let mut results = vec![none; windows.len()];
+    let (mut out, mut err) = (vec![0; 4096], vec![0; 1024]);
+    loop {
+        // SAFETY: as in `run`; there are as many results as windows.
+        let got = unsafe {
+            fanquber_peg_windows(
+                &asked,
+                grammar.as_ptr(),
+                grammar.len(),
+                name.as_ptr(),
+                name.len(),
+                input.as_ptr(),
+                input.len(),
+                windows.as_ptr(),
+                windows.len(),
+                results.as_mut_ptr(),
+                results.len(),
+                out.as_mut_ptr(),
+                out.len(),
+                err.as_mut_ptr(),
+                err.len(),
+            )
+        };
+        got.status()?;
+        if got.out_len <= out.len() && got.err_len <= err.len() {
+            return replies(&results, &out[..got.out_len], &err[..got.err_len]);
+        }
+        out.resize(got.out_len.max(out.len()), 0);
+        err.resize(got.err_len.max(err.len()), 0);
+    }
+}
+
+/// Cuts what runs wrote into their replies. What is told of the grammar stands once, before what the runs tell.
+fn replies(results: &[CResult], mut out: &[u8], err: &[u8]) -> Result<Vec<Reply>, Error> {
+    let of_runs: usize = results.iter().map(|it| it.err_len).sum();
+    let (of_grammar, mut err) = err.split_at(err.len() - of_runs);
+    let mut replies = Vec::new();
+    for it in results {
+        let status = it.status()?;
+        let (printed, out_behind) = out.split_at(it.out_len);
+        let (told, err_behind) = err.split_at(it.err_len);
+        replies.push(Reply {
+            out: printed.to_vec(),
+            err: [of_grammar, told].concat(),
+            status,
+        });
+        (out, err) = (out_behind, err_behind);
+    }
+    Ok(replies)
+}
+
+/// What opening a grammar gives.
+pub enum Opened {
+    /// What judges lines by it.
+    Judge(Judge),
+    /// The lines that say why it is refused.
+    Refused(Vec<u8>),
+}
+
+/// The answer to a line.
+#[derive(Clone, Copy, Debug, PartialEq, Eq)]
+pub enum Answer {
+    /// The rule derives it.
+    Yes,
+    /// The rule does not derive it. So many of its letters begin something derived, if the settings ask for that, else 0.
+    No(usize),
+    /// It is longer than the limit.
+    Overlong,
+}
+
+/// A grammar in ABNF that is read once, and judges line after line. It stays on its thread.
+pub struct Judge {
+    own: CJudge,
+    /// The notes on the grammar.
+    pub notes: Vec<u8>,
+}
+
+impl Judge {
+    /// Opens a grammar. The mode of the settings is not looked at.
+    pub fn open(grammar: &[u8], settings: &Settings) -> Result<Opened, Error> {
+        let asked = settings.for_c();
+        let name = settings.start.unwrap_or("").as_bytes();
+        let mut judge = Judge {
+            own: CJudge {
+                at: std::ptr::null_mut(),
+                is_open: false,
+            },
+            notes: vec![0; 1024],
+        };
+        loop {
+            // SAFETY: as in `run`; the judge is closed.
+            let got = unsafe {
+                fanquber_abnf_open(
+                    &asked,
+                    grammar.as_ptr(),
+                    grammar.len(),
+                    name.as_ptr(),
+                    name.len(),
+                    &mut judge.own,
+                    judge.notes.as_mut_ptr(),
+                    judge.notes.len(),
+                )
+            };
+            let is_whole = got.err_len <= judge.notes.len();
+            judge.notes.resize(got.err_len, 0);
+            match got.status {
+                6 => return Err(Error::Settings),
+                5 => return Err(Error::Memory),
+                // SAFETY: the library left the judge so.
+                _ if !is_whole => unsafe { fanquber_abnf_close(&mut judge.own) },
+                0 => return Ok(Opened::Judge(judge)),
+                _ => return Ok(Opened::Refused(std::mem::take(&mut judge.notes))),
+            }
+        }
+    }
+
+    /// Judges a line.
+    pub fn judge(&mut self, line: &[u8]) -> Result<Answer, Error> {
+        // SAFETY: as in `run`; the library left the judge so, and nothing else uses it.
+        let got = unsafe { fanquber_abnf_judge(&mut self.own, line.as_ptr(), line.len()) };
+        match got.status {
+            0 => Ok(Answer::Yes),
+            1 => Ok(Answer::No(got.reached)),
+            3 => Ok(Answer::Overlong),
+            _ => Err(Error::Memory),
+        }
+    }
+}
+
+impl Drop for Judge {
+    fn drop(&mut self) {
+        // SAFETY: the library left the judge so, and nothing uses it from now on.
+        unsafe { fanquber_abnf_close(&mut self.own) }
     }
 }

@@ -7,4 +7,6 @@ int main() {
     const fanquber::grammar day(fanquber::tool::abnf, "day = 4DIGIT \"-\" 2DIGIT \"-\" 2DIGIT\n");
     const fanquber::reply got = day.run("1985-04-12\n1985-4-12\n");
     std::cout << got.out << "status " << got.status << "\n";
+    fanquber::judge judge(day); // the grammar is read once
+    return judge("1985-04-12").derived && !judge("1985-4-12").derived ? 0 : 1;
 }

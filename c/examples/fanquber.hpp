@@ -4,11 +4,13 @@
 
 #include <fanquber.h>
 
+#include <cstddef>
 #include <new>
 #include <stdexcept>
 #include <string>
 #include <string_view>
 #include <utility>
+#include <vector>
 
 namespace fanquber {
 
@@ -52,10 +54,104 @@ public:
         }
     }
 
+    /// Runs the grammar of a peg on each of some inputs by itself: each reply is that of run. The grammar is read and checked
+    /// once. Throws as run does, and std::invalid_argument for a grammar in ABNF.
+    std::vector<reply> run_each(const std::vector<std::string_view> &inputs) const {
+        if (which_ != tool::peg) throw std::invalid_argument("fanquber: run_each is for tool::peg");
+        std::string input, out(4096, '\0'), err(1024, '\0');
+        std::vector<fanquber_window> windows;
+        for (const std::string_view it : inputs) {
+            windows.push_back({input.size(), it.size()});
+            input += it;
+        }
+        std::vector<fanquber_result> results(inputs.size() + 1); // one more than needed: data() is not null
+        windows.push_back({});
+        for (;;) {
+            const fanquber_result got = fanquber_peg_windows(
+                &settings_, text_.data(), text_.size(), name_.data(), name_.size(), input.data(), input.size(),
+                windows.data(), inputs.size(), results.data(), inputs.size(), &out[0], out.size(), &err[0], err.size());
+            if (got.status == FANQUBER_BAD_SETTINGS) throw std::invalid_argument("fanquber: settings out of range");
+            if (got.out_len <= out.size() && got.err_len <= err.size()) return replies(results, got, out, err);
+            if (got.out_len > out.size()) out.resize(got.out_len);
+            if (got.err_len > err.size()) err.resize(got.err_len);
+        }
+    }
+
 private:
+    friend class judge;
+
+    /// Cuts what the runs wrote into their replies. What is told of the grammar stands once, before what the runs tell.
+    static std::vector<reply> replies(const std::vector<fanquber_result> &results, const fanquber_result &all,
+                                      const std::string &out, const std::string &err) {
+        const std::size_t count = results.size() - 1;
+        std::size_t out_at = 0, err_at = all.err_len;
+        for (std::size_t at = 0; at < count; at++) err_at -= results[at].err_len;
+        const std::string of_grammar = err.substr(0, err_at);
+        std::vector<reply> found;
+        for (std::size_t at = 0; at < count; at++) {
+            const fanquber_result &it = results[at];
+            if (it.status == FANQUBER_FAULT || it.status == FANQUBER_NO_MEMORY) throw std::bad_alloc();
+            found.push_back({out.substr(out_at, it.out_len), of_grammar + err.substr(err_at, it.err_len), it.status});
+            out_at += it.out_len;
+            err_at += it.err_len;
+        }
+        return found;
+    }
+
     tool which_;
     std::string text_, name_;
     fanquber_settings settings_ = FANQUBER_SETTINGS;
+};
+
+/// The answer to a line: whether it is derived, and how many of its letters begin something derived, if that is asked for and
+/// it is not.
+struct answer {
+    bool derived;
+    std::size_t reached;
+};
+
+/// A grammar in ABNF that is read once, and judges line after line. It stays on the thread that opens it.
+class judge {
+public:
+    /// Throws std::bad_alloc where an allocation fails, and std::invalid_argument, which says why, where the grammar is
+    /// refused, the settings are out of range or the name is no UTF-8.
+    explicit judge(const grammar &of) : notes_(1024, '\0') {
+        for (;;) {
+            const fanquber_result got =
+                fanquber_abnf_open(&of.settings_, of.text_.data(), of.text_.size(), of.name_.data(), of.name_.size(), &own_,
+                                   &notes_[0], notes_.size());
+            const bool is_whole = got.err_len <= notes_.size();
+            if (!is_whole) fanquber_abnf_close(&own_);
+            notes_.resize(got.err_len);
+            if (!is_whole) continue;
+            if (got.status == FANQUBER_NO_MEMORY) throw std::bad_alloc();
+            if (got.status == FANQUBER_BAD_SETTINGS) throw std::invalid_argument("fanquber: settings out of range");
+            if (got.status != FANQUBER_DONE) throw std::invalid_argument(notes_);
+            return;
+        }
+    }
+    judge(judge &&other) noexcept : own_(other.own_), notes_(std::move(other.notes_)) { other.own_ = fanquber_judge FANQUBER_JUDGE; }
+    judge &operator=(judge &&other) noexcept {
+        std::swap(own_, other.own_);
+        std::swap(notes_, other.notes_);
+        return *this;
+    }
+    ~judge() { fanquber_abnf_close(&own_); }
+
+    /// The notes on the grammar.
+    const std::string &notes() const { return notes_; }
+
+    /// Judges a line. Throws std::bad_alloc where an allocation fails, and std::length_error for a line above the limit.
+    answer operator()(std::string_view line) {
+        const fanquber_answer got = fanquber_abnf_judge(&own_, line.data() ? line.data() : "", line.size());
+        if (got.status == FANQUBER_OVERLONG) throw std::length_error("fanquber: line longer than the limit");
+        if (got.status == FANQUBER_NO_MEMORY) throw std::bad_alloc();
+        return {got.status == FANQUBER_DONE, got.reached};
+    }
+
+private:
+    fanquber_judge own_ = FANQUBER_JUDGE;
+    std::string notes_;
 };
 
 } // namespace fanquber

@@ -1,7 +1,8 @@
 /* bench: what the calls of the library cost. It takes words in fours, and prints a row for each four:
  * TOOL GRAMMAR UNIT COUNT, where TOOL is abnfi or pegi, and a call's input is so many copies of UNIT; or it is windows, and
- * each copy is a window of a call of fanquber_peg_windows. COUNT `check` has the grammar checked alone. The time is that
- * of the processor. */
+ * each copy is a window of a call of fanquber_peg_windows; or it is judge, and a call judges the line UNIT so many times by a
+ * judge that was opened before, or it is cold, and the judge is opened for the call. COUNT `check` has the grammar checked
+ * alone. The time is that of the processor. */
 #include <fanquber.h>
 #include <stdio.h>
 #include <stdlib.h>
@@ -20,6 +21,16 @@ static double seconds(void) {
 static char grammar[1 << 16], out[1 << 20], err[1 << 16];
 static fanquber_window windows[1 << 16];
 static fanquber_result results[1 << 16];
+
+/* Judges a line so many times, by a judge that is opened first where it is closed. Returns the last status. */
+static int judged(fanquber_judge *judge, const fanquber_settings *settings, size_t grammar_len, const char *line,
+                  size_t len, size_t count) {
+    int status = FANQUBER_DONE;
+    if (!judge->is_open)
+        status = fanquber_abnf_open(settings, grammar, grammar_len, TEXT(""), judge, err, sizeof err).status;
+    for (; count > 0; count--) status = fanquber_abnf_judge(judge, line, len).status;
+    return status;
+}
 
 /* Makes a call, and returns its status. */
 static int call(const char *tool, const fanquber_settings *settings, size_t grammar_len, const char *input, size_t len,
@@ -45,16 +56,21 @@ int main(int count, char **words) {
         }
         fanquber_settings settings = FANQUBER_SETTINGS;
         settings.mode = strcmp(words[at + 3], "check") == 0 ? FANQUBER_CHECK : FANQUBER_RUN;
+        fanquber_judge judge = FANQUBER_JUDGE;
+        const bool is_cold = strcmp(words[at], "cold") == 0, is_judge = is_cold || strcmp(words[at], "judge") == 0;
         double begun = seconds(), passed;
         long calls = 0;
         int status;
         do {
-            status = call(words[at], &settings, grammar_len, input, unit * units, units);
+            if (is_judge) status = judged(&judge, &settings, grammar_len, words[at + 2], unit, units);
+            else status = call(words[at], &settings, grammar_len, input, unit * units, units);
+            if (is_cold) fanquber_abnf_close(&judge);
             calls++;
             passed = seconds() - begun;
         } while (passed < 1.0);
         printf("%s %s %s: status %d, %.0f calls a second, %.1f us a call\n", words[at], words[at + 1], words[at + 3],
                status, calls / passed, passed / calls * 1e6);
+        fanquber_abnf_close(&judge);
         free(input);
     }
     return 0;

@@ -1,4 +1,5 @@
-/* edges: what a call does with small buffers, with settings that are out of range, and with each setting. */
+/* edges: what a call does with small buffers, with settings that are out of range, and with each setting, and what a judge
+ * answers. */
 #include "check.h"
 
 #define LETTER_X "a = \"x\"\n"
@@ -130,8 +131,109 @@ static void many_windows(void) {
     ENDS(FANQUBER_BAD_SETTINGS, "", "");
 }
 
+/* What windows are told of a grammar with a note, of one that is refused, and of a text with a fault: it stands once, first,
+ * also where the buffer is small, and where there is no window. */
+static void windows_of_grammars(void) {
+    const struct {
+        const char *grammar, *front, *printed, *told;
+        uint8_t first, second;
+    } rows[] = {
+        { "S <- < 'x' > { yytext }\nT <- 'y'\n", "rule 'T' defined but not used\n", "x\n", "no match at byte 0\n",
+          FANQUBER_DONE, FANQUBER_NO_MATCH },
+        { "S <- T\n", "rule 'T' used but not defined\n", "", "", FANQUBER_REFUSED, FANQUBER_REFUSED },
+        { "S <- )\n", "line 1: syntax error\n", "", "", FANQUBER_REFUSED, FANQUBER_REFUSED },
+    };
+    const fanquber_settings settings = FANQUBER_SETTINGS;
+    const fanquber_window windows[] = { { 0, 1 }, { 1, 1 }, { 2, 1 } };
+    for (size_t row = 0; row < sizeof rows / sizeof *rows; row++) {
+        for (size_t err_size = 0; err_size <= ROOM; err_size++) {
+            const size_t out_size = ROOM - err_size, count = err_size % 2 ? 3 : 0;
+            fanquber_result results[3];
+            char all[ROOM];
+            memset(out, '#', ROOM);
+            memset(err, '#', ROOM);
+            got = fanquber_peg_windows(&settings, TEXT(rows[row].grammar), TEXT(""), TEXT("xy"), windows, count, results,
+                                       count, out, out_size, err, err_size);
+            snprintf(all, sizeof all, "%s%s", rows[row].front, count ? rows[row].told : "");
+            ENDS(FANQUBER_DONE, count ? rows[row].printed : "", all);
+            if (count == 0) continue;
+            CHECK(results[0].out_len == strlen(rows[row].printed) && results[0].err_len == 0);
+            CHECK(results[1].out_len == 0 && results[1].err_len == strlen(rows[row].told));
+            CHECK(results[0].status == rows[row].first && results[1].status == rows[row].second);
+            CHECK(results[2].out_len == 0 && results[2].err_len == 0 && results[2].status == FANQUBER_BAD_SETTINGS);
+        }
+    }
+}
+
+/* Opens a judge with a buffer that was filled with `#`. */
+static fanquber_judge opened(const fanquber_settings *settings, const char *grammar, const char *name, size_t err_size) {
+    fanquber_judge judge = FANQUBER_JUDGE;
+    memset(err, '#', ROOM);
+    got = fanquber_abnf_open(settings, TEXT(grammar), TEXT(name), &judge, err, err_size);
+    return judge;
+}
+
+#define OPENS(code, told) \
+    CHECK(got.status == (code) && got.out_len == 0 && judge.is_open == ((code) == FANQUBER_DONE)); \
+    CHECK(got.err_len == strlen(told) && holds(err, err_size, TEXT(told)))
+
+#define ANSWERS(line, len, code, count) \
+    do { \
+        fanquber_answer said = fanquber_abnf_judge(&judge, line, len); \
+        CHECK(said.status == (code) && said.reached == (count)); \
+    } while (0)
+
+/* What judges answer, opened with each setting that they look at. */
+static void judged_lines(void) {
+    fanquber_settings settings = FANQUBER_SETTINGS;
+    size_t err_size = ROOM;
+    fanquber_judge judge = opened(&settings, "a = 1*(\"x\" [LF])\n", "", err_size);
+    OPENS(FANQUBER_DONE, "");
+    for (int turn = 0; turn < 3; turn++) {
+        ANSWERS("x", 1, FANQUBER_DONE, 0);
+        ANSWERS("", 0, FANQUBER_NO_MATCH, 0);
+        ANSWERS("x\nx", 3, FANQUBER_DONE, 0);
+        ANSWERS("x\0x", 3, FANQUBER_NO_MATCH, 0);
+    }
+    got = fanquber_abnf_open(&settings, TEXT(LETTER_X), TEXT(""), &judge, err, err_size);
+    CHECK(got.status == FANQUBER_BAD_SETTINGS && judge.is_open); /* it is open */
+    ANSWERS("x\nx", 3, FANQUBER_DONE, 0);
+    fanquber_abnf_close(&judge);
+    CHECK(!judge.is_open);
+    fanquber_abnf_close(&judge);
+    ANSWERS("x", 1, FANQUBER_BAD_SETTINGS, 0);
+    settings.mode = 7;
+    judge = opened(&settings, LETTER_X, "", err_size);
+    OPENS(FANQUBER_BAD_SETTINGS, "");
+    settings = (fanquber_settings){ 2, FANQUBER_RUN, FANQUBER_UTF8, true, false, true, false, false };
+    for (err_size = 0; err_size < 32; err_size++) {
+        judge = opened(&settings, "a = \"x\"\nb = %xE9 \"y\"\n", "B", err_size);
+        OPENS(FANQUBER_DONE, "rule 'a' defined but not used\n");
+        ANSWERS("\xc3\xa9", 2, FANQUBER_NO_MATCH, 1);
+        ANSWERS("\xc3", 1, FANQUBER_NO_MATCH, 0);
+        ANSWERS("\xc3\xa9y", 3, FANQUBER_OVERLONG, 0);
+        fanquber_abnf_close(&judge);
+    }
+    err_size = ROOM;
+    judge = opened(&settings, LETTER_X, "no-rule", err_size);
+    CHECK(got.status == FANQUBER_REFUSED && got.err_len > 0 && !judge.is_open);
+    settings.named = false;
+    judge = opened(&settings, "a = )\n", "", err_size);
+    OPENS(FANQUBER_REFUSED, "line 1: syntax error\n");
+    settings.explain = true;
+    for (err_size = 0; err_size <= ROOM; err_size++) {
+        judge = opened(&settings, "a = \"x\"\nb = \"y\"\n", "", err_size);
+        OPENS(FANQUBER_DONE, "rule 'b' defined but not used\n  line 2: 'b' is defined\n");
+        fanquber_abnf_close(&judge);
+        judge = opened(&settings, "a = b\n", "", err_size);
+        OPENS(FANQUBER_REFUSED, "rule 'b' used but not defined\n  line 1: used in rule 'a'\n  reached by 'a' > 'b'\n");
+    }
+}
+
 int main(void) {
+    judged_lines();
     many_windows();
+    windows_of_grammars();
     small_buffers();
     bad_settings();
     each_setting();

@@ -1,6 +1,6 @@
 /* refused GRAMMAR: each allocation of a call is refused in turn. The status is then FANQUBER_FAULT or FANQUBER_NO_MEMORY,
- * or the reply is whole, and no memory is left behind. GRAMMAR is that of RFC 3986. Link it with the static library and
- * -Wl,--wrap=malloc,--wrap=realloc,--wrap=free. */
+ * or the reply is whole, and no memory is left behind, nor by a judge that was closed. GRAMMAR is that of RFC 3986. Link it
+ * with the static library and -Wl,--wrap=malloc,--wrap=realloc,--wrap=free. */
 #include "check.h"
 
 enum { MOST = 1000000 };
@@ -61,6 +61,70 @@ static void sweep(const char *title, tool *run, const char *grammar, size_t gram
     CHECK(!"the sweep ends");
 }
 
+/* Does the same for a judge: to open it, to judge each of two lines twice, and to close it. */
+static void sweep_judge(const char *grammar, size_t grammar_len, size_t limit) {
+    fanquber_settings settings = FANQUBER_SETTINGS;
+    const long base = live;
+    static char err[4096];
+    settings.limit = limit;
+    for (long granted = 0; granted < MOST; granted++) {
+        fanquber_judge judge = FANQUBER_JUDGE;
+        left = granted;
+        fanquber_result got = fanquber_abnf_open(&settings, grammar, grammar_len, TEXT(""), &judge, err, sizeof err);
+        CHECK(got.status == (judge.is_open ? FANQUBER_DONE : FANQUBER_NO_MEMORY));
+        CHECK(judge.is_open || live == base);
+        for (int turn = 0; turn < 4 && judge.is_open; turn++) {
+            const char *line = turn % 2 == 0 ? "http://a/b" : "http://[";
+            fanquber_answer said = fanquber_abnf_judge(&judge, TEXT(line));
+            CHECK(said.status == turn % 2 || (said.status == FANQUBER_NO_MEMORY && left == 0));
+            CHECK(said.reached == 0 && judge.is_open);
+        }
+        int is_all = left > 0;
+        left = -1;
+        if (judge.is_open) {
+            const char *line = "http://a/b"; /* the judge serves on behind a refusal */
+            CHECK(fanquber_abnf_judge(&judge, TEXT(line)).status == FANQUBER_DONE);
+        }
+        fanquber_abnf_close(&judge);
+        CHECK(live == base);
+        if (is_all || wrong) {
+            printf("judge: %ld allocations refused in turn\n", granted);
+            return;
+        }
+    }
+    CHECK(!"the sweep ends");
+}
+
+/* Does the same for windows, of a grammar with a note: where the note is told, all runs are those of the grammar, and else
+ * each stops. */
+static void sweep_windows(void) {
+    const fanquber_settings settings = FANQUBER_SETTINGS;
+    const fanquber_window windows[] = { { 0, 1 }, { 1, 1 } };
+    const char *front = "rule 'b' defined but not used\n";
+    const long base = live;
+    static char out[64], err[4096];
+    for (long granted = 0; granted < MOST; granted++) {
+        fanquber_result results[2];
+        left = granted;
+        fanquber_result got = fanquber_peg_windows(&settings, TEXT("a <- < 'x' > { yytext }\nb <- 'y'\n"), TEXT(""),
+                                                   TEXT("xy"), windows, 2, results, 2, out, sizeof out, err, sizeof err);
+        int is_all = left > 0;
+        left = -1;
+        CHECK(live == base);
+        CHECK(got.status == FANQUBER_DONE);
+        size_t first = got.err_len - results[0].err_len - results[1].err_len;
+        int is_told = first == strlen(front) && memcmp(err, front, first) == 0;
+        CHECK(is_told || (!is_all && first == 0));
+        CHECK(results[0].status == FANQUBER_DONE ? is_told : results[0].status >= FANQUBER_FAULT);
+        CHECK(results[1].status == FANQUBER_NO_MATCH ? is_told : results[1].status >= FANQUBER_FAULT);
+        if (is_all || wrong) {
+            printf("windows: %ld allocations refused in turn\n", granted);
+            return;
+        }
+    }
+    CHECK(!"the sweep ends");
+}
+
 int main(int count, char **words) {
     static char grammar[1 << 16];
     FILE *file = count == 2 ? fopen(words[1], "rb") : NULL;
@@ -70,5 +134,7 @@ int main(int count, char **words) {
     sweep("abnf", fanquber_abnf, grammar, grammar_len, URIS, FANQUBER_NO_MATCH, URI_ANSWERS);
     sweep("peg", fanquber_peg, TEXT("a <- (b / < . > { (yytext) })+ !.\nb <- 'x' 'x'"), "yxxz", FANQUBER_DONE,
           "(y)\n(z)\n");
+    sweep_windows();
+    sweep_judge(grammar, grammar_len, 64);
     return wrong;
 }

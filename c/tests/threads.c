@@ -1,4 +1,5 @@
-/* threads GRAMMAR: four threads call the library at once; each reply is that of one thread. GRAMMAR is that of RFC 3986. */
+/* threads GRAMMAR: four threads call the library at once, and each judges lines by a judge of its own; each reply is that of
+ * one thread. GRAMMAR is that of RFC 3986. */
 #include "check.h"
 #include <pthread.h>
 
@@ -19,6 +20,16 @@ static void *work(void *bad) {
                            sizeof err);
         if (got.status != FANQUBER_DONE || got.out_len != 8 || memcmp(out, "(x)\n(y)\n", 8) != 0) *(int *)bad = 1;
     }
+    fanquber_judge judge = FANQUBER_JUDGE;
+    char err[4096];
+    if (fanquber_abnf_open(&settings, grammar, grammar_len, TEXT(""), &judge, err, sizeof err).status != FANQUBER_DONE)
+        *(int *)bad = 1;
+    for (int call = 0; call < CALLS * CALLS; call++) {
+        if (fanquber_abnf_judge(&judge, TEXT("http://a/b")).status != FANQUBER_DONE ||
+            fanquber_abnf_judge(&judge, TEXT("http://[")).status != FANQUBER_NO_MATCH)
+            *(int *)bad = 1;
+    }
+    fanquber_abnf_close(&judge);
     return NULL;
 }
 

@@ -1,8 +1,11 @@
 """Grammars that are asked more than once."""
-from typing import Iterable, List, NamedTuple, Optional
+import threading
+from typing import Any, Dict, Iterable, List, NamedTuple, Optional
 
 from ._library import (
     DEFAULT_LIMIT,
+    AbnfJudge,
+    Answer,
     GrammarError,
     Letters,
     Mode,
@@ -37,9 +40,10 @@ class Abnf:
     """A grammar in ABNF (RFC 5234, RFC 7405), with the rule that judges lines: the first, if none is named.
 
     A line is bytes, or a `str`, which stands for its bytes in UTF-8. Its letters are its bytes, or its code points with
-    `Letters.UTF8`. It may hold any byte, but not LF and NUL both, and has at most `limit` bytes. `GrammarError` if the
-    grammar is refused, `OutOfMemory` if memory is; each call that judges lines raises `Overlong` for a line above the
-    limit.
+    `Letters.UTF8`. It may hold any byte, and has at most `limit` bytes. `GrammarError` if the grammar is refused,
+    `OutOfMemory` if memory is; each call that judges lines raises `Overlong` for a line above the limit.
+
+    Each thread reads the grammar once, and again to explain.
     """
 
     def __init__(
@@ -52,33 +56,40 @@ class Abnf:
     ) -> None:
         self._text = as_bytes(text)
         self._rule, self._letters, self._limit = rule, letters, limit
-        reply = abnf(self._text, mode=Mode.CHECK, limit=limit, rule=rule, letters=letters)
-        _raise_fault(reply)
-        self.notes: List[str] = _lines(reply.err)
+        self._own = threading.local()
+        self.notes: List[str] = _lines(self._judge().opening.err)
         """What is noted of the grammar, and does not refuse it."""
 
-    def _answers(self, lines: Iterable[Text], viable: bool) -> List[bytes]:
-        """Returns the answers to all lines, by one run; by LF, or by NUL where a line holds LF."""
-        texts = [as_bytes(line) for line in lines]
-        nul = any(b"\n" in text for text in texts)
-        end = b"\0" if nul else b"\n"
-        if nul and any(end in text for text in texts):
-            raise ValueError("the lines hold LF and NUL")
-        reply = abnf(
-            self._text,
-            b"".join(text + end for text in texts),
-            limit=self._limit,
-            rule=self._rule,
-            letters=self._letters,
-            viable=viable,
-            nul=nul,
-        )
-        _raise_fault(reply)
-        return reply.out.splitlines()
+    def __getstate__(self) -> Dict[str, Any]:
+        return {name: it for name, it in self.__dict__.items() if name != "_own"}
+
+    def __setstate__(self, state: Dict[str, Any]) -> None:
+        self.__dict__.update(state, _own=threading.local())
+
+    def _judge(self, viable: bool = False) -> AbnfJudge:
+        """Returns what judges lines on this thread: it is opened when it is first asked for."""
+        name = "viable" if viable else "plain"
+        judge = getattr(self._own, name, None)
+        if judge is None:
+            judge = AbnfJudge(self._text, limit=self._limit, rule=self._rule, letters=self._letters, viable=viable)
+            _raise_fault(judge.opening)
+            setattr(self._own, name, judge)
+        return judge
+
+    def _answers(self, lines: Iterable[Text], viable: bool) -> List[Answer]:
+        """Returns the answers to all lines."""
+        judge = self._judge(viable)
+        answers: List[Answer] = []
+        for text in map(as_bytes, lines):
+            if len(text) > self._limit:
+                out = b"".join(b"yes\n" if it.derived else b"no\n" for it in answers)
+                raise Overlong(f"line {len(answers) + 1} longer than {self._limit} bytes", out)
+            answers.append(judge.answer(text))
+        return answers
 
     def judge(self, lines: Iterable[Text]) -> List[bool]:
-        """Returns for each line whether the rule derives it. One run judges all, which is faster than one run each."""
-        return [answer == b"yes" for answer in self._answers(lines, viable=False)]
+        """Returns for each line whether the rule derives it."""
+        return [it.derived for it in self._answers(lines, viable=False)]
 
     def derives(self, line: Text) -> bool:
         """Returns whether the rule derives a line."""
@@ -93,7 +104,7 @@ class Abnf:
         """Returns None for a line that the rule derives. Of any other it returns how many letters the longest beginning
         has that begins something which the rule derives: the letter behind them cannot stand there."""
         answer = self._answers([line], viable=True)[0]
-        return None if answer == b"yes" else int(answer.partition(b" ")[2])
+        return None if answer.derived else answer.reached
 
     def canonical(self) -> bytes:
         """Returns the text of the grammar in its canonical form."""

@@ -1,9 +1,10 @@
-"""The calls of libfanquber, one whole run each."""
+"""The calls of libfanquber: whole runs, and judges of lines that are opened once."""
 import ctypes
 import ctypes.util
 import enum
 import os
-from typing import Any, List, NamedTuple, Optional, Sequence, Union
+import threading
+from typing import Any, Dict, List, NamedTuple, Optional, Sequence, Union
 
 Text = Union[bytes, str]
 
@@ -92,6 +93,14 @@ class _Window(ctypes.Structure):
     _fields_ = [("at", ctypes.c_size_t), ("len", ctypes.c_size_t)]
 
 
+class _Judge(ctypes.Structure):
+    _fields_ = [("at", ctypes.c_void_p), ("is_open", ctypes.c_bool)]
+
+
+class _Answer(ctypes.Structure):
+    _fields_ = [("reached", ctypes.c_size_t), ("status", ctypes.c_uint8)]
+
+
 def _loaded() -> ctypes.CDLL:
     """Returns the shared object: the file that FANQUBER_LIBRARY names, or else the one that the system finds."""
     library = ctypes.CDLL(os.environ.get("FANQUBER_LIBRARY") or ctypes.util.find_library("fanquber") or _SONAME)
@@ -99,8 +108,12 @@ def _loaded() -> ctypes.CDLL:
     windows = [ctypes.POINTER(_Window), ctypes.c_size_t, ctypes.POINTER(_Result), ctypes.c_size_t]
     library.fanquber_peg.argtypes = library.fanquber_abnf.argtypes = settings + text * 5
     library.fanquber_peg_windows.argtypes = settings + text * 3 + windows + text * 2
-    for call in (library.fanquber_peg, library.fanquber_abnf, library.fanquber_peg_windows):
-        call.restype = _Result
+    judge = [ctypes.POINTER(_Judge)]
+    library.fanquber_abnf_open.argtypes = settings + text * 2 + judge + text
+    library.fanquber_abnf_judge.argtypes, library.fanquber_abnf_judge.restype = judge + text, _Answer
+    library.fanquber_abnf_close.argtypes, library.fanquber_abnf_close.restype = judge, None
+    for call in ("fanquber_peg", "fanquber_abnf", "fanquber_peg_windows", "fanquber_abnf_open"):
+        getattr(library, call).restype = _Result
     return library
 
 
@@ -158,22 +171,24 @@ def peg_each(
     limit: int = DEFAULT_LIMIT,
     start: Optional[str] = None,
     raw: bool = False,
+    explain: bool = False,
 ) -> List[Reply]:
-    """Returns for each text what pegi(1) writes for it, without the notes or the fault of the grammar. The
-    grammar is read and checked once."""
+    """Returns for each text what pegi(1) writes for it, as `peg` does. The grammar is read and checked once."""
     parts = [as_bytes(text) for text in texts]
     windows, results = (_Window * len(parts))(), (_Result * len(parts))()
     at = 0
     for window, part in zip(windows, parts):
         window.at, window.len = at, len(part)
         at += len(part)
-    settings = _settings(limit, Mode.RUN, start, raw=raw)
+    settings = _settings(limit, Mode.RUN, start, raw=raw, explain=explain)
     more = (windows, len(parts), results, len(parts))
     out, err, _ = _run(_library.fanquber_peg_windows, settings, grammar, start, b"".join(parts), 65536, more)
-    replies, out_at, err_at = [], 0, 0
+    # What is told of the grammar stands once, before what the runs tell
+    replies, out_at, err_at = [], 0, len(err) - sum(it.err_len for it in results)
+    of_grammar = err[:err_at]
     for it in results:
         out_end, err_end = out_at + it.out_len, err_at + it.err_len
-        replies.append(Reply(out[out_at:out_end], err[err_at:err_end], Status(it.status)))
+        replies.append(Reply(out[out_at:out_end], of_grammar + err[err_at:err_end], Status(it.status)))
         out_at, err_at = out_end, err_end
     return replies
 
@@ -196,3 +211,54 @@ def abnf(
     # An answer is `yes`, or `no` with a number of at most eight digits
     room = (12 if viable else 4) * (text.count(b"\0" if nul else b"\n") + 1)
     return _run(_library.fanquber_abnf, settings, grammar, rule, text, max(room, 65536))
+
+
+class Answer(NamedTuple):
+    """The answer to a line: whether it is derived, and how many letters its longest viable beginning has, if that is
+    asked for and it is not."""
+
+    derived: bool
+    reached: int
+
+
+# Judges that were let go on another thread than theirs, by their thread: it closes them when it opens the next.
+_left: Dict[int, List[_Judge]] = {}
+
+
+class AbnfJudge:
+    """A grammar in ABNF that the library read once, for the thread that opens it."""
+
+    def __init__(
+        self, grammar: Text, *, limit: int, rule: Optional[str], letters: Letters, viable: bool = False
+    ) -> None:
+        self._judge, self._thread = _Judge(), threading.get_ident()
+        for judge in _left.pop(self._thread, []):
+            _library.fanquber_abnf_close(ctypes.byref(judge))
+        settings = _settings(limit, Mode.RUN, rule, letters=letters, viable=viable)
+        texts = [as_bytes(grammar), as_bytes(rule or "")]
+        words = [word for text in texts for word in (text, len(text))]
+        room = 4096
+        while True:
+            err = ctypes.create_string_buffer(room)
+            got = _library.fanquber_abnf_open(ctypes.byref(settings), *words, ctypes.byref(self._judge), err, room)
+            if got.err_len <= room:
+                break
+            _library.fanquber_abnf_close(ctypes.byref(self._judge))
+            room = got.err_len
+        self.opening = Reply(b"", err.raw[: got.err_len], Status(got.status))
+        """What a run that checks the grammar writes."""
+
+    def answer(self, line: bytes) -> Answer:
+        """Returns the answer to a line. `Overlong` if it is longer than the limit."""
+        got = _library.fanquber_abnf_judge(ctypes.byref(self._judge), line, len(line))
+        if got.status == Status.OVERLONG:
+            raise Overlong(f"line of {len(line)} bytes is longer than the limit", b"")
+        if got.status == Status.NO_MEMORY:
+            raise OutOfMemory("out of memory")
+        return Answer(got.status == Status.DONE, got.reached)
+
+    def __del__(self) -> None:
+        if threading.get_ident() == self._thread:
+            _library.fanquber_abnf_close(ctypes.byref(self._judge))
+        else:
+            _left.setdefault(self._thread, []).append(self._judge)

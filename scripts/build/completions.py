@@ -1,5 +1,5 @@
 #!/usr/bin/env python3
-"""Writes completions/: for bash, zsh and fish what may stand next in a command line of pegi and abnfi.
+"""Writes completions/: for bash, zsh and fish what may stand next in a command line of pegi, abnfi and abnfx.
 
 usage: completions.py [--check]
 
@@ -27,11 +27,13 @@ class Option:
 
 @dataclasses.dataclass(frozen=True)
 class Program:
-    """A program: its options, and what stands behind a rule's name where the grammar is printed."""
+    """A program: its options, what stands behind a rule's name where the grammar is printed, and what the help says of
+    its file. A program without that sign takes any number of texts."""
 
     name: str
     options: tuple
     sign: str
+    file: str
 
     def valued(self):
         """Returns the options that take a value, as they are typed."""
@@ -50,7 +52,7 @@ PROGRAMS = (
         Option("r", "", (), "Print actions verbatim"),
         EXPLAIN,
         HELP,
-    ), "<-"),
+    ), "<-", GRAMMAR),
     Program("abnfi", (
         MODE,
         Option("l", "N", (), "How many bytes a line may have, from 1 to 16777216"),
@@ -61,7 +63,12 @@ PROGRAMS = (
         Option("z", "", (), "Cut the input at NUL bytes in place of line feeds"),
         EXPLAIN,
         HELP,
-    ), "="),
+    ), "=", GRAMMAR),
+    Program("abnfx", (
+        Option("c", "", (), "Write the canonical text of the grammar"),
+        Option("l", "", (), "List the rules, and what becomes of each"),
+        HELP,
+    ), "", "The texts of RFCs, each at most 16777216 bytes"),
 )
 
 BASH = r"""# Completes the command line of @NAME@ in bash. scripts/build/completions.py wrote this file.
@@ -107,6 +114,38 @@ _@NAME@() {
     fi
 }
 complete -F _@NAME@ @NAME@
+"""
+
+BASH_TEXTS = r"""# Completes the command line of @NAME@ in bash. scripts/build/completions.py wrote this file.
+
+_@NAME@() {
+    local current=${COMP_WORDS[COMP_CWORD]} option words
+    COMPREPLY=()
+    if [[ $current == -* ]]; then
+        # each option may stand once
+        for option in @OPTIONS@; do
+            [[ " ${COMP_WORDS[*]} " == *" $option "* && $option != "$current" ]] || words+=" $option"
+        done
+        mapfile -t COMPREPLY < <(compgen -W "$words" -- "$current")
+    else
+        compopt -o filenames 2> /dev/null
+        mapfile -t COMPREPLY < <(compgen -f -- "$current")
+    fi
+}
+complete -F _@NAME@ @NAME@
+"""
+
+ZSH_TEXTS = r"""#compdef @NAME@
+# Completes the command line of @NAME@ in zsh. scripts/build/completions.py wrote this file.
+
+_arguments -s \
+@OPTIONS@
+    '*:text:_files'
+"""
+
+FISH_TEXTS = r"""# Completes the command line of @NAME@ in fish. scripts/build/completions.py wrote this file.
+
+@OPTIONS@
 """
 
 BASH_VALUES = """        -@LETTER@)
@@ -179,8 +218,8 @@ def for_bash(program):
         filled(BASH_VALUES, LETTER=it.letter, VALUES=" ".join(it.values)) for it in program.options if it.values
     ]
     options = " ".join(f"-{it.letter}" for it in program.options) + " --help"
-    return filled(BASH, NAME=program.name, SIGN=program.sign, VALUED=" | ".join(program.valued()),
-                  VALUES="\n".join(values), OPTIONS=options)
+    return filled(BASH if program.sign else BASH_TEXTS, NAME=program.name, SIGN=program.sign,
+                  VALUED=" | ".join(program.valued()), VALUES="\n".join(values), OPTIONS=options)
 
 
 def for_zsh(program):
@@ -191,8 +230,8 @@ def for_zsh(program):
             return f"    '(- 1)'{{-h,--help}}'[{text}]' \\"
         action = f"({' '.join(it.values)})" if it.values else f"_{program.name}_rules" if it.letter == "s" else " "
         return f"    '-{it.letter}[{text}]" + (f":{it.value.lower()}:{action}' \\" if it.value else "' \\")
-    return filled(ZSH, NAME=program.name, SIGN=program.sign, VALUED="|".join(program.valued()),
-                  OPTIONS="\n".join(map(spec, program.options)))
+    return filled(ZSH if program.sign else ZSH_TEXTS, NAME=program.name, SIGN=program.sign,
+                  VALUED="|".join(program.valued()), OPTIONS="\n".join(map(spec, program.options)))
 
 
 def for_fish(program):
@@ -202,8 +241,8 @@ def for_fish(program):
         values = (" -x" if it.value else "") + (f" -a '{offered}'" if offered else "")
         name = f"-s {it.letter}" + (" -l help -f" if it is HELP else "")
         return f"complete -c {program.name} {name}{values} -d '{it.text}'"
-    return filled(FISH, NAME=program.name, SIGN=program.sign, VALUED=" ".join(program.valued()),
-                  OPTIONS="\n".join(map(line, program.options)))
+    return filled(FISH if program.sign else FISH_TEXTS, NAME=program.name, SIGN=program.sign,
+                  VALUED=" ".join(program.valued()), OPTIONS="\n".join(map(line, program.options)))
 
 
 def files():

@@ -1,5 +1,5 @@
 #!/usr/bin/env python3
-"""Packs both programs with what belongs to them, in the folder bin/: an archive for any Linux on x86-64, or a package
+"""Packs the programs with what belongs to them, in the folder bin/: an archive for any Linux on x86-64, or a package
 for Debian. `make put` says what goes where.
 
 usage: package.py dist|deb
@@ -21,7 +21,7 @@ import tempfile
 
 TOP = pathlib.Path(__file__).resolve().parents[2]
 NAME = "fanquber"
-PROGRAMS = ("pegi", "abnfi")
+PROGRAMS = ("pegi", "abnfi", "abnfx")
 LIBRARIES = {"libc.so.6", "ld-linux-x86-64.so.2"}
 CONTROL = """Package: {name}
 Version: {version}
@@ -36,6 +36,7 @@ Description: proved grammar tools: pegi runs PEG grammars, abnfi judges lines by
  abnfi reads a grammar in ABNF (RFC 5234, RFC 7405) and answers yes or no for
  each line of its input. Both also check a grammar and print it in one canonical
  form. What both write is proved to be a stated function of grammar and input.
+ abnfx joins the grammars in ABNF that texts of RFCs give.
 """
 
 
@@ -55,7 +56,7 @@ def commit():
 
 
 def libc_version():
-    """Returns the least version of the C library that both programs run with; ends the script if they need another."""
+    """Returns the least version of the C library that the programs run with; ends the script if they need another."""
     found = []
     for it in PROGRAMS:
         told = output("readelf", "-dV", f"bin/{it}")
@@ -71,7 +72,7 @@ def lay_out(folder, prefix):
     output("make", "-s", "put", f"DESTDIR={folder}", f"PREFIX={prefix}")
     sources = commit()[2]
     kit = output(*os.environ.get("RT", "rt").split(), "version").splitlines()[0]
-    text = f"pegi and abnfi: each function is proved against its contract, from {sources}, by {kit}.\n"
+    text = f"pegi, abnfi and abnfx: each function is proved against its contract, from {sources}, by {kit}.\n"
     (folder / prefix.strip("/") / f"share/doc/{NAME}/PROVED").write_text(text)
 
 

@@ -23,7 +23,7 @@ from crates import in_order
 
 PAGES = TOP / "docs" / "crates"
 # Crates that show how to call the others, or test them.
-NO_LIBRARY = ("callers", "fakes", "known_answers", "known_runs")
+NO_LIBRARY = ("callers", "fakes", "known_abnf", "known_answers", "known_peg", "known_runs")
 BLOCK = re.compile(r"<!-- (contracts:[^>]*|callers|laws|definitions) -->\n.*?<!-- end -->", re.S)
 EXPORT = re.compile(r"^pub use (\w+)::(?:(\w+(?: as \w+)?);|\{(.*?)\};)", re.M | re.S)
 DECLARED = r"^pub (?:struct|enum|trait|const|static) {}\b"

@@ -4,7 +4,7 @@ offers what it should.
 
 usage: completions_test.py [--terminals]
 
-It needs both programs in bin/. A shell that is not installed is skipped, and the script says so. bash runs the function
+It needs the programs in bin/. A shell that is not installed is skipped, and the script says so. bash runs the function
 that it would run at the tab key, and fish tells what it would offer. With --terminals bash and zsh run on a terminal
 of their own too, where the tab key is pressed; a busy machine may then answer too late.
 """
@@ -21,7 +21,7 @@ import tempfile
 import time
 
 sys.path.insert(0, str(pathlib.Path(__file__).resolve().parents[1]))  # scripts/, for what groups share
-from build.completions import FOLDER, GRAMMAR, PROGRAMS, TOP
+from build.completions import FOLDER, PROGRAMS, TOP
 
 # Each grammar has three rules, of which the last is used by none.
 GRAMMARS = {
@@ -40,6 +40,8 @@ ROWS = (
     ("abnfi", "-w g.abnf -s ", {"line", "word", "other-1"}),
     ("abnfi", "-u utf8 g.abnf -s w", {"word"}),
     ("abnfi", "g.a", {"g.abnf"}),
+    ("abnfx", "-c g.p", {"g.peg"}),
+    ("abnfx", "g.peg g.a", {"g.abnf"}),
 )
 # The last of these words may be offered only where a row says so.
 EVERY = {it for _, _, wanted in ROWS for it in wanted}
@@ -60,15 +62,15 @@ def shown(program):
         values = re.search(r" \[possible values: (.*)\]", said)
         said = re.sub(r" \[(possible values|default: (run|bytes|65536)\]).*", "", said)
         found.add((letter, value, said, tuple(values[1].split(", ")) if values else ()))
-    return found, re.search(r"(?m)^  <GRAMMAR> +(.*)$", text)[1]
+    return found, re.search(r"(?m)^  <(?:GRAMMAR|TEXT)>(?:\.\.\.)? +(.*)$", text)[1]
 
 
 def faults_of_help(program):
     """Returns in what -h and the description differ."""
-    options, grammar = shown(program)
+    options, file = shown(program)
     described = {(it.letter, it.value, it.text, it.values) for it in program.options}
     faults = [f"{program.name} -h and scripts/build/completions.py differ in {it}" for it in options ^ described]
-    return faults + ([] if grammar == GRAMMAR else [f"{program.name} -h says of the grammar: {grammar}"])
+    return faults + ([] if file == program.file else [f"{program.name} -h says of its file: {file}"])
 
 
 def words_of(typed):

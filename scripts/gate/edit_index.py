@@ -35,15 +35,19 @@ EXEMPT = (
     "packrat: Marks.all",
     # Its equation stands behind a premise, and `requires` says that something meets the premise.
     "pegmatch: Plain.replay", "pegmatch: writing.write_event",
-    # It passes on what `Automaton::with_room` returns.
-    "lazydfa: Automaton.new",
+    # It passes on what `KeyLog::get` finds.
+    "packrat: Packrat.found",
+    # It passes on what `noteplaces::explain_note` returns, whose clause equates.
+    "pegexplain: notes.explain_peg_note", "abnfexplain: notes.explain_abnf_note",
+    # They pass on what `stepchains::chains_from` and `Chains::chain_to` return, which have their edits.
+    "abnfcheck: reached_names.name_chains", "abnfcheck: NameChains.chain_to",
     # Another function of the crate has such a body, and its edit shows the same mistake.
     "commands: command.abnfi_command", "mains: mains.abnfi_main", "leastset: needs.are_needs_within",
     "pegmatch: leaves.match_any", "feed: Feed.front", "pegnodes: cut.cut_grammar", "pegnodes: star_tables.find_tables",
     "pegnodes: template.cut_templates", "fanquber_c: exports.fanquber_abnf",
     # A crate above has such an edit.
-    "memoryrun: whole_run.abnf_in_memory", "memoryrun: whole_run.peg_in_memory", "toolrun: plan.plan_of",
-    "toolrun: tool.act",
+    "abnfrun: AbnfJudge.judge", "memoryrun: whole_run.abnf_in_memory", "memoryrun: whole_run.peg_in_memory",
+    "toolrun: plan.plan_of", "toolrun: tool.act", "noteplaces: places.places_of",
 )
 
 
@@ -68,7 +72,7 @@ def equates(text):
     """Tells whether a clause equates something with a term: by one `≡`, at each byte perhaps, or by a word. `IfOk` and
     the like speak of one outcome. Every other outcome is allowed, so an edit of it shows nothing."""
     text = re.sub(r"^\(\w : ℕ\) → (\w < 256 → )?", "", text)
-    outcome = re.fullmatch(r"(?:IfOk|IfSome|OnOk|OnErr) result \((?:λ \w+\. )?(.*)\)", text)
+    outcome = re.fullmatch(r"(?:IfOk|IfSome|OnOk|OnErr) \w+ \((?:λ \w+\. )?(.*)\)", text)
     if outcome:
         return equates(outcome[1])
     is_plain = text.count(" ≡ ") == 1 and not re.search(r"^[A-Z]\w* | [→↔×⊎≤<] ", text)

@@ -63,6 +63,17 @@ EXPLAINED = peg("a fault explained", b"S <- 'a' | 'b'\n", b"a", [],
 ABNF_EXPLAINED = abnf("a fault of ABNF explained", b'my_rule = "x"\n', b"a\n", [],
                       b'line 1: syntax error\n  my_rule = "x"\n    ^\n  column 3: expected "=" or "=/"\n'
                       b'  names hold letters, digits and "-"\n', 2, words=["-x"])
+AGAIN_EXPLAINED = peg("notes explained", b"S <- 'a' U\nT <- 'b'\nS <- T\n", b"a", [],
+                      b"rule 'S' redefined\n  line 1: 'S' is defined\n  line 3: 'S' is defined again\n"
+                      b"rule 'U' used but not defined\n  line 1: used in rule 'S'\n"
+                      b"rule 'T' defined but not used\n  line 2: 'T' is defined\n", 2, words=["-x"])
+EARLY_EXPLAINED = abnf("notes of ABNF explained", b's = "x"\nT =/ s / <a text>\n', b"X\n", [YES],
+                       b"rule 'T' extended before it is defined\n  line 2: 'T' begins with \"=/\"\n"
+                       b"prose in rule 'T'\n  line 2: <a text>\n"
+                       b"rule 'T' defined but not used\n  line 2: 'T' is defined\n", words=["-x"])
+REACHED_EXPLAINED = abnf("a reached name explained", b"s = t\nt = s / u\n", b"X\n", [],
+                         b"rule 'u' used but not defined\n  line 2: used in rule 't'\n"
+                         b"  reached by 's' > 't' > 'u'\n", 2, words=["-x"])
 PRINTED = peg("a grammar printed", b"A<-('x')/[b-da^-]*", b"", [b'A <- "x" / [\\055\\136a-d]*\n'], words=PRINT)
 ALTERNATIVES = b'k = %s"Ab"\n  / "cd"\nK =/ 2*3%x78'
 LINES = b"Ab\nab\nCD\nxx\nxxxx\n"
@@ -87,6 +98,9 @@ GROWING = [
     ABNF_CHECKED,
     EXPLAINED,
     ABNF_EXPLAINED,
+    AGAIN_EXPLAINED,
+    EARLY_EXPLAINED,
+    REACHED_EXPLAINED,
 ]
 
 
@@ -147,12 +161,20 @@ def may_go_on(run, number):
     return has_automaton or has_notes or number <= len(run.words) + GROWTHS_OF_WORDS
 
 
+def explained_beginnings(told):
+    """Returns what may stand of messages that are explained where there is no memory for what is behind: the first
+    ones, the last of them perhaps without what explains it."""
+    lines = told.splitlines(keepends=True)
+    messages = [at for at, line in enumerate(lines) if not line.startswith(b"  ")]
+    counts = {0, *messages, *(at + 1 for at in messages), len(lines)}
+    return [b"".join(lines[:count]) for count in sorted(counts)]
+
+
 def refuse_each(tools, run, **more):
     """Refuses each growth of a run in turn. Returns how many it has, and how many of them were made good."""
     fronts = [b"".join(run.texts[:k]) for k in range(len(run.texts) + 1)]
     number, good = 1, 0
-    # a message that is explained stands whole where there is no memory to explain it
-    messages = [b"", run.told.partition(b"\n")[0] + b"\n"] if "-x" in run.words else [b""]
+    messages = explained_beginnings(run.told) if "-x" in run.words else [b""]
     stops = [it + b"out of memory\n" for it in messages]
     while (ended := tools.run(run, GROWTH=number, **more)).refused:
         right = ended.out in fronts and ended.err in stops and ended.status == 5
@@ -324,12 +346,12 @@ def stack(tools):
 
 
 # Bytes of memory that the system gives to a run.
-BOUND = 400_000_000
+BOUND = 20_000_000
 
 
 def bound(tools):
     """A line whose sets of items need more memory than the system gives."""
-    run = abnf("a line of 60,001 letters", b's = "a" s "a" / "a"', b"a\n" + b"a" * 60001 + b"\n", [YES],
+    run = abnf("a line of 10,001 letters", b's = "a" s "a" / "a"', b"a\n" + b"a" * 10001 + b"\n", [YES],
                b"out of memory\n", 5, words=["-w"])
     if not tools.has(run.program):
         return

@@ -2,8 +2,9 @@
 """The gate: the rules of names, the names in the documents, the form of the edits that must fail, the pages of the
 libraries and the completions; if these are green `rt ci`; if that is green too the programs as users run them: those
 that `rt ci` built are put into bin/, and run on the folders of examples/ and the examples of the manual pages, on
-random cases against slow answers, and with memory, writes, reads and stack refused; then what shells complete, what is
-packed, and the library for C, if `make lib` made it, are tested.
+random cases against slow answers, by item sets alone, on grammars of a megabyte and lines of 16 MB that are made to
+cost much, and with memory, writes, reads and stack refused; then what shells complete, what is packed, and, if `make
+lib` made it, the library for C are tested.
 
 usage: gate.py
 
@@ -16,7 +17,7 @@ import shutil
 import subprocess
 import sys
 
-PROGRAMS = ("pegi", "abnfi")
+PROGRAMS = ("pegi", "abnfi", "abnfx")
 # What is looked at before anything is proved, and what the programs are run by.
 BEFORE = (
     ("gate/names.py",), ("gate/doc_names.py",), ("gate/edit_index.py", "-q"), ("docs/pages.py", "--check"),
@@ -24,8 +25,10 @@ BEFORE = (
 )
 BEHIND = (
     ("docs/run_examples.sh",), ("docs/man_examples.py",),
-    ("oracles/random_cases.py", "-n", "5000", "-u", "-w", "-z", "-x"),
-    ("gate/faults.py",), ("gate/completions_test.py",), ("gate/package_test.py",), ("gate/library_test.py",)
+    ("oracles/random_cases.py", "-n", "5000", "-u", "-w", "-z", "-x"), ("oracles/both_judges.py",),
+    ("oracles/dense_lines.py",), ("oracles/slow_abnfx.py",), ("oracles/random_texts.py", "-n", "300"),
+    ("bench/hostile_grammars.py",), ("gate/faults.py",), ("gate/completions_test.py",), ("gate/package_test.py",),
+    ("gate/library_test.py",)
 )
 TOP = pathlib.Path(__file__).resolve().parents[2]
 RT = os.environ.get("RT", "rt").split()

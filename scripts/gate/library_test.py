@@ -1,7 +1,7 @@
 #!/usr/bin/env python3
 """Tests the library for C that `make lib` proved: each folder of examples/ runs through C and through the package of
 python/; then come settings, buffers and windows at their edges, four threads at once, each allocation refused in turn,
-and the examples in C++ and Rust.
+and the examples and tests in C++ and Rust.
 
 usage: library_test.py
 
@@ -64,8 +64,10 @@ class Test:
         return found
 
     def examples(self, program):
-        """Runs each folder of examples/ by the example in C."""
-        folders = [it for it in sorted((TOP / "examples").iterdir()) if it.is_dir()]
+        """Runs each folder of examples/ that has an input by the example in C. One of abnfx has none."""
+        runs = [(it, it / "run.sh") for it in sorted((TOP / "examples").iterdir()) if it.is_dir()]
+        lines = [(it, run.read_text().splitlines()[-1]) for it, run in runs]
+        folders = [it for it, line in lines if "<" in line]
         for it in folders:
             words = shlex.split((it / "run.sh").read_text().splitlines()[-1].replace("<", " < "))
             at = words.index("<")
@@ -88,15 +90,18 @@ class Test:
         return told
 
     def in_others(self):
-        """Runs the examples in C++ and Rust, and the tests in Python."""
+        """Runs the examples and tests in C++ and Rust, and the tests in Python."""
         if shutil.which(CXX[0]):
             self.ends("days.cpp", [self.built([*CXX, "-std=c++17"], TOP / "c/examples/days.cpp")], out=DAYS)
+            self.ends("each.cpp", [self.built([*CXX, "-std=c++17"], TOP / "c/tests/each.cpp")], out=b"")
         else:
             print(f"library: C++: no compiler {CXX[0]}: skipped")
         if shutil.which("rustc"):
-            program = self.folder / "days_rs"
-            run("rustc", "--edition", "2021", "-O", "-o", program, "-L", f"native={self.folder}", TOP / "rust/days.rs")
-            self.ends("days.rs", [program], out=DAYS)
+            for name, out in (("days", DAYS), ("each", b"")):
+                program = self.folder / f"{name}_rs"
+                run("rustc", "--edition", "2021", "-O", "-o", program, "-L", f"native={self.folder}",
+                    TOP / f"rust/{name}.rs")
+                self.ends(f"{name}.rs", [program], out=out)
         else:
             print("library: Rust: no compiler rustc: skipped")
         self.environment |= {"FANQUBER_LIBRARY": str(self.folder / SONAME), "PYTHONPATH": str(TOP / "python")}

@@ -43,10 +43,10 @@ TWINS = set(
 )
 # The most functions that a crate has, and the crates that have more: so many each. Tests count for nothing.
 LARGEST_CRATE = 105
-LARGER = {"lazydfa": 121}
+LARGER = {}
 # The most entries that a folder has, and the folders that have more.
 LARGEST_FOLDER = 40
-WIDER = {"crates": 50}
+WIDER = {"crates": 54, "docs/crates": 50}
 # Folders that hold no sources.
 BUILT = {".git", "__pycache__", "bin", "out"}
 TEXTS = {".antt", ".edit", ".md", ".py", ".rt", ".sh"}

@@ -7,8 +7,9 @@ A case is a unit that pegi tries, a line that abnfi judges, or a grammar that is
 of them by each program; 20000 if it is not given. Cases and their order follow from the seed alone. Prints how many
 cases were compared; at the first disagreement it prints the case and ends with status 1. A program that is not built is
 skipped. With -u half of the runs of abnfi have its option `-u utf8`; so it is with -w and its option `-w`, and with -z
-and its option `-z`. With -x half of the runs of both have the option `-x`, and most of these a text with a fault
-(slow_faults.py): a grammar's, of which some bytes are changed.
+and its option `-z`. With -x half of the runs of both have the option `-x`, half of these with what explains
+their notes (slow_notes.py), the others of a text with a fault (slow_faults.py): a grammar's, of which some bytes are
+changed.
 """
 import argparse
 import collections
@@ -22,6 +23,7 @@ import random_abnf
 import random_peg
 import slow_abnf
 import slow_faults
+import slow_notes
 import slow_peg
 
 TOP = pathlib.Path(__file__).resolve().parents[2]
@@ -42,11 +44,12 @@ def spoiled(r, text):
     return text
 
 
-def explained(r, case, fault_of):
-    """Returns a run with `-x`, most often of the spoiled text; none where that text has no fault."""
+def explained(r, case, start, fault_of, notes_of):
+    """Returns a run with `-x`, half of them of the spoiled text; none where that text has no fault."""
     words = [*case.words, "-x"]
-    if r.random() < 0.2:
-        return case._replace(words=words)
+    if r.random() < 0.5:
+        out, message, status = case.wanted
+        return case._replace(words=words, wanted=(out, notes_of(case.grammar, message, start), status))
     text = spoiled(r, case.grammar)
     told = fault_of(text)
     return told and Case(words, text, case.given, (b"", told.encode(), 2), 1)
@@ -64,7 +67,9 @@ def peg_case(r, may_be_explained=False):
     except (slow_peg.TooSlow, RecursionError):
         return None
     case = Case(words, text, given, tuple(wanted), count)
-    return explained(r, case, slow_faults.peg) if may_be_explained and r.random() < 0.5 else case
+    if may_be_explained and r.random() < 0.5:
+        return explained(r, case, start, slow_faults.peg, slow_notes.peg)
+    return case
 
 
 def abnf_case(r, may_be_utf8=False, may_be_viable=False, may_be_nul=False, may_be_explained=False):
@@ -82,7 +87,9 @@ def abnf_case(r, may_be_utf8=False, may_be_viable=False, may_be_nul=False, may_b
     text, given = random_abnf.grammar_text(r, rules), random_abnf.given(r, rules, judged, LINES, longest, is_utf8, end)
     *wanted, count = slow_abnf.answer(rules, given, limit, judged, is_utf8, is_viable, end)
     case = Case(words, text, given, tuple(wanted), count)
-    return explained(r, case, slow_faults.abnf) if may_be_explained and r.random() < 0.5 else case
+    if may_be_explained and r.random() < 0.5:
+        return explained(r, case, judged, slow_faults.abnf, slow_notes.abnf)
+    return case
 
 
 def answer_of(program, case, file):

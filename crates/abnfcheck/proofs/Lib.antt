@@ -8,6 +8,7 @@ mod GraphLemmas
 pub mod IsPathLemmas
 pub mod JoinLemmas
 pub mod LiesLemmas
+mod NameChainLemmas
 mod NameIdsLemmas
 mod NameMarksLemmas
 pub mod RuleIdLemmas

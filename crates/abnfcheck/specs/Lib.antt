@@ -4,6 +4,7 @@ pub mod AbnfUses
 pub mod Beginnings
 pub mod Decided
 pub mod Derivable
+pub mod NameChains
 pub mod NameIds
 pub mod NameMarks
 pub mod ProseIn

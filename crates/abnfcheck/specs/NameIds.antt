@@ -1,4 +1,4 @@
--- Names by id, and the ids of the names in the rules' bodies. Private helpers alone use it.
+-- Names by id, and the ids of the names in the rules' bodies.
 use Rattle.std.specs.Prelude.{◌≡◌, ◌⊎◌, ℕ, ◌<◌, ◌≤◌, List, [], ◌++◌, length, slice_get, Option, Some, None}
 use Rattle.std.specs.Prelude.{option_to_list}
 use Rattle.leastset.specs.StepRows.{row_at}

@@ -11,6 +11,7 @@ mod name_marks;
 mod notes_law;
 mod productive_marks;
 mod prose;
+mod reached_names;
 mod rule_marks;
 mod sound_abnf;
 
@@ -19,4 +20,5 @@ pub use decided_law::{derivation_is_decided, furthest_is_found};
 pub use joined::join;
 pub use notes_law::one_list_of_abnf_notes;
 pub use productive_marks::productive;
+pub use reached_names::{NameChains, name_chains, one_name_chain};
 pub use sound_abnf::SoundAbnf;

@@ -95,6 +95,7 @@ fn body_rows(
     names: &mut RuleTable<()>,
 ) -> Result<Vec<Vec<usize>>, Memory>
     requires { names.old.names ≡ NameCase.Fold }
+    ensures folds { IfOk result (λ _. names.new.names ≡ Fold) }
     ensures names { IfOk result (λ _. (known seen : List (List ℕ)) → names_of names.old ≡ known
         ++ news Fold known seen →
         names_of names.new ≡ known ++ news Fold known (seen ++ names_used (rules_of rules.now))) }
@@ -133,7 +134,8 @@ pub(crate) fn name_ids(
     rule: Option<&str>,
 ) -> Result<NameIds, Memory>
     requires { rules.now.names ≡ NameCase.Fold }
-    ensures { IfOk result (λ ids. IsGraph (rules_of rules.now) (option_copied rule.entry) (names_of ids.names)
+    ensures folds { IfOk result (λ ids. ids.names.names ≡ Fold) }
+    ensures graph { IfOk result (λ ids. IsGraph (rules_of rules.now) (option_copied rule.entry) (names_of ids.names)
         (rows_of ids.rows.items) ids.judged) }
 {
     let mut names = names_of_rules(alloc, rules, NameCase::Fold)?;

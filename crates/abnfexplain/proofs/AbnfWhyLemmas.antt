@@ -1,7 +1,7 @@
 -- The lines that explain a fault of ABNF are one text.
 -- Serves: one_explanation_of_abnf
 use Rattle.std.proofs.Common.{◌≡◌, ℕ, ◌⊎◌, inl, inr, List, ◌++◌, codes, refl, sym, ◌∙◌, ap, arith, slice_get, Some}
-use Rattle.std.proofs.Common.{length, take, Option, Bool, true, false, true≢false}
+use Rattle.std.proofs.Common.{take, true, false, true≢false}
 use Rattle.lexer.proofs.ViabilityLemmas as viability
 use Rattle.picture.specs.PhraseLists.{listed}
 use Rattle.picture.specs.ToldPhrases.{AreTold}

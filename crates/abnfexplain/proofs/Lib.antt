@@ -1,5 +1,6 @@
 pub mod AbnfStandLemmas
 pub mod BracketLemmas
+mod ChainLinesLemmas
 pub mod LargeRunLemmas
 pub mod AbnfCanStandLemmas
 pub mod TakenMarksLemmas

@@ -4,4 +4,6 @@ pub mod AbnfExplained
 pub mod AbnfPhraseRows
 pub mod AbnfPlaces
 pub mod AbnfStands
+pub mod ChainLines
 pub mod LargeRuns
+pub mod AbnfNoteLines

@@ -5,8 +5,12 @@ mod abnf_decide;
 mod abnf_explain;
 mod abnf_phrases;
 mod abnf_stand;
+mod chain_lines;
 mod large;
 mod laws;
+mod notes;
 
 pub use abnf_explain::explain_abnf_fault;
+pub use chain_lines::{MAX_LAST, push_chain};
 pub use laws::one_explanation_of_abnf;
+pub use notes::{AbnfSigns, abnf_places, explain_abnf_note, one_note_explanation_of_abnf};

@@ -1,13 +1,13 @@
 -- What is left of a canonical text, from an item, a value or a rule on.
 -- Serves: print_abnf
-use Rattle.std.proofs.Common.{◌≡◌, ℕ, ◌+◌, ◌≤◌, ◌<◌, ◌==◌, cond, Bool, true, false, Option, Some, List, [], ◌∷◌, ◌++◌}
+use Rattle.std.proofs.Common.{◌≡◌, ℕ, ◌+◌, ◌≤◌, ◌<◌, ◌==◌, cond, Bool, true, false, Some, List, [], ◌∷◌, ◌++◌}
 use Rattle.std.proofs.Common.{length, drop, get_or, slice_get, map, refl, ◌∙◌, ap, add-one, drop-cons}
 use Rattle.std.proofs.lemmas.List.{drop_all}
 use Rattle.ruletable.specs.Rules as table
 use Rattle.ruletable.proofs.LeavesLemmas as left
 use Rattle.ruletable.proofs.LeavesLemmas.{from-item, later-left, marked-left, same-left}
 use Rattle.abnfread.specs.declared.elem.Elem.{Elem}
-use Rattle.abnfread.specs.Element.{Element, Elements, none, more}
+use Rattle.abnfread.specs.Element.{Elements}
 use Rattle.abnfread.specs.AbnfViews.{element_of, elements_of, rule_of}
 use Rattle.abnfprint.specs.CanonicalAbnf.{around, wraps, text_of, joined, more_joined, definition_text, grammar_text}
 use Rattle.abnfprint.specs.CanonicalAbnf.{hexadecimal, values_text, dotted}

@@ -1,6 +1,6 @@
 -- What is stated for a text in ABNF, settings and an input is one, but for want of memory.
 -- Serves: one_statement_of_abnf
-use Rattle.std.proofs.Common.{◌≡◌, ◌≢◌, ℕ, inl, inr, List, [], refl, sym, ◌∙◌, ap, map, subst, arith, true}
+use Rattle.std.proofs.Common.{◌≡◌, ◌≢◌, ℕ, inl, inr, List, [], refl, sym, ◌∙◌, ap, map, subst, arith, Option}
 use Rattle.ruletable.specs.Notes.{Said, said}
 use Rattle.ruletable.specs.declared.fault.ReadFault.{ReadFault}
 use Rattle.ruletable.specs.declared.fault.ReadFault.TheVariants.{TooLong}
@@ -11,8 +11,9 @@ use Rattle.abnfread.specs.Element.{Definition, Rule}
 use Rattle.abnfread.proofs.AbnfFaultLemmas.{one-reading, one-fault, no-fault}
 use Rattle.abnfcheck.proofs.AbnfNotesLemmas.{notes_same, those_same}
 use Rattle.abnfexplain.specs.AbnfExplained.{Explains}
-use Rattle.abnfrun.specs.AbnfAnswers.{AbnfStates, refused, unexplained, noted, checked, judges, again, printed}
-use Rattle.abnfrun.specs.AbnfAnswers.{no_memory}
+use Rattle.abnfrun.specs.AbnfExplainedNotes.{ExplainsAbnfNote}
+use Rattle.abnfrun.specs.AbnfAnswers.{AbnfStates, refused, unexplained, noted, checked, judges, cut_notes}
+use Rattle.abnfrun.specs.AbnfAnswers.{again, cut_again, printed, no_memory}
 use Rattle.abnfprint.specs.AbnfReadBack.{file_rules}
 use Rattle.abnfrun.specs.AbnfNoted.{all_rules, again_in, early_in, judged_of, AreNotesOn, IsRefusedFor, AreAgain}
 use Rattle.abnfrun.specs.AbnfNoted.{rule_given}
@@ -28,6 +29,8 @@ use Rattle.toolrun.specs.RunSteps as steps
 use Rattle.toolrun.specs.declared.settings.Settings.{Settings}
 use Rattle.toolrun.proofs.OneStatementLemmas.{Stated, one_stated, one-explained, is_noted, is_checked, is_run}
 use Rattle.toolrun.proofs.OneStatementLemmas.{is_again, is_printed}
+use Rattle.toolrun.proofs.ToldNotesLemmas.{told-one}
+use Rattle.toolrun.specs.ToldNotes.{ToldNotes}
 
 -- each line has one answer
 abbrev AnswersAreOne : Settings → Type 0
@@ -44,6 +47,11 @@ one_again definitions a b g h =
 abbrev ExplanationsAreOne : Type 0
 ExplanationsAreOne = (text : List ℕ) (fault : ReadFault) (a b : List ℕ) → Explains text fault a
     → Explains text fault b → a ≡ b
+
+-- what explains a note is one text
+abbrev NotesAreOne : Type 0
+NotesAreOne = (text : List ℕ) (start : Option (List ℕ)) (note : Said) (a b : List ℕ)
+    → ExplainsAbnfNote text start note a → ExplainsAbnfNote text start note b → a ≡ b
 
 module _ (settings : Settings) (input : Input) where
   -- what a run of these definitions states
@@ -68,7 +76,8 @@ module _ (settings : Settings) (input : Input) where
     IsStated = Stated (IsFaultOf text) (λ fault. Explained settings (Explains text fault)) (Reads text)
         (λ definitions. AreNotesOn definitions (rule_given settings))
         (λ definitions notes. IsRefusedFor definitions (rule_given settings))
-        (λ definitions notes. IsRefusedFor definitions (rule_given settings) → ⊥) AreAgain RunOf
+        (λ definitions notes. IsRefusedFor definitions (rule_given settings) → ⊥) AreAgain
+        (ToldNotes settings (ExplainsAbnfNote text)) RunOf
         (λ definitions. printed_rules (file_rules definitions)) settings.mode
 
     parts_of_states : (notes : List ℕ) (reply : Reply) → AbnfStates text settings input notes reply → reply.status ≢ 5
@@ -83,36 +92,42 @@ module _ (settings : Settings) (input : Input) where
       told = refl;
     })
     parts_of_states notes reply (unexplained fault f m asked) ample = absurd (ample refl)
-    parts_of_states notes reply (noted ds said r are bad mode) ample =
-        inr (record { definitions = ds; reads = r; states = is_noted said are bad mode })
-    parts_of_states notes reply (checked ds said r are fine mode) ample =
-        inr (record { definitions = ds; reads = r; states = is_checked said are fine mode })
-    parts_of_states notes reply (judges ds said stated r are fine mode run) ample =
-        inr (record { definitions = ds; reads = r; states = is_run said stated are fine mode run })
-    parts_of_states notes reply (again ds said r are some mode) ample =
-        inr (record { definitions = ds; reads = r; states = is_again said are some mode })
+    parts_of_states notes reply (noted ds said told r are tells bad mode) ample =
+        inr (record { definitions = ds; reads = r; states = is_noted said told are tells bad mode })
+    parts_of_states notes reply (checked ds said told r are tells fine mode) ample =
+        inr (record { definitions = ds; reads = r; states = is_checked said told are tells fine mode })
+    parts_of_states notes reply (judges ds said told stated r are tells fine mode run) ample =
+        inr (record { definitions = ds; reads = r; states = is_run said told stated are tells fine mode run })
+    parts_of_states notes reply (cut_notes ds said told r are cut mode) ample = absurd (ample refl)
+    parts_of_states notes reply (again ds said told r are tells some mode) ample =
+        inr (record { definitions = ds; reads = r; states = is_again said told are tells some mode })
+    parts_of_states notes reply (cut_again ds said told r are cut mode) ample = absurd (ample refl)
     parts_of_states notes reply (printed ds r are mode) ample =
         inr (record { definitions = ds; reads = r; states = is_printed are mode })
     parts_of_states notes reply (no_memory within) ample = absurd (ample refl)
 
-    one_of_text : ExplanationsAreOne → AnswersAreOne settings → (notes others : List ℕ) (a b : Reply)
+    one_of_text : ExplanationsAreOne → NotesAreOne → AnswersAreOne settings → (notes others : List ℕ) (a b : Reply)
         → IsStated notes a → IsStated others b → a.status ≢ 5 → b.status ≢ 5 → (notes ≡ others) × (a ≡ b)
-    one_of_text explained one = one_stated (IsFaultOf text)
+    one_of_text explained told one = one_stated (IsFaultOf text)
         (λ fault. Explained settings (Explains text fault)) (Reads text)
         (λ definitions. AreNotesOn definitions (rule_given settings))
         (λ definitions notes. IsRefusedFor definitions (rule_given settings))
-        (λ definitions notes. IsRefusedFor definitions (rule_given settings) → ⊥) AreAgain RunOf
+        (λ definitions notes. IsRefusedFor definitions (rule_given settings) → ⊥) AreAgain
+        (ToldNotes settings (ExplainsAbnfNote text)) RunOf
         (λ definitions. printed_rules (file_rules definitions)) settings.mode (one-reading text) (one-fault text)
         (λ fault. one-explained settings (Explains text fault) (explained text fault)) (no-fault text) notes_are_one
-        one_again (λ definitions notes bad fine. fine bad) (one_run one)
+        one_again
+        (λ notes. told-one (λ note. one-explained settings (ExplainsAbnfNote text (rule_given settings) note)
+        (told text (rule_given settings) note)))
+        (λ definitions notes bad fine. fine bad) (one_run one)
 
 -- one list of notes and one reply
-pub one_statement : ExplanationsAreOne → TextIsOne → FurthestIsOne → (text : List ℕ) (settings : Settings)
+pub one_statement : ExplanationsAreOne → NotesAreOne → TextIsOne → FurthestIsOne → (text : List ℕ) (settings : Settings)
     (input : Input) (notes others : List ℕ) (a b : Reply) →
     AbnfStates text settings input notes a → AbnfStates text settings input others b → a.status ≢ 5 → b.status ≢ 5
     → (notes ≡ others) × (a ≡ b)
-one_statement explained one furthest text settings input notes others a b g h m n =
-    one_of_text settings input text explained
+one_statement explained told one furthest text settings input notes others a b g h m n =
+    one_of_text settings input text explained told
     (λ rules judged line. one_answer one furthest settings.letters rules judged line
     settings.viable) notes others a b (parts_of_states settings input text notes a g m)
     (parts_of_states settings input text others b h n) m n
@@ -138,10 +153,17 @@ long_is_told text settings input notes reply long (unexplained fault f other ask
   refl,
   inr (asked, ap unexplained_fault (one-fault text fault TooLong f long other (λ e. cc))),
 )
-long_is_told text settings input notes reply long (noted ds said r are bad mode) = absurd (long-unread long r)
-long_is_told text settings input notes reply long (checked ds said r are fine mode) = absurd (long-unread long r)
-long_is_told text settings input notes reply long (judges ds said stated r are fine mode run) =
+long_is_told text settings input notes reply long (noted ds said told r are tells bad mode) =
     absurd (long-unread long r)
-long_is_told text settings input notes reply long (again ds said r are some mode) = absurd (long-unread long r)
+long_is_told text settings input notes reply long (checked ds said told r are tells fine mode) =
+    absurd (long-unread long r)
+long_is_told text settings input notes reply long (judges ds said told stated r are tells fine mode run) =
+    absurd (long-unread long r)
+long_is_told text settings input notes reply long (cut_notes ds said told r are cut mode) =
+    absurd (long-unread long r)
+long_is_told text settings input notes reply long (again ds said told r are tells some mode) =
+    absurd (long-unread long r)
+long_is_told text settings input notes reply long (cut_again ds said told r are cut mode) =
+    absurd (long-unread long r)
 long_is_told text settings input notes reply long (printed ds r are mode) = absurd (long-unread long r)
 long_is_told text settings input notes reply long (no_memory within) = absurd (omega arith)

@@ -1,7 +1,9 @@
+mod AbnfExplainedNotesLemmas
 pub mod AbnfStatesLemmas
 pub mod AllRulesLemmas
 pub mod AreRedefinitionsLemmas
 pub mod EarlyInLemmas
 pub mod IsAnswerOnLemmas
 pub mod IsAnswerToLemmas
+pub mod OpenAbnfLemmas
 pub mod SpellsLengthLemmas

@@ -4,6 +4,7 @@ use Rattle.ruletable.specs.Notes.{Said}
 use Rattle.ruletable.specs.declared.fault.ReadFault.{ReadFault}
 use Rattle.ruletable.specs.declared.fault.ReadFault.TheVariants.{Memory}
 use Rattle.abnfexplain.specs.AbnfExplained.{Explains}
+use Rattle.abnfrun.specs.AbnfExplainedNotes.{ExplainsAbnfNote}
 use Rattle.abnfread.specs.AbnfReading.{Reads, IsFaultOf}
 use Rattle.abnfread.specs.Element.{Definition}
 use Rattle.abnfprint.specs.AbnfReadBack.{file_rules}
@@ -11,12 +12,12 @@ use Rattle.abnfrun.specs.AbnfNoted.{all_rules, judged_of, AreNotesOn, IsRefusedF
 use Rattle.abnfrun.specs.AbnfReply.{printed_rules, JudgeReply}
 use Rattle.toolrun.specs.Explained.{Explained}
 use Rattle.toolrun.specs.Input.{Input}
-use Rattle.toolrun.specs.NotesText.{notes_text}
 use Rattle.toolrun.specs.Reply.{Reply, notes_alone, refusal, unexplained_fault, without_memory}
+use Rattle.toolrun.specs.ToldNotes.{CutNotes, ToldNotes}
 use Rattle.toolrun.specs.declared.settings.Mode.TheVariants.{Run, Check, Print}
 use Rattle.toolrun.specs.declared.settings.Settings.{Settings}
 
--- what is stated for a grammar's text and an input: the notes, and what follows them
+-- what is stated for a grammar's text and an input: the notes, each explained if that is asked, and what follows them
 pub data AbnfStates (text : List ℕ) (settings : Settings) (input : Input) : List ℕ → Reply → Type 0 where
   -- the text has a fault, which is told, and explained if that is asked
   refused : (fault : ReadFault) (why : List ℕ) → IsFaultOf text fault → fault ≢ Memory
@@ -25,25 +26,34 @@ pub data AbnfStates (text : List ℕ) (settings : Settings) (input : Input) : Li
   unexplained : (fault : ReadFault) → IsFaultOf text fault → fault ≢ Memory → settings.explain ≡ true
       → AbnfStates text settings input [] (unexplained_fault fault)
   -- the text is a grammar that is refused
-  noted : (definitions : List Definition) (notes : List Said) → Reads text definitions
-      → AreNotesOn definitions (rule_given settings) notes →
+  noted : (definitions : List Definition) (notes : List Said) (told : List ℕ) → Reads text definitions
+      → AreNotesOn definitions (rule_given settings) notes → ToldNotes settings (ExplainsAbnfNote text) notes told →
       IsRefusedFor definitions (rule_given settings) → settings.mode ≢ Print
-      → AbnfStates text settings input (notes_text notes) (notes_alone 2)
+      → AbnfStates text settings input told (notes_alone 2)
   -- it is a grammar that is not refused, and no more is asked
-  checked : (definitions : List Definition) (notes : List Said) → Reads text definitions
-      → AreNotesOn definitions (rule_given settings) notes →
+  checked : (definitions : List Definition) (notes : List Said) (told : List ℕ) → Reads text definitions
+      → AreNotesOn definitions (rule_given settings) notes → ToldNotes settings (ExplainsAbnfNote text) notes told →
       (IsRefusedFor definitions (rule_given settings) → ⊥) → settings.mode ≡ Check
-      → AbnfStates text settings input (notes_text notes) (notes_alone 0)
+      → AbnfStates text settings input told (notes_alone 0)
   -- the lines of the input are judged by its judged rule
-  judges : (definitions : List Definition) (notes : List Said) (stated : Reply) → Reads text definitions
-      → AreNotesOn definitions (rule_given settings) notes →
+  judges : (definitions : List Definition) (notes : List Said) (told : List ℕ) (stated : Reply)
+      → Reads text definitions → AreNotesOn definitions (rule_given settings) notes
+      → ToldNotes settings (ExplainsAbnfNote text) notes told →
       (IsRefusedFor definitions (rule_given settings) → ⊥) → settings.mode ≡ Run →
       JudgeReply (all_rules definitions) (judged_of definitions (rule_given settings)) settings input stated
-      → AbnfStates text settings input (notes_text notes) stated
+      → AbnfStates text settings input told stated
+  -- an allocation failed in explaining its notes: the first of them are told
+  cut_notes : (definitions : List Definition) (notes : List Said) (told : List ℕ) → Reads text definitions
+      → AreNotesOn definitions (rule_given settings) notes → CutNotes settings (ExplainsAbnfNote text) notes told
+      → settings.mode ≢ Print → AbnfStates text settings input told (without_memory [] 0)
   -- it is only to be printed, but defines a rule again
-  again : (definitions : List Definition) (notes : List Said) → Reads text definitions → AreAgain definitions notes
-      → notes ≢ [] → settings.mode ≡ Print →
-      AbnfStates text settings input (notes_text notes) (notes_alone 2)
+  again : (definitions : List Definition) (notes : List Said) (told : List ℕ) → Reads text definitions
+      → AreAgain definitions notes → ToldNotes settings (ExplainsAbnfNote text) notes told → notes ≢ []
+      → settings.mode ≡ Print → AbnfStates text settings input told (notes_alone 2)
+  -- an allocation failed in explaining that
+  cut_again : (definitions : List Definition) (notes : List Said) (told : List ℕ) → Reads text definitions
+      → AreAgain definitions notes → CutNotes settings (ExplainsAbnfNote text) notes told → settings.mode ≡ Print
+      → AbnfStates text settings input told (without_memory [] 0)
   -- it is only to be printed, and defines no rule again
   printed : (definitions : List Definition) → Reads text definitions → AreAgain definitions [] → settings.mode ≡ Print →
       AbnfStates text settings input [] (printed_rules (file_rules definitions))

@@ -6,11 +6,13 @@ ghost use Rattle.abnfread.specs.AbnfReading.{IsFaultOf};
 ghost use Rattle.abnfread.specs.AbnfViews.{rules_of};
 ghost use Rattle.abnfprint.specs.CanonicalAbnf.{grammar_text};
 ghost use Rattle.abnfrun.specs.AbnfAnswers.{AbnfStates};
+ghost use Rattle.abnfrun.specs.AbnfExplainedNotes.{AreNotePlaces, ExplainsAbnfNote};
 ghost use Rattle.abnfrun.specs.AbnfLanguage.{IsChecked, IsPrintable, IsReadAs};
 ghost use Rattle.abnfrun.specs.AbnfNoted.{AreRedefinitions};
 ghost use Rattle.abnfrun.specs.AbnfReply.{JudgeReply};
 
 use crate::line_judge::{judge_lines, lines_have_answers};
+use crate::note_places::{AbnfPlaces, explain_reached, note_places};
 use abnfcheck::{SoundAbnf, check_abnf};
 use abnfexplain::explain_abnf_fault;
 use abnfprint::print_abnf;
@@ -40,11 +42,17 @@ impl Language for AbnfLanguage {
 
     type Sound = SoundAbnf;
 
+    type Places = AbnfPlaces;
+
     ghost states = { AbnfStates };
 
     ghost has_fault = { IsFaultOf };
 
     ghost explains = { Explains };
+
+    ghost are_places = { AreNotePlaces };
+
+    ghost explains_note = { ExplainsAbnfNote };
 
     ghost is_read = { λ text abnf. IsReadAs text abnf.rules abnf.core abnf.redefined.items abnf.extended.items };
 
@@ -62,6 +70,19 @@ impl Language for AbnfLanguage {
 
     fn explain_fault(alloc: Global, text: &[u8], fault: ReadFault) -> Result<Vec<u8>, Memory> {
         explain_abnf_fault(alloc, text, fault)
+    }
+
+    fn places(alloc: Global, text: &[u8], start: Option<&str>) -> Result<AbnfPlaces, Memory> {
+        note_places(alloc, text, start)
+    }
+
+    fn explain_note(
+        alloc: Global,
+        places: &AbnfPlaces,
+        start: Option<&str>,
+        note: &Note,
+    ) -> Result<Vec<u8>, Memory> {
+        explain_reached(alloc, places, start, note)
     }
 
     fn check(

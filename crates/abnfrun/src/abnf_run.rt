@@ -18,7 +18,9 @@ use toolrun::{Settings, Status, run_tool};
 ///   and nothing is read. If the settings ask for explanations, behind that line stand those that explain it: a picture
 ///   of the token that decides, its column, exactly the kinds of tokens that could stand there, and a usual mistake.
 /// - If it is to be printed, its canonical text is written on `out`, `Done`; but if it defines a rule again, the notes
-///   on that are written on `err`, `Refused`. Nothing is read, and no other check is made.
+///   on that are written on `err`, `Refused`. Nothing is read, and no other check is made. If the settings ask for
+///   explanations, behind a note on a rule that is defined again, extended early, or not used, stand the lines of its
+///   definitions; behind others the first use of a name that is not defined, and the first prose of a rule.
 /// - Else the notes on it are written on `err`. If it is refused, or only to be checked, that is all: `Refused`, or
 ///   `Done`, and nothing is read.
 /// - A line ends before an LF, or before a NUL byte if the settings say so, and a last piece without an end is a line
@@ -37,7 +39,7 @@ use toolrun::{Settings, Status, run_tool};
 ///   fails in the notes, nothing is read, and nothing is written on `out`. Writers that have not failed are flushed
 ///   once at the end, `out` first.
 /// - If an allocation fails, the answers before stand whole: `out of memory`, `NoMemory`. In an explanation the fault's
-///   line stands before that, without what explains it.
+///   line stands before that, without what explains it, or the first notes do, the last perhaps without.
 pub fn run_abnf<R: Source, O: Sink, E: Sink>(
     alloc: Global,
     grammar: &[u8],

@@ -11,8 +11,8 @@ ghost use Rattle.toolrun.specs.Explained.{IsLongReply};
 ghost use Rattle.toolrun.specs.Reply.{Reply};
 ghost use Rattle.toolrun.specs.declared.settings.Settings.{Settings};
 
-use abnfcheck::furthest_is_found;
-use abnfexplain::one_explanation_of_abnf;
+use abnfcheck::{furthest_is_found, one_name_chain};
+use abnfexplain::{one_explanation_of_abnf, one_note_explanation_of_abnf};
 use abnfread::one_reading;
 use letters::utf8_is_decided;
 
@@ -42,6 +42,8 @@ pub fn one_statement_of_abnf()
         (notes ≡ []) × IsLongReply settings (Explains text ReadFault.TooLong) reply }
 {
     one_explanation_of_abnf();
+    one_note_explanation_of_abnf();
+    one_name_chain();
     one_reading();
     furthest_is_found();
     utf8_is_decided();

@@ -29,20 +29,35 @@ use viable::lower_viable;
 /// if that is asked for.
 #[derive(Drop)]
 pub struct LineJudge<'a> {
-    grammar: &'a SoundAbnf,
-    letters: Alphabet,
-    viable: bool,
-    flat: Flat,
-    ghost lowered: { viable ≡ false → ∥ IsLowered (rules_of grammar.now.rules) grammar.now.judged flat ∥₁ },
-    ghost tells: { viable ≡ true → ∥ TellsBeginnings (has letters) (rules_of grammar.now.rules) grammar.now.judged flat
-        ∥₁ },
+    pub(crate) grammar: &'a SoundAbnf,
+    pub(crate) letters: Alphabet,
+    pub(crate) viable: bool,
+    pub(crate) flat: &'a Flat,
+    ghost lowered: { viable ≡ false → ∥ IsLowered (rules_of grammar.now.rules) grammar.now.judged flat.now ∥₁ },
+    ghost tells: { viable ≡ true → ∥ TellsBeginnings (has letters) (rules_of grammar.now.rules) grammar.now.judged
+        flat.now ∥₁ },
 }
 
 /// The memory that lines are judged in: that of the judges of their letters, and their code points.
 #[derive(Drop)]
 pub struct Work {
-    engines: Engines,
+    pub(crate) engines: Engines,
     points: Vec<CodePoint>,
+}
+
+impl Work {
+    /// Returns the memory that lines are judged in by a flat grammar.
+    pub(crate) fn new(alloc: Global, flat: &Flat) -> Work
+        ensures { IfSome result.engines.automaton (λ a. a ≡ flat.now) }
+    {
+        Work {
+            engines: Engines {
+                chart: Chart::new(alloc),
+                automaton: automaton_of(alloc, flat),
+            },
+            points: Vec::new(alloc),
+        }
+    }
 }
 
 /// Returns nothing. Its contract is a law: each line has an answer.
@@ -62,30 +77,30 @@ fn judge_letters<L: Letter>(
     line: &[L],
 ) -> Result<Answer, Memory>
     requires letters { judges.now.letters ≡ L.ALPHABET }
-    requires within { length line.now ≤ judges.now.flat.limit }
-    requires flat { IfSome engines.old.automaton (λ a. a ≡ judges.now.flat) }
-    ensures flat { IfSome engines.new.automaton (λ a. a ≡ judges.now.flat) }
+    requires within { length line.now ≤ judges.now.flat.now.limit }
+    requires flat { IfSome engines.old.automaton (λ a. a ≡ judges.now.flat.now) }
+    ensures flat { IfSome engines.new.automaton (λ a. a ≡ judges.now.flat.now) }
     ensures answer { IfOk result (IsAnswerOn (has L.ALPHABET) judges.now.viable (rules_of judges.now.grammar.now.rules)
         judges.now.grammar.now.judged (map L.number line.now)) }
 {
     derivation_is_decided();
     furthest_is_found();
     if judges.viable {
-        return match engines.viable(&judges.flat, line)? {
+        return match engines.viable(judges.flat, line)? {
             Verdict::Yes => Ok(Answer::Yes),
             Verdict::No(n) => Ok(Answer::NoAfter(n)),
         };
     }
-    let yes = engines.judge(&judges.flat, line)?;
+    let yes = engines.judge(judges.flat, line)?;
     if yes { Ok(Answer::Yes) } else { Ok(Answer::No) }
 }
 
 /// Returns the answer to a line of bytes. `Memory` if an allocation fails.
 fn judge_bytes(judges: &LineJudge<'_>, work: &mut Work, line: &[u8]) -> Result<Answer, Memory>
     requires letters { judges.now.letters ≡ Alphabet.Bytes }
-    requires within { length line.now ≤ judges.now.flat.limit }
-    requires flat { IfSome work.old.engines.automaton (λ a. a ≡ judges.now.flat) }
-    ensures flat { IfSome work.new.engines.automaton (λ a. a ≡ judges.now.flat) }
+    requires within { length line.now ≤ judges.now.flat.now.limit }
+    requires flat { IfSome work.old.engines.automaton (λ a. a ≡ judges.now.flat.now) }
+    ensures flat { IfSome work.new.engines.automaton (λ a. a ≡ judges.now.flat.now) }
     ensures answer { IfOk result (IsAnswerTo Alphabet.Bytes judges.now.viable (rules_of judges.now.grammar.now.rules)
         judges.now.grammar.now.judged line.now) }
 {
@@ -110,9 +125,9 @@ fn judge_torn(judges: &LineJudge<'_>, work: &mut Work, line: &[u8]) -> Result<An
     requires letters { judges.now.letters ≡ Alphabet.Utf8 }
     requires viable { judges.now.viable ≡ true }
     requires torn { IsText line.now → ⊥ }
-    requires within { length line.now ≤ judges.now.flat.limit }
-    requires flat { IfSome work.old.engines.automaton (λ a. a ≡ judges.now.flat) }
-    ensures flat { IfSome work.new.engines.automaton (λ a. a ≡ judges.now.flat) }
+    requires within { length line.now ≤ judges.now.flat.now.limit }
+    requires flat { IfSome work.old.engines.automaton (λ a. a ≡ judges.now.flat.now) }
+    ensures flat { IfSome work.new.engines.automaton (λ a. a ≡ judges.now.flat.now) }
     ensures answer { IfOk result (IsAnswerTo Alphabet.Utf8 judges.now.viable (rules_of judges.now.grammar.now.rules)
         judges.now.grammar.now.judged line.now) }
 {
@@ -125,9 +140,9 @@ fn judge_torn(judges: &LineJudge<'_>, work: &mut Work, line: &[u8]) -> Result<An
 /// Returns the answer to a line of code points. `Memory` if an allocation fails.
 fn judge_points(judges: &LineJudge<'_>, work: &mut Work, line: &[u8]) -> Result<Answer, Memory>
     requires letters { judges.now.letters ≡ Alphabet.Utf8 }
-    requires within { length line.now ≤ judges.now.flat.limit }
-    requires flat { IfSome work.old.engines.automaton (λ a. a ≡ judges.now.flat) }
-    ensures flat { IfSome work.new.engines.automaton (λ a. a ≡ judges.now.flat) }
+    requires within { length line.now ≤ judges.now.flat.now.limit }
+    requires flat { IfSome work.old.engines.automaton (λ a. a ≡ judges.now.flat.now) }
+    ensures flat { IfSome work.new.engines.automaton (λ a. a ≡ judges.now.flat.now) }
     ensures answer { IfOk result (IsAnswerTo Alphabet.Utf8 judges.now.viable (rules_of judges.now.grammar.now.rules)
         judges.now.grammar.now.judged line.now) }
 {
@@ -147,9 +162,9 @@ fn judge_points(judges: &LineJudge<'_>, work: &mut Work, line: &[u8]) -> Result<
 impl Judge<Work> for LineJudge<'_> {
     ghost told = { λ j. IsAnswerTo j.letters j.viable (rules_of j.grammar.now.rules) j.grammar.now.judged };
 
-    ghost served = { λ j. j.flat.limit };
+    ghost served = { λ j. j.flat.now.limit };
 
-    ghost works_in = { λ j work. IfSome work.engines.automaton (λ a. a ≡ j.flat) };
+    ghost works_in = { λ j work. IfSome work.engines.automaton (λ a. a ≡ j.flat.now) };
 
     fn judge(&self, work: &mut Work, line: &[u8]) -> Result<Answer, Memory> {
         match self.letters {
@@ -165,7 +180,11 @@ impl Judge<Work> for LineJudge<'_> {
 
 /// Lowers a grammar as settings ask for: for lines within their limit, and its productive parts alone if they ask for
 /// viable beginnings. `Memory` if an allocation fails.
-fn lowered(alloc: Global, grammar: &SoundAbnf, settings: &Settings<'_>) -> Result<Flat, Memory>
+pub(crate) fn lowered(
+    alloc: Global,
+    grammar: &SoundAbnf,
+    settings: &Settings<'_>,
+) -> Result<Flat, Memory>
     ensures limit { IfOk result (λ flat. flat.limit ≡ settings.now.limit) }
     ensures lowered { IfOk result (λ flat. settings.now.viable ≡ false →
         IsLowered (rules_of grammar.now.rules) grammar.now.judged flat) }
@@ -217,19 +236,12 @@ pub fn judge_lines<R: Source, O: Sink>(
     let Ok(flat) = lowered(alloc, grammar, settings) else {
         return Ok(Stop::NoMemory);
     };
-    let engines = Engines {
-        chart: Chart::new(alloc),
-        automaton: automaton_of(alloc, &flat),
-    };
-    let mut work = Work {
-        engines,
-        points: Vec::new(alloc),
-    };
+    let mut work = Work::new(alloc, &flat);
     let judge = LineJudge {
         grammar,
         letters: settings.letters,
         viable: settings.viable,
-        flat,
+        flat: &flat,
     };
     let form = line_form(settings);
     run_lines(alloc, &judge, &mut work, form, reader, out)

@@ -1,18 +1,19 @@
 -- Members of rows of bits.
--- Serves: BitRow::insert, BitRow::len, BitRow::merge, BitRow::next
+-- Serves: BitRow::common, BitRow::insert, BitRow::len, BitRow::merge, BitRow::next
 use Rattle.std.proofs.Common.{◌≡◌, ◌≢◌, ℕ, zero, suc, ◌+◌, ◌-◌, ◌*◌, ◌/◌, ◌%◌, ◌^◌, ◌<◌, ◌≤◌, ◌⊎◌, inl, inr, Bool, true}
 use Rattle.std.proofs.Common.{false, ◌==◌, List, [], ◌∷◌, length, cond, Contains, refl, sym, ap}
-use Rattle.std.proofs.Common.{subst, ◌∙◌, arith, ◌↔◌, bit_and, bit_or, min, nat_le, set}
+use Rattle.std.proofs.Common.{subst, ◌∙◌, arith, ◌↔◌, bit_and, bit_or, max, min, nat_le, set, slice_index_or, Vec}
 use Rattle.std.specs.Int.{bit_at, bit_not, w64}
 use Rattle.std.specs.List.{filter, range_with_len}
 use Rattle.std.specs.List.Sorted.{IsStrictlyIncreasing}
+use Rattle.std.specs.Vec.{vec_len}
 use Rattle.std.proofs.lemmas.List.Kept.{IsStrictlyIncreasing-filter}
 use Rattle.std.proofs.lemmas.Bool.Decides.{Decides-eqb, eqb_tells, nat_tests}
 use Rattle.std.proofs.lemmas.List.FromFn.{length-range_with_len, get_or-range_with_len}
 use Rattle.std.proofs.lemmas.Nat.Bits.{bit_at-zero, bit_at-lt, bit_at_or, bit_at_and, bit_at_not, bit_at_set_same}
 use Rattle.std.proofs.lemmas.Nat.Bits.{bit_at_set_other}
 use Rattle.bitrows.specs.RowMembers.{word_in, has_bit, members}
-use Rattle.bitrows.proofs.WordInLemmas.{word_cases, word_set_same, word_set_other}
+use Rattle.bitrows.proofs.WordInLemmas.{word_cases, word_from, word_set_same, word_set_other}
 
 -- what passes a test stands in the filtered list
 kept_in : (p : ℕ → Bool) (xs : List ℕ) (x : ℕ) → Contains xs x → p x ≡ true → Contains (filter p xs) x
@@ -183,6 +184,113 @@ members_missing f' f a g words' words more known small each x =
         (missing_to v k r (small (x / 64)) (rest_lt x) (bit_of_member a more x h)
         (λ set. not (member_of_bit g known x set))))
 
+-- a row whose words have each bit of the words of another
+pub members_covered : (f a : ℕ) (words more : List ℕ) → f ≤ a → ((n : ℕ) → slice_index_or words n 0 < 2 ^ 64)
+    → ((n : ℕ) → n < length more → bit_and (slice_index_or more n 0) (bit_not w64 (slice_index_or words (a - f + n) 0))
+    ≡ 0)
+    → (x : ℕ) → Contains (members a more) x → Contains (members f words) x
+members_covered f a words more fa small none x h = by (word_cases a more (x / 64))
+  where
+    r : ℕ
+    r = x % 64
+
+    n : ℕ
+    n = x / 64 - a
+
+    u : ℕ
+    u = slice_index_or more n 0
+
+    v : ℕ
+    v = slice_index_or words (a - f + n) 0
+
+    is_set : bit_at (word_in a more (x / 64)) r ≡ 1
+    is_set = bit_of_member a more x h
+
+    by : (word_in a more (x / 64) ≡ 0) ⊎ ((a ≤ x / 64) × (x / 64 < a + length more)) → Contains (members f words) x
+    by (inl zero_word) =
+        let zero_bit = bit_at-zero r in
+        absurd (omega (arith, sym (ap (λ w. bit_at w r) zero_word ∙ zero_bit) ∙ is_set))
+    by (inr (low, short)) = known (eqb_tells (bit_at v r) 1)
+      where
+        found : bit_at u r ≡ 1
+        found = sym (ap (λ w. bit_at w r) (word_from a more (x / 64) low)) ∙ is_set
+
+        place : x / 64 - f ≡ a - f + n
+        place = omega (arith, fa, low)
+
+        from : f ≤ x / 64
+        from = omega (arith, fa, low)
+
+        known : (((bit_at v r == 1) ≡ true) × (bit_at v r ≡ 1)) ⊎ (((bit_at v r == 1) ≡ false) × (bit_at v r ≢ 1))
+            → Contains (members f words) x
+        known (inl is) = member_of_bit f words x (ap (λ w. bit_at w r) (word_from f words (x / 64) from
+            ∙ ap (λ i. slice_index_or words i 0) place) ∙ is.1)
+        known (inr is_not) =
+            let there = missing_to u v r (small (a - f + n)) (rest_lt x) found is_not.1 in
+            let zero_bit = ap (λ w. bit_at w r) (none n (omega (arith, low, short))) ∙ bit_at-zero r in
+            absurd (omega (arith, sym zero_bit ∙ there))
+
+-- a bit of both
+both_bits : (u v r : ℕ) → bit_at (bit_and u v) r ≡ 1 → (bit_at u r ≡ 1) × (bit_at v r ≡ 1)
+both_bits u v r h =
+    let is = bit_at_and u v r in let a = bit_at-lt u r in let b = bit_at-lt v r in
+    (omega (arith, is, a, b, h), omega (arith, is, a, b, h))
+
+-- a row whose words are those that two windows hold, with the bits of both
+pub members_common : (f a low : ℕ) (words more both : List ℕ) → low ≡ max f a
+    → min (f + length words) (a + length more) ≤ low + length both
+    → ((n : ℕ) → n < length both → slice_index_or both n 0
+    ≡ bit_and (word_in f words (low + n)) (word_in a more (low + n)))
+    → (x : ℕ) → Contains (members low both) x ↔ (Contains (members f words) x × Contains (members a more) x)
+members_common f a low words more both first last same x =
+    (λ h. from (word_cases low both (x / 64)) (bit_of_member low both x h), to)
+  where
+    r : ℕ
+    r = x % 64
+
+    u : ℕ
+    u = word_in f words (x / 64)
+
+    v : ℕ
+    v = word_in a more (x / 64)
+
+    word_is : low ≤ x / 64 → x / 64 < low + length both → word_in low both (x / 64) ≡ bit_and u v
+    word_is le lt =
+        let back : low + (x / 64 - low) ≡ x / 64 = omega (arith, le) in
+        word_from low both (x / 64) le ∙ same (x / 64 - low) (omega (arith, le, lt))
+        ∙ ap (λ q. bit_and (word_in f words q) (word_in a more q)) back
+
+    from : (word_in low both (x / 64) ≡ 0) ⊎ ((low ≤ x / 64) × (x / 64 < low + length both))
+        → bit_at (word_in low both (x / 64)) r ≡ 1 → Contains (members f words) x × Contains (members a more) x
+    from (inl zero_word) set =
+        let zero_bit = bit_at-zero r in
+        absurd (omega (arith, sym (ap (λ w. bit_at w r) zero_word ∙ zero_bit) ∙ set))
+    from (inr (le, lt)) set =
+        let two = both_bits u v r (sym (ap (λ w. bit_at w r) (word_is le lt)) ∙ set) in
+        (member_of_bit f words x two.0, member_of_bit a more x two.1)
+
+    within : (g : ℕ) (ws : List ℕ) → Contains (members g ws) x → (g ≤ x / 64) × (x / 64 < g + length ws)
+    within g ws h = there (word_cases g ws (x / 64))
+      where
+        there : (word_in g ws (x / 64) ≡ 0) ⊎ ((g ≤ x / 64) × (x / 64 < g + length ws))
+            → (g ≤ x / 64) × (x / 64 < g + length ws)
+        there (inl zero_word) =
+            let zero_bit = bit_at-zero r in
+            absurd (omega (arith, sym (ap (λ w. bit_at w r) zero_word ∙ zero_bit) ∙ bit_of_member g ws x h))
+        there (inr is) = is
+
+    to : Contains (members f words) x × Contains (members a more) x → Contains (members low both) x
+    to (p, q) =
+        let one = within f words p in
+        let two = within a more q in
+        let one_low = one.0 in let one_short = one.1 in let two_low = two.0 in let two_short = two.1 in
+        let le : low ≤ x / 64 = omega (arith, first, one_low, two_low) in
+        let lt : x / 64 < low + length both = omega (arith, last, one_short, two_short) in
+        let is = bit_at_and u v r in
+        let set_one = bit_of_member f words x p in
+        let set_two = bit_of_member a more x q in
+        member_of_bit low both x (ap (λ w. bit_at w r) (word_is le lt) ∙ omega (arith, is, set_one, set_two))
+
 -- a row with one more bit
 module _ (f : ℕ) (words : List ℕ) (k : ℕ) (from : f ≤ k / 64) (short : k / 64 < f + length words) (w : ℕ)
     (here : w ≡ word_in f words (k / 64)) where
@@ -277,6 +385,22 @@ members_within f words x h = by (word_cases f words (x / 64))
     by (inl none) = let zero_bit = bit_at-zero (x % 64) in
         absurd (omega (arith, sym (ap (λ w. bit_at w (x % 64)) none ∙ zero_bit) ∙ bit_of_member f words x h))
     by (inr within) = let short = within.1 in omega (arith, short)
+
+-- no member stands before the window
+pub members_from : (f : ℕ) (words : List ℕ) (x : ℕ) → Contains (members f words) x → f * 64 ≤ x
+members_from f words x h = by (word_cases f words (x / 64))
+  where
+    by : (word_in f words (x / 64) ≡ 0) ⊎ ((f ≤ x / 64) × (x / 64 < f + length words)) → f * 64 ≤ x
+    by (inl none) = let zero_bit = bit_at-zero (x % 64) in
+        absurd (omega (arith, sym (ap (λ w. bit_at w (x % 64)) none ∙ zero_bit) ∙ bit_of_member f words x h))
+    by (inr within) = let low = within.0 in omega (arith, low)
+
+-- a vector that says that it is empty has no item
+pub no_length : {Z : Type 0} (words : Vec ℕ Z) (r : Bool) → r ≡ true → r ≡ (vec_len words == 0)
+    → length words.items ≡ 0
+no_length words r held is =
+    let size : vec_len words ≡ 0 = (Decides-eqb (vec_len words) 0).0 (sym is ∙ held) in
+    sym words.ok.0 ∙ size
 
 -- an empty window has no member
 pub none_found : (f : ℕ) (words row : List ℕ) → members f words ≡ row → length words ≡ 0 → (x : ℕ) → Contains row x → ⊥

@@ -6,7 +6,7 @@ use Rattle.std.proofs.lemmas.Bool.Decides.{eqb_tells}
 use Rattle.std.proofs.lemmas.List.{get_or-set_same, get_or-set_other, length-set}
 use Rattle.std.proofs.lemmas.List.Elements.{Contains-append_left, Contains-push, Contains-push_cases}
 use Rattle.std.specs.Prelude.{replicate}
-use Rattle.bitrows.specs.RowSets.{HasAt, HasSome, AreQueued, AddsAt, TakesAt}
+use Rattle.bitrows.specs.RowSets.{Rows, HasAt, HasSome, AreQueued, AddsAt, TakesAt}
 
 abbrev Same : ℕ → ℕ → Type 0
 Same q p = (((q == p) ≡ true) × (q ≡ p)) ⊎ (((q == p) ≡ false) × (q ≢ p))
@@ -114,6 +114,17 @@ module _ (all pending : List (List ℕ)) (queue : List ℕ) (are : AreQueued all
         (λ h. inl (at_other pending p q k wait is_not.1 h)),
         (λ h. to_other pending p q k wait is_not.1 (⊎_elim (λ old. old) (λ new. absurd (is_not.1 new.0)) h)),
       )
+
+-- what a place has already adds nothing
+pub adds_none : (p : ℕ) (Q : ℕ → Type 0) (rows : Rows) → ((k : ℕ) → Q k → HasAt rows.all p k) → AddsAt p Q rows rows
+adds_none p Q rows has = record {
+  count = refl;
+  all = λ q k. (
+    (λ h. inl h),
+    (λ h. ⊎_elim (λ old. old) (λ new. subst (λ v. HasAt rows.all v k) (sym new.0) (has k new.1)) h),
+  );
+  pending = λ q k. ((λ h. inl h), (λ h. ⊎_elim (λ old. old) (λ new. absurd (new.2 (has k new.1))) h));
+}
 
 module _ (all pending : List (List ℕ)) (queue rest : List ℕ) (p : ℕ) (are : AreQueued all pending queue)
     (is : queue ≡ rest ++ p ∷ []) where

@@ -6,4 +6,4 @@ mod row_set;
 mod words;
 
 pub use row::BitRow;
-pub use row_set::RowSet;
+pub use row_set::{RowSet, empty_rows};

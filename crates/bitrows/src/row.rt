@@ -1,9 +1,9 @@
 //! Rows of bits.
 ghost use Rattle.std.specs.Prelude.{◌≡◌, ◌↔◌, ◌⊎◌, ◌<◌, ◌≤◌, ◌^◌, ℕ, [], length, Contains, IfOk, IfSome};
-ghost use Rattle.std.specs.Prelude.{IfNone, OnErr};
+ghost use Rattle.std.specs.Prelude.{IfNone, IsTrue, OnErr};
 ghost use Rattle.std.specs.List.Sorted.{IsStrictlyIncreasing};
 
-use crate::words::{count_bits, cover, lowest_bit, or_missing, or_words, word};
+use crate::words::{count_bits, cover, have_words, lowest_bit, or_missing, or_words, word};
 use ruletable::Memory;
 use std::alloc::Global;
 use std::marker::Model;
@@ -57,7 +57,7 @@ impl BitRow {
 
     /// Adds the members of another set, and to `pending` those of them that are new. `Memory` if an allocation fails;
     /// both sets keep their members then.
-    pub(crate) fn merge(&mut self, found: &BitRow, pending: &mut BitRow) -> Result<(), Memory>
+    pub fn merge(&mut self, found: &BitRow, pending: &mut BitRow) -> Result<(), Memory>
         ensures members { IfOk result (λ done. (x : ℕ) → Contains self.new x ↔ (Contains self.old x
             ⊎ Contains found.now x)) }
         ensures pending { IfOk result (λ done. (x : ℕ) → Contains pending.new x ↔ (Contains pending.old x
@@ -90,6 +90,41 @@ impl BitRow {
         Ok(())
     }
 
+    /// Tells whether it surely has each member of another set.
+    pub(crate) fn covers(&self, found: &BitRow) -> bool
+        ensures { IsTrue result → (x : ℕ) → Contains found.now x → Contains self.now x }
+    {
+        if found.words.is_empty() {
+            return true;
+        }
+        if found.first < self.first {
+            return false;
+        }
+        let at = found.first - self.first;
+        if self.words.len() < at + found.words.len() {
+            return false;
+        }
+        have_words(&self.words, at, &found.words)
+    }
+
+    /// Returns the set of the members that both sets have. `Memory` if an allocation fails.
+    pub fn common(&self, other: &BitRow) -> Result<BitRow, Memory>
+        ensures { IfOk result (λ both. (x : ℕ) → Contains both x ↔ (Contains self.now x × Contains other.now x)) }
+    {
+        let low = self.first.max(other.first);
+        let high = (self.first + self.words.len()).min(other.first + other.words.len());
+        let mut words = Vec::with_capacity(self.alloc, high.saturating_sub(low))?;
+        for i in low..high {
+            let one = word(self.first, &self.words, i);
+            words.push(one & word(other.first, &other.words, i))?;
+        }
+        Ok(BitRow {
+            alloc: self.alloc,
+            first: low,
+            words,
+        })
+    }
+
     /// Returns the least member from `from` on.
     pub fn next(&self, from: usize) -> Option<usize>
         ensures found { IfSome result (λ k. (from ≤ k) × Contains self.now k) }
@@ -100,7 +135,7 @@ impl BitRow {
         if let Some(bit) = lowest_bit(word(self.first, &self.words, start), (from % 64) as u32) {
             return Some(start * 64 + bit as usize);
         }
-        for i in start + 1..self.first + self.words.len() {
+        for i in (start + 1).max(self.first)..self.first + self.words.len() {
             if let Some(bit) = lowest_bit(word(self.first, &self.words, i), 0) {
                 return Some(i * 64 + bit as usize);
             }

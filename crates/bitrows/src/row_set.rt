@@ -46,11 +46,11 @@ fn enqueue(queue: &mut Vec<usize>, pending: &[BitRow], place: usize) -> Result<(
     }
 }
 
-// Returns so many empty rows. `Memory` if an allocation fails.
-fn empty_rows(alloc: Global, places: usize) -> Result<Vec<BitRow>, Memory>
+/// Returns so many empty rows. `Memory` if an allocation fails.
+pub fn empty_rows(alloc: Global, places: usize) -> Result<Vec<BitRow>, Memory>
     ensures { IfOk result (λ rows. rows.items ≡ replicate places []) }
 {
-    let mut rows = Vec::new(alloc);
+    let mut rows = Vec::with_capacity(alloc, places)?;
     for _place in 0..places {
         rows.push(BitRow::new(alloc))?;
     }
@@ -85,6 +85,9 @@ impl RowSet {
         requires { place < length self.old.all }
         ensures { IfOk result (λ done. AddsAt place (λ k. Contains found.now k) self.old self.new) }
     {
+        if self.rows[place].covers(found) {
+            return Ok(());
+        }
         enqueue(&mut self.queue, &self.pending, place)?;
         self.rows[place].merge(found, &mut self.pending[place])?;
         Ok(())
@@ -94,9 +97,17 @@ impl RowSet {
     pub fn take(&mut self) -> Option<(usize, BitRow)>
         ensures some { IfSome result (λ taken. TakesAt taken.0 taken.1 self.old self.new) }
         ensures none { IfNone result ((p k : ℕ) → HasAt self.old.pending p k → ⊥) }
+        ensures same { IfNone result (self.new ≡ self.old) }
     {
         let place = self.queue.pop()?;
         let row = mem::replace(&mut self.pending[place], BitRow::new(self.alloc));
         Some((place, row))
+    }
+
+    /// Returns the rows, place by place.
+    pub fn into_rows(self) -> Vec<BitRow>
+        ensures { result.items ≡ self.all }
+    {
+        self.rows
     }
 }

@@ -1,6 +1,6 @@
 //! Windows of words: word `first` of a row, and those behind it. All other words are 0.
 ghost use Rattle.std.specs.Prelude.{◌≡◌, ◌+◌, ◌-◌, ◌*◌, ◌<◌, ◌≤◌, ◌^◌, ◌↔◌, ◌⊎◌, ℕ, length, slice_index_or, IfOk};
-ghost use Rattle.std.specs.Prelude.{OnOk, OnErr, IfSome, IfNone, bit_and, bit_or, count_ones};
+ghost use Rattle.std.specs.Prelude.{IsTrue, OnOk, OnErr, IfSome, IfNone, bit_and, bit_or, count_ones};
 ghost use Rattle.std.specs.List.{sum_by};
 ghost use Rattle.std.specs.Int.{w64, bit_at, bit_not};
 ghost use Rattle.bitrows.specs.RowMembers.{word_in};
@@ -35,7 +35,7 @@ fn widened(
     ensures same { IfOk result (λ wide. (n : ℕ) → n < length wide.items
         → slice_index_or wide.items n 0 ≡ word_in first words.now (low + n)) }
 {
-    let mut wide = Vec::new(alloc);
+    let mut wide = Vec::with_capacity(alloc, high - low)?;
     for i in low..high {
         wide.push(word(first, words, i))?;
     }
@@ -101,6 +101,20 @@ pub(crate) fn or_missing(words: &mut [u64], at: usize, more: &[u64], known: &[u6
     for i in 0..more.len() {
         words[at + i] |= more[i] & !known[known_at + i];
     }
+}
+
+/// Tells whether words have each bit of more words, the first of which is word `at`.
+pub(crate) fn have_words(words: &[u64], at: usize, more: &[u64]) -> bool
+    requires { at + length more.now ≤ length words.now }
+    ensures none { IsTrue result → (n : ℕ) → n < length more.now → bit_and (slice_index_or more.now n 0)
+        (bit_not w64 (slice_index_or words.now (at + n) 0)) ≡ 0 }
+    ensures words { (n : ℕ) → slice_index_or words.now n 0 < 2 ^ 64 }
+{
+    let mut missing = 0;
+    for i in 0..more.len() {
+        missing |= more[i] & !words[at + i];
+    }
+    missing == 0
 }
 
 /// Returns the place of the lowest bit of a word from bit `from` on.

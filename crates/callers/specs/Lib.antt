@@ -1,3 +1,4 @@
+pub mod AnswersAlone
 pub mod Choices
 pub mod CommentLines
 pub mod Loaded

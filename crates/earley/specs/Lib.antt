@@ -1,12 +1,4 @@
-pub mod ChartSets
-pub mod Charts
-pub mod Chosen
-pub mod Closed
-pub mod SetViews
-pub mod EarleySets
-pub mod HeadTables
-pub mod ItemBuckets
-pub mod ItemSets
-pub mod ScannedItems
-pub mod Waiting
-pub mod Worklist
+pub mod PlaceTables
+pub mod RowItems
+pub mod RowCharts
+pub mod RowIndexes

@@ -1,17 +1,14 @@
-//! Judges lines by flat grammars.
+//! Judges lines by item sets: item by item, and where the sets are dense by rows of bits.
 #![tactic(auto)]
 
 mod chart;
-mod earley_set;
-mod fill;
-mod heads;
-mod item;
-mod items;
-mod postdot;
-mod scan;
-mod sets;
+mod place_table;
+mod row_chart;
+mod row_fill;
+mod row_index;
+mod row_sets;
+mod row_step;
 mod verdict;
-mod waiters;
 
 pub use chart::{Chart, judge};
 pub use verdict::viable;

@@ -1,1 +1,5 @@
+mod FrontTextLemmas
+mod JudgeBoxLemmas
+mod LooseLemmas
+mod OpenCallLemmas
 mod WindowRunsLemmas

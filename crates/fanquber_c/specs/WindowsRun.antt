@@ -2,6 +2,7 @@
 use Rattle.std.specs.Prelude.{◌≡◌, ◌≢◌, ℕ, List, ◌++◌, length}
 use Rattle.fanquber_c.specs.Asking.{IsMeant, IsInvalid}
 use Rattle.fanquber_c.specs.BufferRun.{Filled, IsLaid, IsUntouched}
+use Rattle.fanquber_c.specs.FrontText.{StandsFirst}
 use Rattle.fanquber_c.specs.WindowRuns.{HaveRun}
 use Rattle.fanquber_c.specs.declared.asked.CSettings.{CSettings}
 use Rattle.fanquber_c.specs.declared.asked.TheConstants.{BAD_SETTINGS}
@@ -17,15 +18,17 @@ pub record Results : Type 0 where
   pub old : List CResult
   pub new : List CResult
 
--- Each window was run with the settings that are asked for, by itself: what its run wrote behind what stands first on
--- the error output, the notes or the fault of the grammar, stands in the buffers, one run behind the other, as much as
--- there is room for. Or no settings are asked for, or there is not one result for each window, and nothing was done.
+-- Each window was run with the settings that are asked for, by itself. First in the error buffer stands what each run
+-- tells of the grammar, its notes or its fault, once for all. Behind it, and in the other buffer, stands the rest of
+-- what the runs wrote, one run behind the other, as much as there is room for. Or no settings are asked for, or the
+-- results are not as many as the windows, and nothing was done.
 pub data IsWindowsRun (States : Settings → Input → List ℕ → Reply → Type 0) (asked : CSettings) (name input : List ℕ)
     (windows : List CWindow) (results : Results) (out err : Filled) (code : ℕ) : Type 0 where
-  all_ran : (settings : Settings) (notes printed told : List ℕ) → IsMeant asked name settings
-      → HaveRun (λ bytes run. IsMemoryRun (States settings) bytes run.out (notes ++ run.err) run.code) input windows
+  all_ran : (settings : Settings) (first printed told : List ℕ) → IsMeant asked name settings
+      → StandsFirst (States settings) first
+      → HaveRun (λ bytes run. IsMemoryRun (States settings) bytes run.out (first ++ run.err) run.code) input windows
       printed told results.new
-      → IsLaid printed out → IsLaid told err → code ≡ 0
+      → IsLaid printed out → IsLaid (first ++ told) err → code ≡ 0
       → IsWindowsRun States asked name input windows results out err code
   no_settings : IsInvalid asked name → results.new ≡ results.old → IsUntouched out → IsUntouched err
       → code ≡ BAD_SETTINGS → IsWindowsRun States asked name input windows results out err code

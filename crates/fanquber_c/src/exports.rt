@@ -8,6 +8,7 @@ ghost use Rattle.toolrun.specs.Status.{code_of};
 
 use crate::asked::{CSettings, settings_of};
 use crate::buffer::lay;
+use crate::front::front_of;
 use crate::result::{CResult, nothing_done};
 use crate::windows::{CWindow, run_windows};
 use memoryrun::{Outputs, abnf_in_memory, peg_in_memory};
@@ -73,12 +74,12 @@ pub extern "C" fn fanquber_abnf(
     }
 }
 
-/// Runs a grammar of peg(1) on each window of an input by itself, as `run_peg` says but for what stands before all
-/// input on the error output, the notes or the fault of the grammar's text, and lays
-/// what the runs write into the buffers, one run behind the other, as much as there is room for. The results have the
-/// lengths and the status of each run, `BAD_SETTINGS` for a window that does not lie in the input. The grammar is read
-/// and checked once. `BAD_SETTINGS` where the settings are out of range, the name is no UTF-8, or there is not one
-/// result for each window: then nothing is done.
+/// Runs a grammar of peg(1) on each window of an input by itself, as `run_peg` says, and lays what the runs write into
+/// the buffers, as much as there is room for. What each of them tells of the grammar, its notes or the fault of its
+/// text, stands once at the front of the error buffer; the rest stands behind it, one run behind the other. The results
+/// have the status of each run and the lengths of what it wrote there, `BAD_SETTINGS` for a window that does not lie in
+/// the input. The grammar is read and checked once. `BAD_SETTINGS` where the settings are out of range, the name is no
+/// UTF-8, or there is not one result for each window: then nothing is done.
 #[unsafe(no_mangle)]
 pub extern "C" fn fanquber_peg_windows(
     alloc: Global,
@@ -102,8 +103,8 @@ pub extern "C" fn fanquber_peg_windows(
     let Some(settings) = settings_of(asked, name) else {
         return nothing_done();
     };
-    let plan = plan_of::<PegLanguage>(alloc, grammar, &settings);
-    let texts = run_windows::<PegLanguage>(alloc, &plan, &settings, input, windows, results);
+    let front = front_of(alloc, plan_of::<PegLanguage>(alloc, grammar, &settings));
+    let texts = run_windows::<PegLanguage>(alloc, front, &settings, input, windows, results);
     let outputs = Outputs {
         out: texts.out,
         err: texts.err,

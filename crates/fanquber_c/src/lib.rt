@@ -1,14 +1,25 @@
-//! Whole runs of both tools over memory, for C.
+//! Whole runs of both tools over memory, and grammars in ABNF that are opened once, for C.
 #![tactic(auto)]
 
+mod answer;
 mod asked;
 mod buffer;
 mod exports;
+mod front;
+mod judge;
+mod judge_box;
+mod judge_exports;
+mod loose;
+mod opening;
 mod result;
 mod window_texts;
 mod windows;
 
+pub use answer::CAnswer;
 pub use asked::CSettings;
 pub use exports::{fanquber_abnf, fanquber_peg, fanquber_peg_windows};
+pub use judge::CJudge;
+pub use judge_box::JudgeBox;
+pub use judge_exports::{fanquber_abnf_close, fanquber_abnf_judge, fanquber_abnf_open};
 pub use result::CResult;
 pub use windows::CWindow;

@@ -1,9 +1,10 @@
 //! The windows of an input, each run by itself.
-ghost use Rattle.std.specs.Prelude.{◌≡◌, ◌≤◌, ◌+◌, ◌<◌, ◌++◌, length, MatchOption};
+ghost use Rattle.std.specs.Prelude.{◌≡◌, ℕ, List, ◌≤◌, ◌+◌, ◌<◌, ◌++◌, length, MatchOption};
 ghost use Rattle.fanquber_c.specs.WindowRuns.{HaveRun, IsWindowRun, WindowRun, window_bytes, planned, result_of};
 ghost use Rattle.toolrun.specs.Plan.{does_of};
 ghost use Rattle.toolrun.specs.Tasks.{task_does};
 
+use crate::front::Front;
 use crate::result::{CResult, nothing_done};
 use crate::window_texts::{Texts, append_run};
 use memoryrun::run_plan;
@@ -56,25 +57,28 @@ fn run_window<L: Language>(
     }
 }
 
-/// Runs a plan on each window of an input, and returns what the runs wrote, one behind the other.
+/// Runs a plan on each window of an input, and returns what the runs wrote, one behind the other, and before it what is
+/// told once for all of them.
 pub fn run_windows<L: Language>(
     alloc: Global,
-    plan: &Plan<L::Grammar, L::Sound>,
+    front: Front<L::Grammar, L::Sound>,
     settings: &Settings<'_>,
     input: &[u8],
     windows: &[CWindow],
     results: &mut [CResult],
 ) -> Texts
     requires count { length results.old ≡ length windows.now }
-    ensures { HaveRun (planned (does_of (λ t. task_does L.canonical L.runs t settings.now) plan.now.task)) input.now
-        windows.now result.out.items result.err.items results.new }
+    ensures { (told : List ℕ)
+        × HaveRun (planned (does_of (λ t. task_does L.canonical L.runs t settings.now) front.plan.task)) input.now
+        windows.now result.out.items told results.new × (result.err.items ≡ front.told.items ++ told) }
 {
+    let Front { told, plan } = front;
     let mut texts = Texts {
         out: Vec::new(alloc),
-        err: Vec::new(alloc),
+        err: told,
     };
     for n in 0..windows.len() {
-        results[n] = run_window::<L>(alloc, plan, settings, input, windows[n], &mut texts);
+        results[n] = run_window::<L>(alloc, &plan, settings, input, windows[n], &mut texts);
     }
     texts
 }

@@ -8,3 +8,5 @@ pub mod VisitOrderLemmas
 pub mod IsFarthestLemmas
 pub mod FailingLeafLemmas
 pub mod AscendsLemmas
+pub mod FarthestWithinLemmas
+pub mod LongerFarthestLemmas

@@ -14,6 +14,9 @@ mod told;
 mod visit;
 
 pub use failures::{Farthest, farthest_failure};
-pub use laws::{failing_leaf_stops, farthest_or_none, one_farthest, stops_fail};
+pub use laws::{
+    failing_leaf_stops, farthest_is_within, farthest_or_none, one_farthest, same_on_longer,
+    stops_fail,
+};
 pub use told::{Told, told_unit};
 pub use visit::Visit;

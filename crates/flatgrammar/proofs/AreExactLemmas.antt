@@ -1,6 +1,6 @@
 -- The tables of a flat grammar are exact.
 -- Serves: lower, judge.
-use Rattle.std.proofs.Common.{◌≡◌, ◌⊎◌, inl, inr, ℕ, Bool, Option, List, Vec, Global, subst}
+use Rattle.std.proofs.Common.{◌≡◌, ◌⊎◌, inl, inr, ℕ, Bool, Option, List, [], Vec, Global, sym, ◌∙◌, ap, subst}
 use Rattle.flatgrammar.specs.declared.flat_node.Node as code_node
 use Rattle.flatgrammar.specs.declared.block.Spot.{Spot}
 use Rattle.flatgrammar.specs.declared.block.Block as code_block
@@ -12,9 +12,9 @@ use Rattle.flatgrammar.specs.NodeSteps.{flat_of}
 use Rattle.flatgrammar.specs.Places.{In}
 use Rattle.flatgrammar.specs.Roots.{AreRoots}
 use Rattle.flatgrammar.specs.TableViews.{GiveRoots, AreNulls}
-use Rattle.flatgrammar.specs.Blocks.{Block, AreSpotLists, AreExact}
+use Rattle.flatgrammar.specs.Blocks.{Block, AreSpotLists, AreExact, AreHomes, home_of}
 use Rattle.flatgrammar.specs.Inners.{AreInners}
-use Rattle.flatgrammar.specs.HeadBlocks.{IsCalled, IsPast, SomeOf, Grows, AreHeadBlocks}
+use Rattle.flatgrammar.specs.HeadBlocks.{IsCalled, IsPast, SomeOf, Grows, IsAtHome, AreHeadBlocks}
 use Rattle.flatgrammar.proofs.HeadBlockLemmas.{head_tables, inners_alone}
 
 abbrev pub tables : Vec code_node.Node Global → Vec ℕ Global → Vec (Option ℕ) Global → Vec Bool Global
@@ -35,10 +35,9 @@ tables nodes bodies roots nulls inners blocks lists whole limit =
 module _ (nodes : Vec code_node.Node Global) (bodies : Vec ℕ Global) (roots : Vec (Option ℕ) Global)
     (nulls : Vec Bool Global) (nobody inners : Vec (Option Inner) Global)
     (none blocks : Vec code_block.Block Global) (unlisted lists : Vec SpotList Global) (whole limit : ℕ)
-    (ns ms : List code_node.Node) (bs cs : List ℕ) (is_ns : ns ≡ nodes.items) (is_bs : bs ≡ bodies.items)
-    (is_ms : ms ≡ nodes.items) (is_cs : cs ≡ bodies.items)
+    (ns : List code_node.Node) (bs : List ℕ) (is_ns : ns ≡ nodes.items) (is_bs : bs ≡ bodies.items)
     (are_roots : AreRoots (nodes_of ns) bs roots.items)
-    (are_nulls : (w l : ℕ) → AreNulls (record { nodes = nodes_of ms; bodies = cs; whole = w; limit = l })
+    (are_nulls : AreNulls (record { nodes = nodes_of nodes.items; bodies = bodies.items; whole = whole; limit = limit })
     nulls.items)
     (are_inners : AreInners (tables nodes bodies roots nulls nobody none unlisted whole limit) inners.items)
     (made : AreHeadBlocks (tables nodes bodies roots nulls nobody none unlisted whole limit) inners.items blocks.items)
@@ -128,17 +127,37 @@ module _ (nodes : Vec code_node.Node Global) (bodies : Vec ℕ Global) (roots : 
         };
       })
 
+  -- a block has the nodes of its head
+  are_homes : AreHomes (tables nodes bodies roots nulls inners blocks lists whole limit)
+  are_homes = record {
+    spots = λ h p at. at_home h p (((made h).spots p).0 at);
+    passes = λ h p at. past_home h p (((made h).passes p).0 at);
+    inners = λ t inner is. sym (are_inners t inner is).home;
+  }
+    where
+      at_home : (h : ℕ) (p : Spot) → In p []
+          ⊎ IsAtHome (tables nodes bodies roots nulls nobody none unlisted whole limit) inners.items h p
+          → home_of (tables nodes bodies roots nulls inners blocks lists whole limit) p.node ≡ h
+      at_home h p (inl at) = elim at [ ]
+      at_home h p (inr at) = at.0
+
+      past_home : (h : ℕ) (p : Spot) → In p []
+          ⊎ SomeOf (IsAtHome (tables nodes bodies roots nulls nobody none unlisted whole limit) inners.items h)
+          (λ q. IsPast (tables nodes bodies roots nulls nobody none unlisted whole limit) q p)
+          → home_of (tables nodes bodies roots nulls inners blocks lists whole limit) p.node ≡ h
+      past_home h p (inl at) = elim at [ ]
+      past_home h p (inr s) =
+          ap (λ v. home_of (tables nodes bodies roots nulls inners blocks lists whole limit) v) s.is.node ∙ s.stands.0
+
   pub tables_exact : AreExact (tables nodes bodies roots nulls inners blocks lists whole limit)
   tables_exact = record {
     roots = gives_roots;
-    nulls = subst (λ v. AreNulls (record { nodes = nodes_of nodes.items; bodies = v; whole = whole; limit = limit })
-        nulls.items) is_cs
-        (subst (λ v. AreNulls (record { nodes = nodes_of v; bodies = cs; whole = whole; limit = limit }) nulls.items)
-        is_ms (are_nulls whole limit));
+    nulls = are_nulls;
     blocks = head_tables (tables nodes bodies roots nulls inners blocks lists whole limit) gives_roots inners.items
         same_inners (λ h. same_grows _ _ _ (made h));
     inners = λ t i is. inners_alone (tables nodes bodies roots nulls inners blocks lists whole limit) gives_roots
         inners.items
         same_inners (λ h. same_grows _ _ _ (made h)) t i is;
     lists = are_lists;
+    homes = are_homes;
   }

@@ -22,14 +22,15 @@ push_cases [] a (suc n) b h = absurd (cc h)
 push_cases (x ∷ xs) a zero b h = inl h
 push_cases (x ∷ xs) a (suc n) b h = ⊎_elim (λ k. inl k) (λ k. inr (ap (λ v. suc v) k.0, k.1)) (push_cases xs a n b h)
 
-pub none_cut : (rules : List Rule) (limit : ℕ) (nodes : List declared.Node) (numbers : List ℕ) → nodes ≡ []
-    → numbers ≡ [] → AreCut rules limit 0 (nodes_of nodes) numbers
-none_cut rules limit nodes numbers no_nodes no_numbers =
-    rw (no_nodes, no_numbers) (record {
+pub none_cut : (rules : List Rule) (limit : ℕ) (nodes : List declared.Node) (marks : List Bool) (numbers : List ℕ)
+    → nodes ≡ [] → marks ≡ [] → numbers ≡ [] → AreCut rules limit 0 (nodes_of nodes) marks numbers
+none_cut rules limit nodes marks numbers no_nodes no_marks no_numbers =
+    rw (no_nodes, no_marks, no_numbers) (record {
       long = refl;
       spelled = λ id m h. absurd (cc h);
       sized = omega arith;
       ordered = record { before = λ s m node is h. absurd (cc is) };
+      told = record { long = refl; each = λ s mark is. absurd (cc is) };
     })
 
 sizes_next : (limit : ℕ) (els : List Element) (i : ℕ) (el : Element) → slice_get els i ≡ Some el
@@ -45,9 +46,9 @@ sizes_next limit (d ∷ els) (suc i) el h =
     shift : (i : ℕ) → suc i + 1 ≡ suc (i + 1)
     shift i = omega arith
 
-cut_more : {rules : List Rule} {limit i : ℕ} {old new : List Node} {numbers : List ℕ} {n : ℕ} {empty : Bool}
-    {el : Element} → AreCut rules limit i old numbers → slice_get (bodies rules) i ≡ Some el →
-    Numbers rules limit old new n empty el → AreCut rules limit (i + 1) new (numbers ++ n ∷ [])
+cut_more : {rules : List Rule} {limit i : ℕ} {old new : List Node} {were are : List Bool} {numbers : List ℕ} {n : ℕ}
+    {empty : Bool} {el : Element} → AreCut rules limit i old were numbers → slice_get (bodies rules) i ≡ Some el →
+    Numbers rules limit old new were are n empty el → AreCut rules limit (i + 1) new are (numbers ++ n ∷ [])
 cut_more {rules} {limit} {i} {old} {new} {numbers} {n} {el} c at g = record {
   long = let l = length-append numbers (n ∷ []) in let was = c.long in omega (arith, l, was);
   spelled = λ id m h. ⊎_elim
@@ -69,6 +70,7 @@ cut_more {rules} {limit} {i} {old} {new} {numbers} {n} {el} c at g = record {
   sized = let one = g.sized in let before = c.sized in let next = sizes_next limit (bodies rules) i el at in
       omega (arith, one, before, next);
   ordered = g.ordered c.ordered;
+  told = g.told c.told;
 }
 
 body_at : (rules : List (table.Rule Elem)) (i : ℕ) (e : Elem) → slice_get (map (λ rule. rule.body) rules) i ≡ Some e
@@ -77,9 +79,10 @@ body_at [] i e h = absurd (cc h)
 body_at (rule ∷ rules) zero e h = let same : rule.body ≡ e = cc h in ap (λ v. Some (element_of v)) same
 body_at (rule ∷ rules) (suc i) e h = body_at rules i e h
 
-pub next_cut : (rules : List (table.Rule Elem)) {limit i : ℕ} (old new : List declared.Node) {numbers : List ℕ}
-    {n : ℕ} {empty : Bool} {e : Elem} → AreCut (map rule_of rules) limit i (nodes_of old) numbers →
+pub next_cut : (rules : List (table.Rule Elem)) {limit i : ℕ} (old new : List declared.Node) {were are : List Bool}
+    {numbers : List ℕ} {n : ℕ} {empty : Bool} {e : Elem} →
+    AreCut (map rule_of rules) limit i (nodes_of old) were numbers →
     slice_get (map (λ rule. rule.body) rules) i ≡ Some e → Numbers (map rule_of rules) limit (nodes_of old)
-    (nodes_of new) n empty (element_of e) →
-    AreCut (map rule_of rules) limit (i + 1) (nodes_of new) (numbers ++ n ∷ [])
+    (nodes_of new) were are n empty (element_of e) →
+    AreCut (map rule_of rules) limit (i + 1) (nodes_of new) are (numbers ++ n ∷ [])
 next_cut rules {i} old new {e} c at g = cut_more c (body_at rules i e at) g

@@ -15,7 +15,7 @@ module _ (flat : Flat) where
   starts_pass (starts is b) = begun is b
   starts_pass (name_starts is at_r st) = starts_pass st
 
-  ends_null : {s : ℕ} {p : Place} → Ends flat p s → PassesAt p → Nullable flat.nodes flat.bodies s
+  pub ends_null : {s : ℕ} {p : Place} → Ends flat p s → PassesAt p → Nullable flat.nodes flat.bodies s
   ends_null (ends is d) passes = done passes is d
   ends_null (name_ends is at_r e) passes = named is at_r (ends_null e passes)
 

@@ -1,8 +1,8 @@
 -- Nodes that are added one by one, and what they spell.
 -- Serves: lower.
 use Rattle.std.proofs.Common.{◌≡◌, ℕ, ◌+◌, ◌<◌, ◌≤◌, List, [], ◌∷◌, ◌++◌, length, take, map, get_or, refl, sym, ap}
-use Rattle.std.proofs.Common.{subst, arith, ◌∙◌, Some, add-one, append_assoc, append-nil, Bool, true, false, ◌&&◌, ◌||◌}
-use Rattle.std.proofs.Common.{◌⊎◌, inl, inr}
+use Rattle.std.proofs.Common.{subst, arith, ◌∙◌, Some, add-one, append_assoc, append-nil, length-append, Bool, true}
+use Rattle.std.proofs.Common.{false, ◌&&◌, ◌||◌, ◌⊎◌, inl, inr}
 use Rattle.std.specs.Prelude.{slice_get}
 use Rattle.std.proofs.lemmas.List.{map-append, length-map}
 use Rattle.std.proofs.Math.Seq.{take-suc}
@@ -18,7 +18,9 @@ use Rattle.flatgrammar.specs.Places.{width, places, size, size_all, count}
 use Rattle.flatgrammar.specs.declared.flat_node.Node as declared
 use Rattle.flatgrammar.specs.FlatViews.{node_of, nodes_of}
 use Rattle.flatgrammar.specs.Numbers.{Numbers, NumbersAll, IsOperand, AreOrdered}
-use Rattle.flatgrammar.proofs.SpellAllLemmas.{still_shows, still_spell_all, places_push, operand_below}
+use Rattle.flatgrammar.specs.Numbers.{IsNodeTold, AreNodesTold}
+use Rattle.flatgrammar.proofs.SpellAllLemmas.{still_shows, still_spells, still_spell_all, places_push}
+use Rattle.flatgrammar.proofs.SpellAllLemmas.{operand_below}
 use Rattle.flatgrammar.proofs.FlatCutLemmas.{push_cases}
 
 pub at_end : {A : Type 0} (xs : List A) (a : A) → slice_get (xs ++ a ∷ []) (length xs) ≡ Some a
@@ -41,17 +43,48 @@ ordered_push nodes node o below = record { before = λ s m d is h. by s m d h (p
         let lt = below m (subst (λ v. IsOperand v m) (sym last.1) h) in
         subst (λ v. m < v) (sym last.0) lt
 
+-- one more node, with the mark of what it shows
+pub told_push : (rules : List Rule) (limit : ℕ) (nodes : List Node) (marks : List Bool) (node : Node) (mark : Bool)
+    (el : Element) → AreNodesTold rules limit nodes marks → Shows rules limit nodes node el → Tells rules mark el →
+    AreNodesTold rules limit (nodes ++ node ∷ []) (marks ++ mark ∷ [])
+told_push rules limit nodes marks node mark el t shown told = record {
+  long = (let one = length-append marks (mark ∷ []) in let other = length-append nodes (node ∷ []) in
+      let was = t.long in omega (arith, one, other, was));
+  each = λ s m is. by s m (push_cases marks mark s m is);
+}
+  where
+    by : (s : ℕ) (m : Bool) → ((slice_get marks s ≡ Some m) ⊎ ((s ≡ length marks) × (mark ≡ m)))
+        → IsNodeTold rules limit (nodes ++ node ∷ []) s m
+    by s m (inl was) = let h = t.each s m was in
+        record {
+          el = h.el;
+          spelled = still_spells rules limit nodes (node ∷ []) h.spelled;
+          tells = h.tells;
+        }
+    by s m (inr last) =
+        let here : length nodes ≡ s = sym (last.0 ∙ t.long) in
+        record {
+          el = el;
+          spelled = spells (subst (λ k. slice_get (nodes ++ node ∷ []) k ≡ Some node) here (at_end nodes node))
+              (still_shows rules limit nodes (node ∷ []) shown);
+          tells = subst (λ v. Tells rules v el) last.1 told;
+        }
+
 -- one more node, over what was added before it
 module _ {rules : List Rule} {limit : ℕ} (nodes : List declared.Node) {more : List declared.Node} (v : declared.Node)
-    {n : ℕ} {empty : Bool} {el : Element} (is_more : more ≡ nodes ++ v ∷ []) (is : n ≡ length nodes) where
-  one_more : (first added : List Node) → nodes_of nodes ≡ first ++ added
-      → (AreOrdered first → AreOrdered (nodes_of nodes)) → places (nodes_of nodes) + width (node_of v) ≤ places first
+    {marks more_marks : List Bool}
+    {n : ℕ} {empty : Bool} {el : Element} (is_more : more ≡ nodes ++ v ∷ []) (is : n ≡ length nodes)
+    (is_marked : more_marks ≡ marks ++ empty ∷ []) where
+  one_more : (first added : List Node) (were : List Bool) → nodes_of nodes ≡ first ++ added
+      → (AreOrdered first → AreOrdered (nodes_of nodes))
+      → (AreNodesTold rules limit first were → AreNodesTold rules limit (nodes_of nodes) marks)
+      → places (nodes_of nodes) + width (node_of v) ≤ places first
       + size limit el → Shows rules limit (nodes_of nodes) (node_of v) el → Tells rules empty el →
-      Numbers rules limit first (nodes_of more) n empty el
-  one_more first added grown ordered sized shown told =
+      Numbers rules limit first (nodes_of more) were more_marks n empty el
+  one_more first added were grown ordered told_before sized shown told =
       let number : n ≡ length (nodes_of nodes) = is ∙ sym (length-map nodes node_of) in
       let at = at_end (nodes_of nodes) (node_of v) in
-      rw (nodes_pushed nodes more v is_more) (record {
+      rw (nodes_pushed nodes more v is_more, is_marked) (record {
         added = added ++ node_of v ∷ [];
         grown = ap (λ w. w ++ node_of v ∷ []) grown ∙ append_assoc first added (node_of v ∷ []);
         spelled = spells (subst (λ k. slice_get (nodes_of nodes ++ node_of v ∷ []) k ≡ Some (node_of v)) (sym number)
@@ -60,34 +93,36 @@ module _ {rules : List Rule} {limit : ℕ} (nodes : List declared.Node) {more : 
         tells = told;
         ordered = λ o. ordered_push (nodes_of nodes) (node_of v) (ordered o)
             (λ m h. operand_below rules limit (nodes_of nodes) shown m h);
+        told = λ t. told_push rules limit (nodes_of nodes) marks (node_of v) empty el (told_before t) shown told;
       })
 
   -- a node without operands
   pub leaf_numbers : width (node_of v) ≡ size limit el → Shows rules limit (nodes_of nodes) (node_of v) el
-      → Tells rules empty el → Numbers rules limit (nodes_of nodes) (nodes_of more) n empty el
+      → Tells rules empty el → Numbers rules limit (nodes_of nodes) (nodes_of more) marks more_marks n empty el
   leaf_numbers wide shown told =
-      one_more (nodes_of nodes) [] (sym (append-nil (nodes_of nodes))) (λ o. o) (omega (arith, wide))
+      one_more (nodes_of nodes) [] marks (sym (append-nil (nodes_of nodes))) (λ o. o) (λ t. t) (omega (arith, wide))
       shown told
 
   -- a node over one operand
-  pub numbers_over : {first : List Node} {k : ℕ} {c : Bool} {d : Element}
-      → Numbers rules limit first (nodes_of nodes) k c d
+  pub numbers_over : {first : List Node} {were : List Bool} {k : ℕ} {c : Bool} {d : Element}
+      → Numbers rules limit first (nodes_of nodes) were marks k c d
       → width (node_of v) + size limit d ≤ size limit el →
       (Tells rules c d → Spells rules limit (nodes_of nodes) k d → Shows rules limit (nodes_of nodes) (node_of v) el)
-      → (Tells rules c d → Tells rules empty el) → Numbers rules limit first (nodes_of more) n empty el
-  numbers_over {first} g wide shown told = let sized = g.sized in
-      one_more first g.added g.grown g.ordered (omega (arith, sized, wide)) (shown g.tells g.spelled) (told g.tells)
+      → (Tells rules c d → Tells rules empty el) → Numbers rules limit first (nodes_of more) were more_marks n empty el
+  numbers_over {first} {were} g wide shown told = let sized = g.sized in
+      one_more first g.added were g.grown g.ordered g.told (omega (arith, sized, wide)) (shown g.tells g.spelled)
+      (told g.tells)
 
   -- a node over members
-  pub over_all : {first : List Node} {ks : List ℕ} {all any : Bool} {es : Elements}
-      → NumbersAll rules limit first (nodes_of nodes) ks all any es
+  pub over_all : {first : List Node} {were : List Bool} {ks : List ℕ} {all any : Bool} {es : Elements}
+      → NumbersAll rules limit first (nodes_of nodes) were marks ks all any es
       → (length ks ≡ count es → width (node_of v) + size_all limit es ≡ size limit el) →
       (SpellAll rules limit (nodes_of nodes) ks es → Shows rules limit (nodes_of nodes) (node_of v) el)
       → (TellsAll rules all es → TellsSome rules any es → Tells rules empty el)
-      → Numbers rules limit first (nodes_of more) n empty el
-  over_all {first} g wide shown told =
+      → Numbers rules limit first (nodes_of more) were more_marks n empty el
+  over_all {first} {were} g wide shown told =
       let sized = g.sized in let many = wide (counted g.spelled) in
-      one_more first g.added g.grown g.ordered (omega (arith, sized, many)) (shown g.spelled)
+      one_more first g.added were g.grown g.ordered g.told (omega (arith, sized, many)) (shown g.spelled)
       (told g.tell_all g.tell_some)
     where
       counted : {ks : List ℕ} {es : Elements} → SpellAll rules limit (nodes_of nodes) ks es → length ks ≡ count es
@@ -106,9 +141,9 @@ size_push : (limit : ℕ) (es : List Element) (el : Element) → size_all limit 
 size_push limit [] el = omega arith
 size_push limit (d ∷ es) el = let rest = size_push limit es el in omega (arith, rest)
 
-pub no_members : (rules : List Rule) (limit : ℕ) (xs : List Node) (ns : List ℕ) → ns ≡ []
-    → NumbersAll rules limit xs xs ns true false e.none
-no_members rules limit xs ns is = rw is (record {
+pub no_members : (rules : List Rule) (limit : ℕ) (xs : List Node) (marks : List Bool) (ns : List ℕ) → ns ≡ []
+    → NumbersAll rules limit xs xs marks marks ns true false e.none
+no_members rules limit xs marks ns is = rw is (record {
   added = [];
   grown = sym (append-nil xs);
   spelled = spell_none;
@@ -116,6 +151,7 @@ no_members rules limit xs ns is = rw is (record {
   tell_all = none_tell rules;
   tell_some = no_alternative_tells rules;
   ordered = λ o. o;
+  told = λ t. t;
 })
 
 map_next : (es : List Elem) (i : ℕ) (v : Elem) → i < length es → v ≡ get_or es i v → map element_of (take (i + 1) es)
@@ -126,11 +162,12 @@ map_next es i v lt is =
     ap (λ w. map element_of (take i es) ++ element_of w ∷ []) (sym is)
 
 -- nodes of members, and then those of one more
-append_member : {rules : List Rule} {limit : ℕ} {first mid new : List Node} {ns : List ℕ} {n : ℕ} {all any c : Bool}
-    (es : List Element) {el : Element} →
-    NumbersAll rules limit first mid ns all any (elements es) → Numbers rules limit mid new n c el
-    → NumbersAll rules limit first new (ns ++ n ∷ []) (all && c) (any || c) (elements (es ++ el ∷ []))
-append_member {rules} {limit} {first} {mid} {new} {ns} {n} {all} {any} {c} es {el} g h = record {
+append_member : {rules : List Rule} {limit : ℕ} {first mid new : List Node} {were between are : List Bool}
+    {ns : List ℕ} {n : ℕ} {all any c : Bool} (es : List Element) {el : Element} →
+    NumbersAll rules limit first mid were between ns all any (elements es)
+    → Numbers rules limit mid new between are n c el
+    → NumbersAll rules limit first new were are (ns ++ n ∷ []) (all && c) (any || c) (elements (es ++ el ∷ []))
+append_member {rules} {limit} {first} {mid} {new} {were} {between} {are} {ns} {n} {all} {any} {c} es {el} g h = record {
   added = g.added ++ h.added;
   grown = h.grown ∙ ap (λ w. w ++ h.added) g.grown ∙ append_assoc first g.added h.added;
   spelled = spell_push rules limit new es el n (subst (λ w. SpellAll rules limit w ns (elements es)) (sym h.grown)
@@ -140,12 +177,15 @@ append_member {rules} {limit} {first} {mid} {new} {ns} {n} {all} {any} {c} es {e
   tell_all = next_tells rules all c es el g.tell_all h.tells;
   tell_some = next_alternative_tells rules any c es el g.tell_some h.tells;
   ordered = λ o. h.ordered (g.ordered o);
+  told = λ t. h.told (g.told t);
 }
 
-pub next_member : {rules : List Rule} {limit : ℕ} {first mid new : List Node} {ns : List ℕ} {n : ℕ} {all any c : Bool}
+pub next_member : {rules : List Rule} {limit : ℕ} {first mid new : List Node} {were between are : List Bool}
+    {ns : List ℕ} {n : ℕ} {all any c : Bool}
     (es : List Elem) {i : ℕ} {v : Elem} → i < length es → v ≡ get_or es i v →
-    NumbersAll rules limit first mid ns all any (elements_of (take i es))
-    → Numbers rules limit mid new n c (element_of v) → NumbersAll rules limit first new (ns ++ n ∷ []) (all && c)
+    NumbersAll rules limit first mid were between ns all any (elements_of (take i es))
+    → Numbers rules limit mid new between are n c (element_of v)
+    → NumbersAll rules limit first new were are (ns ++ n ∷ []) (all && c)
     (any || c) (elements_of (take (i + 1) es))
 next_member es {i} {v} lt is g h = rw (map_next es i v lt is) (append_member (map element_of (take i es)) g h)
 

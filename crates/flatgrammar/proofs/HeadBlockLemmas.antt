@@ -14,7 +14,8 @@ use Rattle.flatgrammar.specs.TableViews.{call_of, count_in, whole_root, GiveRoot
 use Rattle.flatgrammar.specs.NodeSteps.{flat_of}
 use Rattle.flatgrammar.specs.Blocks.{Block, spot, item_at, inner_in, begin_count, call_at, Inside, IsPassing, IsBlock}
 use Rattle.flatgrammar.specs.Blocks.{block_in, block_of, IsHead, IsLate, AreTables, IsAlone}
-use Rattle.flatgrammar.specs.Inners.{inner_at, home_or, home_in, AreInners}
+use Rattle.flatgrammar.specs.Inners.{inner_at, home_in, AreInners}
+use Rattle.flatgrammar.specs.Blocks.{home_or}
 use Rattle.flatgrammar.specs.HeadBlocks.{IsCalled, IsPast, SomeOf, Grows, BeginsAt, IsAtHome, AreHeadBlocks}
 use Rattle.flatgrammar.proofs.CallOfLemmas.{past_get, called_of, calls_late, equal_or, some_same}
 use Rattle.flatgrammar.proofs.InLemmas.{in_left, at_end, before_end, different_end}

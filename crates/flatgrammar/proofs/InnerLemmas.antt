@@ -13,7 +13,8 @@ use Rattle.flatgrammar.specs.declared.inner.Inner.{Inner}
 use Rattle.flatgrammar.specs.declared.tables.Tables as code_flat
 use Rattle.flatgrammar.specs.TableViews.{root_in, rooted, called_by}
 use Rattle.flatgrammar.specs.Blocks.{spot, inner_in, call_at}
-use Rattle.flatgrammar.specs.Inners.{allows, allows_in, AreCallers, inner_at, home_or, IsInner, AreInners}
+use Rattle.flatgrammar.specs.Inners.{allows, allows_in, AreCallers, inner_at, IsInner, AreInners}
+use Rattle.flatgrammar.specs.Blocks.{home_or}
 use Rattle.flatgrammar.proofs.CallOfLemmas.{some_same, equal_or, get_below}
 
 -- what a step calls, by its number or as a turn

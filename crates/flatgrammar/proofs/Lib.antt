@@ -1,4 +1,5 @@
 pub mod AreExactLemmas
+pub mod AreNodesToldLemmas
 pub mod BeforeLemmas
 pub mod CallOfLemmas
 pub mod CappedMostLemmas
@@ -13,7 +14,6 @@ pub mod LoweredLemmas
 pub mod NamesTellLemmas
 pub mod NodeRunsLemmas
 pub mod NodeStepsLemmas
-pub mod NullNeedsLemmas
 pub mod OnLineLemmas
 pub mod PlacesLemmas
 pub mod ReachedLemmas

@@ -84,6 +84,13 @@ pub all_marked : (rules : List Rule) (i : ℕ) (marks : List Bool) → AreNullSo
     → AreNullRules rules marks
 all_marked rules i marks m all = record { count = m.long ∙ all; each = m.each }
 
+-- the same holds of a rule of both
+pub null_alike : (rules others : List Rule) (id : ℕ) (null : Bool) → AreNullAlike rules others
+    → ((has : ℕ → Bool) → (null ≡ true) ↔ RuleDerives has rules id [])
+    → (has : ℕ → Bool) → (null ≡ true) ↔ RuleDerives has others id []
+null_alike rules others id null alike is has =
+    ((λ m. (alike.alike has id).1 ((is has).0 m)), (λ d. (is has).1 ((alike.alike has id).0 d)))
+
 -- the judged rule is one of them
 pub judged_there : (rules others : List Rule) (judged : ℕ) → AreNullAlike rules others → judged < length rules
     → judged < length others

@@ -4,7 +4,8 @@ use Rattle.std.proofs.Common.{◌≡◌, ℕ, zero, suc, ◌+◌, ◌<◌, List,
 use Rattle.std.proofs.Common.{Some, None, refl, sym, ◌∙◌, ap, subst, arith, ⊎_elim, add-one, length-append}
 use Rattle.std.specs.Prelude.{slice_get}
 use Rattle.std.proofs.lemmas.List.{length-map, map-append}
-use Rattle.std.proofs.lemmas.Option.{slice_get_within}
+use Rattle.std.proofs.lemmas.Option.{slice_get_within, slice_get-map}
+use Rattle.std.specs.Option.{option_map}
 use Rattle.std.proofs.lemmas.Grind.{common_steps}
 use Rattle.std.proofs.Math.Seq.{take-suc}
 use Rattle.flatgrammar.specs.Flat.{Node, Letters, Concat, Alt, Rep, Turns, Opt, Name, Nothing}
@@ -16,7 +17,6 @@ use Rattle.flatgrammar.specs.FlatViews.{node_of, nodes_of}
 use Rattle.flatgrammar.specs.Ways.{way_to, first_way, root_of, AreFirst, IsFound, IsOnWithin, LeadsTo, arrived}
 use Rattle.flatgrammar.specs.Ways.{leads_on, AreWays}
 use Rattle.flatgrammar.proofs.FlatCutLemmas.{push_cases}
-use Rattle.flatgrammar.proofs.NullNeedsLemmas.{get_mapped}
 use Rattle.flatgrammar.proofs.RuleNodeLemmas.{get_there}
 use Rattle.flatgrammar.proofs.SpellAllLemmas.{get_kept}
 use Rattle.flatgrammar.proofs.WalkLemmas.{ways_differ, found_same}
@@ -137,7 +137,8 @@ module _ (nodes : List Node) (bodies : List ℕ) (firsts : List Way) (first : Ar
       count = length-map ways root_of ∙ are.count ∙ first.count;
       sound = λ s t h. let from = mapped_from root_of ways s (Some t) h in
           is_root (are.sound s t (root_told s t from.0 from.1 from.2));
-      whole = λ s t root. get_mapped root_of ways s (Found (Some t)) (found_one (leads_to root));
+      whole = λ s t root. slice_get-map root_of ways s
+          ∙ ap (λ o. option_map root_of o) (found_one (leads_to root));
     }
 
 pub firsts_within : (nodes : List declared.Node) (bodies : List ℕ) (firsts : List Way)

@@ -97,6 +97,20 @@ inner_in (Some inner) = inner
 abbrev pub inner_of : code_flat.Tables → ℕ → Option Inner
 inner_of flat t = inner_in (slice_get flat.inners.items t)
 
+abbrev pub home_or : Option Inner → ℕ → ℕ
+home_or None t = t
+home_or (Some inner) t = inner.head
+
+-- the head in whose block a node stands
+abbrev pub home_of : code_flat.Tables → ℕ → ℕ
+home_of flat t = home_or (inner_of flat t) t
+
+-- what a block has is of nodes that stand in it
+pub record AreHomes (flat : code_flat.Tables) : Type 0 where
+  pub spots : (h : ℕ) (p : Spot) → In p (block_of flat h).spots → home_of flat p.node ≡ h
+  pub passes : (h : ℕ) (p : Spot) → In p (block_of flat h).passes → home_of flat p.node ≡ h
+  pub inners : (t : ℕ) (inner : Inner) → inner_of flat t ≡ Some inner → home_of flat inner.node ≡ inner.head
+
 -- that spot of the head's block alone calls the node, and goes on elsewhere
 pub record IsAlone (flat : code_flat.Tables) (t : ℕ) (inner : Inner) : Type 0 where
   pub stands : In (spot inner.node inner.step) (block_of flat inner.head).spots
@@ -186,3 +200,4 @@ pub record AreExact (tables : code_flat.Tables) : Type 0 where
   pub blocks : AreTables tables
   pub inners : AreAlone tables
   pub lists : AreSpotLists tables
+  pub homes : AreHomes tables

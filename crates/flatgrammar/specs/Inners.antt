@@ -5,7 +5,7 @@ use Rattle.flatgrammar.specs.declared.callers.Caller.TheVariants.{Nobody, One, M
 use Rattle.flatgrammar.specs.declared.inner.Inner.{Inner}
 use Rattle.flatgrammar.specs.declared.tables.Tables as code_flat
 use Rattle.flatgrammar.specs.TableViews.{whole_root}
-use Rattle.flatgrammar.specs.Blocks.{spot, inner_in, begin_count, call_at}
+use Rattle.flatgrammar.specs.Blocks.{spot, inner_in, home_or, begin_count, call_at}
 
 -- what calls a node may be that place
 abbrev pub allows : Caller → ℕ → ℕ → Type 0
@@ -27,10 +27,6 @@ AreCallers flat callers = (n k t l : ℕ) → call_at flat (spot n k) ≡ Some (
 
 abbrev pub inner_at : List (Option Inner) → ℕ → Option Inner
 inner_at inners t = inner_in (slice_get inners t)
-
-abbrev pub home_or : Option Inner → ℕ → ℕ
-home_or None t = t
-home_or (Some inner) t = inner.head
 
 -- the head in whose block a node stands
 abbrev pub home_in : List (Option Inner) → ℕ → ℕ

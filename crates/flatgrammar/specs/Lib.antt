@@ -7,7 +7,6 @@ pub mod Inners
 pub mod Lowered
 pub mod NodeSteps
 pub mod NullElements
-pub mod NullNeeds
 pub mod Nullable
 pub mod Numbers
 pub mod Places

@@ -6,11 +6,11 @@ ghost use Rattle.flatgrammar.specs.NodeSteps.{flat_of};
 ghost use Rattle.flatgrammar.specs.Nullable.{Nullable};
 ghost use Rattle.flatgrammar.specs.Numbers.{AreOrdered};
 ghost use Rattle.flatgrammar.specs.Roots.{Root};
+ghost use Rattle.flatgrammar.specs.TableViews.{AreNulls};
 
 use crate::flat_node::Node;
 use crate::head_block::head_blocks;
 use crate::inner::find_inners;
-use crate::nulls::find_nulls;
 use crate::roots::find_roots;
 use crate::spot_list::spot_lists;
 use crate::tables::Tables;
@@ -42,23 +42,30 @@ impl Model for Flat {
 }
 
 impl Flat {
-    /// Returns the flat grammar of these nodes, for lines of at most `limit` letters. `Memory` if an allocation fails.
+    /// Returns the flat grammar of these nodes, of which the nullable ones are marked, for lines of at most `limit`
+    /// letters. `Memory` if an allocation fails.
     pub(crate) fn new(
         alloc: Global,
         nodes: Vec<Node>,
+        nulls: Vec<bool>,
         bodies: Vec<usize>,
         whole: usize,
         limit: usize,
     ) -> Result<Flat, Memory>
         requires ordered { AreOrdered (nodes_of nodes.items) }
         requires within { (id m : ℕ) → slice_get bodies.items id ≡ Some m → m < length nodes.items }
+        requires nulls { AreNulls (record {
+          nodes = nodes_of nodes.items;
+          bodies = bodies.items;
+          whole = whole;
+          limit = limit;
+        }) nulls.items }
         ensures nodes { IfOk result (λ flat. flat.nodes ≡ nodes_of nodes.items) }
         ensures bodies { IfOk result (λ flat. flat.bodies ≡ bodies.items) }
         ensures whole { IfOk result (λ flat. flat.whole ≡ whole) }
         ensures limit { IfOk result (λ flat. flat.limit ≡ limit) }
     {
         let roots = find_roots(alloc, &nodes, &bodies)?;
-        let nulls = find_nulls(alloc, &nodes, &bodies)?;
         let mut tables = Tables {
             nodes,
             bodies,

@@ -12,7 +12,6 @@ mod item_laws;
 mod letter_law;
 mod lower_elem;
 mod lowered;
-mod nulls;
 mod roots;
 mod spot_list;
 mod tables;

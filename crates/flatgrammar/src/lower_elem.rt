@@ -18,13 +18,35 @@ use abnfread::Elem;
 use ruletable::{Memory, NameCase, RuleTable};
 use std::alloc::Global;
 
-/// Adds a node, and gives its number.
-pub(crate) fn add(nodes: &mut Vec<Node>, node: Node) -> Result<usize, Memory>
-    ensures number { IfOk result (λ n. n ≡ length nodes.old.items) }
-    ensures nodes { IfOk result (λ _. nodes.new.items ≡ nodes.old.items ++ node ∷ []) }
+/// Holds numbered nodes, and of each whether what it spells derives the empty list.
+#[derive(Drop)]
+pub(crate) struct Numbered {
+    pub(crate) nodes: Vec<Node>,
+    pub(crate) nulls: Vec<bool>,
+}
+
+impl Numbered {
+    /// Returns no nodes. It takes no memory.
+    pub(crate) fn new(alloc: Global) -> Numbered
+        ensures nodes { result.nodes.items ≡ [] }
+        ensures nulls { result.nulls.items ≡ [] }
+    {
+        Numbered {
+            nodes: Vec::new(alloc),
+            nulls: Vec::new(alloc),
+        }
+    }
+}
+
+/// Adds a node with its mark, and gives its number.
+pub(crate) fn add(numbered: &mut Numbered, node: Node, null: bool) -> Result<usize, Memory>
+    ensures number { IfOk result (λ n. n ≡ length numbered.old.nodes.items) }
+    ensures nodes { IfOk result (λ _. numbered.new.nodes.items ≡ numbered.old.nodes.items ++ node ∷ []) }
+    ensures nulls { IfOk result (λ _. numbered.new.nulls.items ≡ numbered.old.nulls.items ++ null ∷ []) }
 {
-    let number = nodes.len();
-    nodes.push(node)?;
+    let number = numbered.nodes.len();
+    numbered.nodes.push(node)?;
+    numbered.nulls.push(null)?;
     Ok(number)
 }
 
@@ -192,12 +214,12 @@ pub(crate) fn number(
     marks: &[bool],
     limit: usize,
     e: &Elem,
-    nodes: &mut Vec<Node>,
+    numbered: &mut Numbered,
 ) -> Result<Made, Memory>
     requires folds { rules.now.names ≡ NameCase.Fold }
     requires marks { NamesTell (rules_of rules.now) marks.now }
-    ensures { IfOk result (λ made. Numbers (rules_of rules.now) limit (nodes_of nodes.old.items)
-        (nodes_of nodes.new.items)
+    ensures { IfOk result (λ made. Numbers (rules_of rules.now) limit (nodes_of numbered.old.nodes.items)
+        (nodes_of numbered.new.nodes.items) numbered.old.nulls.items numbered.new.nulls.items
         made.number made.empty (element_of e.now)) }
 {
     let (node, empty) = match e {
@@ -208,11 +230,11 @@ pub(crate) fn number(
         Elem::Values(values) => (Node::Letters(value_sets(alloc, values)?), no_values(values)),
         Elem::Range { low, high } => (Node::Letters(range_set(alloc, *low, *high)?), false),
         Elem::Concat(members) => {
-            let made = number_all(alloc, rules, marks, limit, members, nodes)?;
+            let made = number_all(alloc, rules, marks, limit, members, numbered)?;
             (Node::Concat(made.numbers), made.all)
         }
         Elem::Alt(alternatives) => {
-            let made = number_all(alloc, rules, marks, limit, alternatives, nodes)?;
+            let made = number_all(alloc, rules, marks, limit, alternatives, numbered)?;
             (Node::Alt(made.numbers), made.any)
         }
         Elem::Rep {
@@ -220,14 +242,14 @@ pub(crate) fn number(
             most,
             operand,
         } => {
-            let made = number(alloc, rules, marks, limit, operand, nodes)?;
+            let made = number(alloc, rules, marks, limit, operand, numbered)?;
             (
                 repeat(limit, *least, *most, made),
                 is_empty_repeat(*least, *most, made.empty),
             )
         }
         Elem::Opt(operand) => (
-            Node::Opt(number(alloc, rules, marks, limit, operand, nodes)?.number),
+            Node::Opt(number(alloc, rules, marks, limit, operand, numbered)?.number),
             true,
         ),
         Elem::Name(name) => {
@@ -236,7 +258,7 @@ pub(crate) fn number(
         }
         Elem::Prose(_) => (Node::Nothing, false),
     };
-    let n = add(nodes, node)?;
+    let n = add(numbered, node, empty)?;
     Ok(Made { number: n, empty })
 }
 
@@ -248,19 +270,19 @@ fn number_all(
     marks: &[bool],
     limit: usize,
     members: &[Elem],
-    nodes: &mut Vec<Node>,
+    numbered: &mut Numbered,
 ) -> Result<Members, Memory>
     requires folds { rules.now.names ≡ NameCase.Fold }
     requires marks { NamesTell (rules_of rules.now) marks.now }
-    ensures { IfOk result (λ made. NumbersAll (rules_of rules.now) limit (nodes_of nodes.old.items)
-        (nodes_of nodes.new.items)
+    ensures { IfOk result (λ made. NumbersAll (rules_of rules.now) limit (nodes_of numbered.old.nodes.items)
+        (nodes_of numbered.new.nodes.items) numbered.old.nulls.items numbered.new.nulls.items
         made.numbers.items made.all made.any (elements_of members.now)) }
 {
     let mut numbers = Vec::new(alloc);
     let mut all = true;
     let mut any = false;
     for member in members {
-        let made = number(alloc, rules, marks, limit, member, nodes)?;
+        let made = number(alloc, rules, marks, limit, member, numbered)?;
         numbers.push(made.number)?;
         all &= made.empty;
         any |= made.empty;
@@ -274,17 +296,18 @@ pub(crate) fn number_bodies(
     rules: &RuleTable<Elem>,
     marks: &[bool],
     limit: usize,
-    nodes: &mut Vec<Node>,
+    numbered: &mut Numbered,
 ) -> Result<Vec<usize>, Memory>
     requires folds { rules.now.names ≡ NameCase.Fold }
     requires marks { NamesTell (rules_of rules.now) marks.now }
-    requires none { nodes.old.items ≡ [] }
+    requires none { numbered.old.nodes.items ≡ [] }
+    requires unmarked { numbered.old.nulls.items ≡ [] }
     ensures { IfOk result (λ bodies. AreCut (rules_of rules.now) limit (length rules.now.rules)
-        (nodes_of nodes.new.items) bodies.items) }
+        (nodes_of numbered.new.nodes.items) numbered.new.nulls.items bodies.items) }
 {
     let mut bodies = Vec::new(alloc);
     for id in 0..rules.len() {
-        let made = number(alloc, rules, marks, limit, rules.body(id), nodes)?;
+        let made = number(alloc, rules, marks, limit, rules.body(id), numbered)?;
         bodies.push(made.number)?;
     }
     Ok(bodies)

@@ -11,7 +11,7 @@ ghost use Rattle.flatgrammar.specs.Places.{places, sizes};
 
 use crate::flat::Flat;
 use crate::flat_node::Node;
-use crate::lower_elem::{add, number_bodies};
+use crate::lower_elem::{Numbered, add, number_bodies};
 use abnfcheck::SoundAbnf;
 use abnfread::Elem;
 use ruletable::{Memory, NameCase, RuleTable};
@@ -53,11 +53,12 @@ pub fn lower_rules(
 {
     let judged = grammar.judged();
     let marks = null_marks(alloc, grammar)?;
-    let mut nodes = Vec::new(alloc);
-    let bodies = number_bodies(alloc, rules, &marks, limit, &mut nodes)?;
+    let mut numbered = Numbered::new(alloc);
+    let bodies = number_bodies(alloc, rules, &marks, limit, &mut numbered)?;
     let members = alone(alloc, bodies[judged])?;
-    let whole = add(&mut nodes, Node::Concat(members))?;
-    let flat = Flat::new(alloc, nodes, bodies, whole, limit)?;
+    let null = grammar.nullable(judged);
+    let whole = add(&mut numbered, Node::Concat(members), null)?;
+    let flat = Flat::new(alloc, numbered.nodes, numbered.nulls, bodies, whole, limit)?;
     Ok(flat)
 }
 

@@ -5,6 +5,7 @@ use Rattle.pegread.specs.declared.expr.Expr.{Expr}
 use Rattle.pegread.specs.PegViews.{rules_of}
 use Rattle.pegnodes.specs.KeyLists.{Marks, node_marks, tail_marks}
 use Rattle.pegnodes.specs.KeyMarks.{AreMarks}
+use Rattle.pegnodes.specs.NodeLists.{AreNumbered}
 use Rattle.pegnodes.specs.declared.node.Node.{Node}
 use Rattle.pegnodes.specs.Nodes.{shapes_of}
 use Rattle.gramcheck.specs.Sound.{IsRanked}
@@ -26,3 +27,7 @@ IsSoundGrammar g = IsRanked (rules_of g.rules) g.start (shapes_of g.nodes) g.bod
 -- what is no key is asked for at one place at most, or only where a key is that it is told from
 abbrev pub HasKeys : Grammar → Type 0
 HasKeys g = AreMarks g.start (shapes_of g.nodes) g.bodies (node_marks g.keys) (tail_marks g.keys)
+
+-- the nodes are those of the rules, one behind the other
+abbrev pub IsNumbered : Grammar → Type 0
+IsNumbered g = AreNumbered (rules_of g.rules) (shapes_of g.nodes) g.bodies

@@ -6,8 +6,9 @@ ghost use Rattle.ruletable.specs.Rules.{find_in};
 ghost use Rattle.pegread.specs.PegViews.{rules_of};
 ghost use Rattle.gramcheck.specs.Checked.{is_refused, IsStart};
 ghost use Rattle.gramcheck.specs.Defined.{IsGiven};
-ghost use Rattle.gramcheck.specs.Grammar.{IsSoundGrammar};
+ghost use Rattle.gramcheck.specs.Grammar.{IsNumbered, IsSoundGrammar};
 ghost use Rattle.pegnodes.specs.NodeCounts.{node_counts};
+ghost use Rattle.pegnodes.specs.NodeLists.{AreNumbered};
 ghost use Rattle.pegnodes.specs.Nodes.{shapes_of};
 ghost use Rattle.gramcheck.specs.GrammarNotes.{AreNotes, names_at};
 ghost use Rattle.gramcheck.specs.Sound.{IsRanked};
@@ -49,6 +50,7 @@ pub fn check_peg(alloc: Global, peg: Peg, start: Option<&str>) -> Result<Checked
         (λ g. (is_refused (map said_of c.notes.items) ≡ false) × (g.rules ≡ peg.rules)
         × IsStart (option_copied start.entry) (rules_of peg.rules) g.start)) }
     ensures ranked { IfOk result (λ c. IfSome c.sound IsSoundGrammar) }
+    ensures numbered { IfOk result (λ c. IfSome c.sound IsNumbered) }
     ensures nodes { IfOk result (λ c. IfSome c.sound (λ g. length g.nodes ≡ node_counts (rules_of peg.rules))) }
 {
     let rules = peg.rules;
@@ -104,6 +106,8 @@ fn judge(
     ensures ranked { IfOk result (λ j. is_refused (map said_of j.notes.items) ≡ false → (first : ℕ)
         → first < length (rules_of rules.now) →
         IsRanked (rules_of rules.now) first (shapes_of j.cut.nodes.items) j.cut.bodies.items j.ranks.items) }
+    ensures numbered { IfOk result (λ j. AreNumbered (rules_of rules.now) (shapes_of j.cut.nodes.items)
+        j.cut.bodies.items) }
     ensures given { IfOk result (λ j. is_refused (map said_of j.notes.items) ≡ false
         → IsGiven (option_copied start.entry) rules.now) }
 {

@@ -2,10 +2,11 @@
 ghost use Rattle.std.specs.Prelude.{◌≡◌, ◌↔◌, ◌<◌, ℕ, IfSome, List, length, slice_get, true, Some};
 ghost use Rattle.pegread.specs.Pattern.{Pattern};
 ghost use Rattle.pegread.specs.PegViews.{rules_of};
-ghost use Rattle.gramcheck.specs.Grammar.{HasKeys, IsSoundGrammar};
+ghost use Rattle.gramcheck.specs.Grammar.{HasKeys, IsNumbered, IsSoundGrammar};
 ghost use Rattle.pegnodes.specs.KeyLists.{marks_of, node_marks, tail_marks};
 ghost use Rattle.pegnodes.specs.KeyMarks.{AreMarks};
 ghost use Rattle.pegnodes.specs.NodeCounts.{node_counts};
+ghost use Rattle.pegnodes.specs.NodeLists.{AreNumbered};
 ghost use Rattle.pegnodes.specs.Nodes.{Act, Star, shapes_of, Spells};
 ghost use Rattle.gramcheck.specs.Printing.{ArePrintMarks, Prints};
 ghost use Rattle.pegnodes.specs.RunTables.{IsTable};
@@ -56,6 +57,7 @@ impl Model for SoundPeg {
     ghost use Rattle.gramcheck.specs.Grammar.{Grammar};
     ghost use Rattle.pegnodes.specs.KeyLists.{marks_of, node_marks, tail_marks};
     ghost use Rattle.pegnodes.specs.KeyMarks.{AreMarks};
+    ghost use Rattle.pegnodes.specs.NodeLists.{AreNumbered};
     ghost use Rattle.pegnodes.specs.Nodes.{shapes_of};
     ghost use Rattle.gramcheck.specs.Printing.{ArePrintMarks};
     ghost use Rattle.pegnodes.specs.Slots.{AreCuts};
@@ -87,7 +89,8 @@ impl Model for SoundPeg {
         (tail_marks (marks_of (shapes_of p.nodes.items) p.keys.nodes.items p.keys.behind.items))
         × AreStarTables (shapes_of p.nodes.items) p.bodies.items
         (marks_of (shapes_of p.nodes.items) p.keys.nodes.items p.keys.behind.items)
-        p.stars.places.items p.stars.tables.items };
+        p.stars.places.items p.stars.tables.items
+        × AreNumbered (rules_of p.rules) (shapes_of p.nodes.items) p.bodies.items };
 }
 
 impl SoundPeg {
@@ -104,9 +107,11 @@ impl SoundPeg {
         requires stars { AreStarTables (shapes_of cut.nodes.items) cut.bodies.items
             (marks_of (shapes_of cut.nodes.items) tables.keys.nodes.items tables.keys.behind.items)
             tables.stars.places.items tables.stars.tables.items }
+        requires numbered { AreNumbered (rules_of rules) (shapes_of cut.nodes.items) cut.bodies.items }
         ensures rules { result.rules ≡ rules }
         ensures start { result.start ≡ start }
         ensures sound { IsSoundGrammar result }
+        ensures numbered { IsNumbered result }
     {
         SoundPeg {
             rules,
@@ -128,11 +133,13 @@ impl SoundPeg {
         &self.rules
     }
 
-    /// Returns the id of the start rule. The clauses `sound` and `keys` say what a grammar that can be run is.
+    /// Returns the id of the start rule. The clauses `sound`, `keys` and `numbered` say what a grammar that can be run
+    /// is: its nodes are those of its rules, in their order.
     pub fn start(&self) -> usize
         ensures id { result ≡ self.now.start }
         ensures sound { IsSoundGrammar self.now }
         ensures keys { HasKeys self.now }
+        ensures numbered { IsNumbered self.now }
     {
         self.start
     }

@@ -17,7 +17,16 @@ pub type AbnfRow = (
     usize,
 );
 
-const WORD: &[u8] = b"word = 1*ALPHA";
+pub const WORD: &[u8] = b"word = 1*ALPHA";
+
+/// A rule of two lines, and one more alternative of it.
+const EXTENDED: &[u8] = b"k = %s\"Ab\"\n  / \"cd\"\nK =/ 2*3%x78";
+
+/// A rule with prose.
+const PROSE: &[u8] = b"a = <any text> / b\nb = \"x\"";
+
+/// Every line.
+const ANY: &[u8] = b"o = *%x00-10FFFF";
 
 static ANSWERED: [AbnfRow; 19] = [
     (
@@ -41,7 +50,7 @@ static ANSWERED: [AbnfRow; 19] = [
         0,
     ),
     (
-        b"k = %s\"Ab\"\n  / \"cd\"\nK =/ 2*3%x78",
+        EXTENDED,
         None,
         65536,
         b"Ab\nab\nCD\nxx\nxxxx\n",
@@ -126,7 +135,7 @@ static ANSWERED: [AbnfRow; 19] = [
         2,
     ),
     (
-        b"a = <any text> / b\nb = \"x\"",
+        PROSE,
         None,
         65536,
         b"X\n",
@@ -136,7 +145,7 @@ static ANSWERED: [AbnfRow; 19] = [
         2,
     ),
     (
-        b"a = <any text> / b\nb = \"x\"",
+        PROSE,
         Some("b"),
         65536,
         b"X\n",
@@ -229,7 +238,7 @@ static LETTERS: [LettersRow; 5] = [
     },
     // the limit counts bytes
     LettersRow {
-        grammar: b"o = *%x00-10FFFF",
+        grammar: ANY,
         limit: 2,
         input: b"\xE2\x82\xAC\n",
         by_points: b"",
@@ -239,7 +248,7 @@ static LETTERS: [LettersRow; 5] = [
     },
     // two bytes are no spelling of the null, a surrogate has none, and the last line is torn
     LettersRow {
-        grammar: b"o = *%x00-10FFFF",
+        grammar: ANY,
         limit: 65536,
         input: b"\xC0\x80\n\xED\xA0\x80\n\x00a\xF4\x8F\xBF\xBF\n\xE2\x82",
         by_points: b"no\nno\nyes\nno\n",
@@ -324,7 +333,7 @@ fn an_output_that_fails_holds_a_beginning_of_the_answers(rt: HostRuntime) {
 static UNREAD: [(Mode, &[u8], &[u8], &[u8], Status); 2] = [
     (
         Mode::Print,
-        b"k = %s\"Ab\"\n  / \"cd\"\nK =/ 2*3%x78",
+        EXTENDED,
         b"k = %s\"Ab\" / \"cd\" / 2*3%x78\n",
         b"",
         Status::Done,

@@ -1,6 +1,7 @@
 //! Whole runs of the ABNF tool that tell of each line that it refuses how far it begins something that is derived.
 
 use crate::ends::{Ends, run_over, settings_of};
+use crate::run_abnf_rows::WORD;
 use gramtools::{Alphabet, DEFAULT_LIMIT, Mode, Program, Status};
 use std::process::Abort;
 use std::test::Fail;
@@ -16,10 +17,13 @@ struct ViableRow {
     status: Status,
 }
 
+/// Rule t derives nothing.
+const BARREN: &[u8] = b"s = \"a\" t \"b\" / \"ac\"\nt = \"x\" t";
+
 static VIABLE: [ViableRow; 8] = [
     // the third line is empty, and the last has no LF
     ViableRow {
-        grammar: b"word = 1*ALPHA",
+        grammar: WORD,
         start: None,
         letters: Alphabet::Bytes,
         input: b"ab\nA1\n\nZ",
@@ -39,7 +43,7 @@ static VIABLE: [ViableRow; 8] = [
     },
     // t derives nothing
     ViableRow {
-        grammar: b"s = \"a\" t \"b\" / \"ac\"\nt = \"x\" t",
+        grammar: BARREN,
         start: None,
         letters: Alphabet::Bytes,
         input: b"ax\n",
@@ -48,7 +52,7 @@ static VIABLE: [ViableRow; 8] = [
         status: Status::NoMatch,
     },
     ViableRow {
-        grammar: b"s = \"a\" t \"b\" / \"ac\"\nt = \"x\" t",
+        grammar: BARREN,
         start: Some("t"),
         letters: Alphabet::Bytes,
         input: b"x\n",
@@ -87,7 +91,7 @@ static VIABLE: [ViableRow; 8] = [
         status: Status::NoMatch,
     },
     ViableRow {
-        grammar: b"word = 1*ALPHA",
+        grammar: WORD,
         start: None,
         letters: Alphabet::Utf8,
         input: b"ab\nZ\n",
@@ -128,7 +132,7 @@ fn a_long_line_is_refused_at_its_last_letter(rt: HostRuntime) -> Result<(), Fail
     let mut settings = settings_of(Mode::Run, DEFAULT_LIMIT, None);
     settings.viable = true;
     let ends = Ends::new(line.as_slice(), 4096);
-    let grammar = b"word = 1*ALPHA";
+    let grammar = WORD;
     let ran = run_over(rt.alloc(), Program::Abnfi, grammar, &settings, &ends);
     assert!(rt; ran.is(b"no 9999\n", b"", Status::NoMatch));
     Ok(())

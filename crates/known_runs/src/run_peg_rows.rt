@@ -21,6 +21,9 @@ type Row = (
     usize,
 );
 
+/// A rule that is defined twice.
+const REDEFINED: &[u8] = b"S <- 'a'\nS <- 'b'";
+
 /// The grammar that replaces a word.
 const USERNAME: &[u8] = b"start <- \"username\" { USER } / < . > { yytext }";
 

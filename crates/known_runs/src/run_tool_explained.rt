@@ -243,6 +243,171 @@ fn a_grammar_too_long_is_explained(rt: HostRuntime) -> Result<(), Fail> {
     Ok(())
 }
 
+// What is told of the notes on a grammar that is refused.
+static NOTED: [ExplainRow; 8] = [
+    ExplainRow {
+        program: Program::Pegi,
+        grammar: b"sum <- term ('+' term)*\r\nterm <- [0-9]+\rname <- .\n# a comment\nterm <- name",
+        told: b"rule 'term' redefined
+  line 2: 'term' is defined
+  line 5: 'term' is defined again
+rule 'name' defined but not used
+  line 3: 'name' is defined
+",
+    },
+    // what adds to a rule stands, also in another spelling, and a rule may begin so
+    ExplainRow {
+        program: Program::Abnfi,
+        grammar: b"Host =/ port\r\n  / \"x\"\r\nPORT = \"1\"\r\nhOST =/ \"y\"\r\nport = \"2\"\r\nhost = \"z\"\r\n",
+        told: b"rule 'Host' redefined
+  line 1: 'Host' is defined
+  line 6: 'host' is defined again
+rule 'PORT' redefined
+  line 3: 'PORT' is defined
+  line 5: 'port' is defined again
+rule 'Host' extended before it is defined
+  line 1: 'Host' begins with \"=/\"
+",
+    },
+    // a name is used first by the order of the rules, and in bodies that stand
+    ExplainRow {
+        program: Program::Abnfi,
+        grammar: b"A = b\nB = \"x\" / <any b>\nb = Y\na =/ z\nb =/ Z / y <2>\n",
+        told: b"rule 'B' redefined
+  line 2: 'B' is defined
+  line 3: 'b' is defined again
+rule 'z' used but not defined
+  line 4: used in rule 'A'
+  reached by 'A' > 'z'
+rule 'y' used but not defined
+  line 5: used in rule 'B'
+  reached by 'A' > 'B' > 'y'
+prose in rule 'B'
+  line 2: <any b>
+  reached by 'A' > 'B'
+",
+    },
+    // core rules aside, each kind of note
+    ExplainRow {
+        program: Program::Abnfi,
+        grammar: b"Host = b\n  / d\nb = c <x y>\nhost = \"a\"\nE =/ host\n",
+        told: b"rule 'Host' redefined
+  line 1: 'Host' is defined
+  line 4: 'host' is defined again
+rule 'E' extended before it is defined
+  line 5: 'E' begins with \"=/\"
+rule 'd' used but not defined
+  line 2: used in rule 'Host'
+  reached by 'Host' > 'd'
+rule 'c' used but not defined
+  line 3: used in rule 'b'
+  reached by 'Host' > 'b' > 'c'
+prose in rule 'b'
+  line 3: <x y>
+  reached by 'Host' > 'b'
+rule 'E' defined but not used
+  line 5: 'E' is defined
+",
+    },
+    // of a chain of 8 names all are told, of one of 9 all but one
+    ExplainRow {
+        program: Program::Abnfi,
+        grammar: b"A=b\nb=c\nc=d\nd=e\ne=f\nf=g\ng=H / x\nh=i\n",
+        told: b"rule 'x' used but not defined
+  line 7: used in rule 'g'
+  reached by 'A' > 'b' > 'c' > 'd' > 'e' > 'f' > 'g' > 'x'
+rule 'i' used but not defined
+  line 8: used in rule 'h'
+  reached by 'A' > 1 more > 'c' > 'd' > 'e' > 'f' > 'g' > 'h' > 'i'
+",
+    },
+    // of chains of two steps that by the rule that stands first; what is not reached has none, nor has the judged rule
+    ExplainRow {
+        program: Program::Abnfi,
+        grammar: b"s = b / a <p>\na = x / s\nb = a / x\nc = y <q>\n",
+        told: b"rule 'x' used but not defined
+  line 2: used in rule 'a'
+  reached by 's' > 'a' > 'x'
+rule 'y' used but not defined
+  line 4: used in rule 'c'
+prose in rule 's'
+  line 1: <p>
+prose in rule 'c'
+  line 4: <q>
+rule 'c' defined but not used
+  line 4: 'c' is defined
+",
+    },
+    // by core rules that the file leaves alone, or adds to
+    ExplainRow {
+        program: Program::Abnfi,
+        grammar: b"s = lwsp\nWSP = <blank>\ncrlf =/ \"x\"\nlf = <end>\n",
+        told: b"prose in rule 'WSP'
+  line 2: <blank>
+  reached by 's' > 'LWSP' > 'WSP'
+prose in rule 'lf'
+  line 4: <end>
+  reached by 's' > 'LWSP' > 'crlf' > 'lf'
+",
+    },
+    // of many definitions the first eight are told, and of a long name its first sixty bytes
+    ExplainRow {
+        program: Program::Pegi,
+        grammar: b"S<-S1234567890123456789012345678901234567890123456789012345678901234567890
+S1234567890123456789012345678901234567890123456789012345678901234567890<-.
+S<-.S<-.S<-.S<-.S<-.S<-.S<-.S<-.S<-.S<-.
+S1234567890123456789012345678901234567890123456789012345678901234567890<-.",
+        told: b"rule 'S' redefined
+  line 1: 'S' is defined
+  line 3: 'S' is defined again
+  line 3: 'S' is defined again
+  line 3: 'S' is defined again
+  line 3: 'S' is defined again
+  line 3: 'S' is defined again
+  line 3: 'S' is defined again
+  line 3: 'S' is defined again
+  line 3: 'S' is defined again
+  and 2 more
+rule 'S1234567890123456789012345678901234567890123456789012345678901234567890' redefined
+  line 2: 'S12345678901234567890123456789012345678901234567890123456789..' is defined
+  line 4: 'S12345678901234567890123456789012345678901234567890123456789..' is defined again
+",
+    },
+];
+
+#[test]
+fn notes_are_explained(rt: HostRuntime) {
+    for row in &NOTED {
+        let ends = Ends::new(b"x\n", 7);
+        let settings = explaining(Mode::Check);
+        let ran = run_over(rt.alloc(), row.program, row.grammar, &settings, &ends);
+        assert!(rt; ran.is(b"", row.told, Status::Refused), "{:?}", row.grammar);
+        assert!(rt; ran.left == 2 && ran.flushed == (1, 2), "{:?}", row.grammar);
+    }
+}
+
+#[test]
+fn a_start_rule_that_is_not_defined_is_explained(rt: HostRuntime) {
+    let ends = Ends::new(b"x\n", 7);
+    let mut settings = settings_of(Mode::Run, DEFAULT_LIMIT, Some("T"));
+    settings.explain = true;
+    let grammar = b"S <- S?\n / T 'a'\n";
+    let ran = run_over(rt.alloc(), Program::Pegi, grammar, &settings, &ends);
+    let told =
+        b"rule 'T' used but not defined\n  given by -s\npossible infinite left recursion in rule 'S'\n";
+    assert!(rt; ran.is(b"", told, Status::Refused));
+}
+
+#[test]
+fn redefinitions_are_explained_alone_before_a_text_that_is_not_printed(rt: HostRuntime) {
+    let grammar = b"S <- T\nS <- 'a'\nU <- 'b'\n";
+    let ends = Ends::new(b"x\n", 7);
+    let settings = explaining(Mode::Print);
+    let ran = run_over(rt.alloc(), Program::Pegi, grammar, &settings, &ends);
+    let told = b"rule 'S' redefined\n  line 1: 'S' is defined\n  line 2: 'S' is defined again\n";
+    assert!(rt; ran.is(b"", told, Status::Refused));
+}
+
 #[test]
 fn an_error_output_that_fails_holds_a_beginning_of_an_explanation(rt: HostRuntime) {
     for row in &EXPLAINED {
@@ -266,7 +431,7 @@ fn an_error_output_that_fails_holds_a_beginning_of_an_explanation(rt: HostRuntim
 }
 
 #[test]
-fn a_grammar_without_a_fault_runs_as_it_does_without_explanations(rt: HostRuntime) {
+fn a_grammar_without_a_fault_is_run_behind_its_notes(rt: HostRuntime) {
     let ends = Ends::new(b"ab", 1);
     let settings = explaining(Mode::Run);
     let ran = run_over(
@@ -276,7 +441,7 @@ fn a_grammar_without_a_fault_runs_as_it_does_without_explanations(rt: HostRuntim
         &settings,
         &ends,
     );
-    let told = b"rule 'T' defined but not used\nno match at byte 1\n";
+    let told = b"rule 'T' defined but not used\n  line 2: 'T' is defined\nno match at byte 1\n";
     assert!(rt; ran.is(b"x\n", told, Status::NoMatch));
     let ends = Ends::new(b"a\nb\n", 1);
     let ran = run_over(rt.alloc(), Program::Abnfi, b"s = \"a\"", &settings, &ends);

@@ -25,7 +25,7 @@ use Rattle.lazydfa.specs.declared.cache.Cell.TheVariants.{Dead, To, Push}
 use Rattle.lazydfa.specs.Cached.{IsBegun, IsStart, IsStartAt, IsAt, AreGrown, IsStep, IsPush, IsDead, IsCell}
 use Rattle.lazydfa.specs.Cached.{AreCached}
 use Rattle.lazydfa.specs.Cached.{IsInterned, AreAddedUnknown}
-use Rattle.lazydfa.specs.ClassBounds.{IsClassOf}
+use Rattle.letterclasses.specs.ClassBounds.{IsClassOf}
 use Rattle.lazydfa.specs.RunVerdicts.{IsReached}
 use Rattle.std.specs.Option.{option_flatten}
 use Rattle.lazydfa.proofs.AreCachedLemmas.{cached_state, cached_conts}

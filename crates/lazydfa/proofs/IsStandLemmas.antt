@@ -13,7 +13,7 @@ use Rattle.lazydfa.specs.declared.cache.Cell.{Cell}
 use Rattle.lazydfa.specs.declared.cache.Cell.TheVariants.{To}
 use Rattle.lazydfa.specs.Conts.{last_of}
 use Rattle.lazydfa.specs.Cached.{AreCached, IsCell}
-use Rattle.lazydfa.specs.ClassBounds.{IsClassOf}
+use Rattle.letterclasses.specs.ClassBounds.{IsClassOf}
 use Rattle.lazydfa.specs.declared.memo.Memo.{Memo}
 use Rattle.lazydfa.specs.declared.glide.Stand.{Stand}
 use Rattle.lazydfa.specs.declared.hops.Hop.TheVariants.{Runs, Ends}

@@ -13,4 +13,3 @@ pub mod AreHopsLemmas
 pub mod IsStandLemmas
 pub mod IsRunVerdictLemmas
 pub mod AreUncountedLemmas
-pub mod AreClassesLemmas

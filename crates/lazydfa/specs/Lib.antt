@@ -1,5 +1,4 @@
 pub mod Cached
-pub mod ClassBounds
 pub mod Conts
 pub mod Hops
 pub mod Memos

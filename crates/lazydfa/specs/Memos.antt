@@ -13,7 +13,7 @@ use Rattle.lazydfa.specs.declared.run.Step.{Step}
 use Rattle.lazydfa.specs.declared.run.Step.TheVariants.{To, Dead, Over}
 use Rattle.lazydfa.specs.Conts.{last_of}
 use Rattle.lazydfa.specs.Cached.{IsCache, IsAt}
-use Rattle.lazydfa.specs.ClassBounds.{AreClasses}
+use Rattle.letterclasses.specs.ClassBounds.{AreClasses}
 use Rattle.lazydfa.specs.Hops.{AreHops}
 use Rattle.lazydfa.specs.StackParts.{PutsBack, AreParts, below_of}
 use Rattle.lazydfa.specs.RunVerdicts.{IsReached}

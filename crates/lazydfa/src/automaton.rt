@@ -16,12 +16,12 @@ ghost use Rattle.lazydfa.specs.RunVerdicts.{IsOne};
 use crate::budget::{Budget, ROOM};
 use crate::cache::Cache;
 use crate::chains::Chains;
-use crate::classes::{Classes, find_classes};
 use crate::close::Ids;
 use crate::conts::Conts;
 use crate::memo::Memo;
 use crate::run::run;
 use flatgrammar::{Flat, Node, Tables, Verdict, values_are_letters};
+use letterclasses::{Classes, find_classes};
 use letters::Letter;
 use ruletable::Memory;
 use std::alloc::Global;
@@ -42,7 +42,7 @@ impl Model for Automaton {
     ghost use Rattle.flatgrammar.specs.NodeSteps.{flat_of};
     ghost use Rattle.flatgrammar.specs.TableViews.{GiveRoots};
     ghost use Rattle.stacks.specs.Stacks.{AreUncounted};
-    ghost use Rattle.lazydfa.specs.ClassBounds.{AreClasses};
+    ghost use Rattle.letterclasses.specs.ClassBounds.{AreClasses};
     ghost use Rattle.lazydfa.specs.Memos.{IsMemo};
     ghost use Rattle.lazydfa.specs.RunVerdicts.{IsOne};
 

@@ -10,13 +10,6 @@ pub(crate) struct Chains {
     heads: Vec<usize>,
 }
 
-fn get_or_none(numbers: &[usize], at: usize) -> usize {
-    match numbers.get(at) {
-        Some(number) => *number,
-        None => 0,
-    }
-}
-
 impl Chains {
     /// Returns no chain. It takes no memory.
     pub(crate) fn new(alloc: Global) -> Chains {
@@ -37,13 +30,13 @@ impl Chains {
 
     /// Returns the last entry in the chain of what hashes to that.
     pub(crate) fn last(&self, hash: usize) -> usize {
-        get_or_none(&self.heads, self.slot(hash))
+        self.heads.get(self.slot(hash)).copied().unwrap_or(0)
     }
 
     /// Returns the entry before that one in its chain.
     pub(crate) fn before(&self, entry: usize) -> usize {
         if entry > 0 {
-            get_or_none(&self.links, entry - 1)
+            self.links.get(entry - 1).copied().unwrap_or(0)
         } else {
             0
         }
@@ -52,7 +45,7 @@ impl Chains {
     /// Adds the next entry, which hashes to that. `Memory` if an allocation fails.
     pub(crate) fn add(&mut self, hash: usize) -> Result<(), Memory> {
         let slot = self.slot(hash);
-        let last = get_or_none(&self.heads, slot);
+        let last = self.heads.get(slot).copied().unwrap_or(0);
         self.links.push(last)?;
         if slot < self.heads.len() {
             self.heads[slot] = self.links.len();

@@ -37,8 +37,8 @@ fn stands(ids: &Ids, id: usize) -> bool
     }
 }
 
-/// Notes where a number stands. `Memory` if an allocation fails.
-pub(crate) fn note_spot(spots: &mut Vec<usize>, id: usize, spot: usize) -> Result<(), Memory> {
+// Notes where a number stands. `Memory` if an allocation fails.
+fn note_spot(spots: &mut Vec<usize>, id: usize, spot: usize) -> Result<(), Memory> {
     if id >= spots.len() {
         spots.resize(id.saturating_mul(2).saturating_add(64), 0usize)?;
     }

@@ -2,10 +2,10 @@
 ghost use Rattle.std.specs.Prelude.{◌≤◌, length, map};
 ghost use Rattle.lazydfa.specs.Memos.{Glides, GlidesOver};
 
-use crate::classes::class_of;
 use crate::fill::spot;
 use crate::hops::next_row;
 use crate::memo::Memo;
+use letterclasses::class_of;
 use letters::Letter;
 
 /// A state of a run, and how many letters led to it.

@@ -2,11 +2,9 @@
 #![tactic(auto)]
 
 mod automaton;
-mod bounds;
 mod budget;
 mod cache;
 mod chains;
-mod classes;
 mod close;
 mod conts;
 mod fill;

@@ -1,15 +1,13 @@
 -- What holds at each turn of the search.
 -- Serves: on_cycle (marks)
 use Rattle.std.proofs.Common.{◌≡◌, ℕ, ◌+◌, ◌-◌, ◌<◌, ◌≤◌, List, [], ◌∷◌, ◌++◌, length, refl, sym, ap, subst, ⊎_elim}
-use Rattle.std.proofs.Common.{arith, length-append, ◌∙◌, Contains, take, Some}
-use Rattle.std.specs.Prelude.{slice_get}
+use Rattle.std.proofs.Common.{arith, length-append, ◌∙◌, Contains, take}
 use Rattle.std.proofs.lemmas.Option.{slice_get_within}
 use Rattle.leastset.proofs.ContainsLemmas.{get_in}
 use Rattle.leastset.specs.StepRows.{AreStepsWithin}
 use Rattle.leastset.specs.Way.{Way, At, IsWay, IsLast, AreShort}
 use Rattle.leastset.specs.declared.cycles.Part.{Part}
 use Rattle.leastset.specs.declared.cycles.Place.TheVariants as place
-use Rattle.leastset.proofs.JoinsLemmas.{last_out}
 use Rattle.leastset.proofs.AtLemmas.{at_push, at_push_cases}
 
 take_all : (xs ys : List Part) → take (length xs) (xs ++ ys) ≡ xs

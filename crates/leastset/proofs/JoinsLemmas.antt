@@ -1,12 +1,11 @@
 -- Parts dropped from the end of the path.
 -- Serves: on_cycle (marks)
-use Rattle.std.proofs.Common.{◌≡◌, ℕ, zero, suc, ◌+◌, ◌-◌, ◌<◌, ◌≤◌, List, [], ◌∷◌, ◌++◌, length, take, refl, sym, ap}
-use Rattle.std.proofs.Common.{subst, ◌∙◌, append_assoc, arith, Some, length-append}
+use Rattle.std.proofs.Common.{◌≡◌, ℕ, zero, suc, ◌+◌, ◌-◌, ◌<◌, List, [], ◌∷◌, ◌++◌, length, take, refl, sym, ap}
+use Rattle.std.proofs.Common.{subst, ◌∙◌, append_assoc, arith, Some}
 use Rattle.std.specs.Prelude.{slice_get}
 use Rattle.std.proofs.lemmas.Option.{slice_get_within}
-use Rattle.leastset.specs.Way.{At, Drops, Joins}
+use Rattle.leastset.specs.Way.{At, Drops}
 use Rattle.leastset.specs.declared.cycles.Part.{Part}
-use Rattle.leastset.proofs.AtLemmas.{at_one, at_push}
 
 pub drops_one : (place : ℕ) (parts a b : List Part) (s : Part) → a ≡ b ++ s ∷ [] → place < s.first →
     Drops place parts a → Drops place parts b

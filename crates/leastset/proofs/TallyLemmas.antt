@@ -8,13 +8,12 @@ use Rattle.std.proofs.lemmas.List.Elements.{Contains-push, Contains-push_cases, 
 use Rattle.std.proofs.Math.Seq.{take-suc}
 use Rattle.leastset.specs.Leads.{AreRanksBut}
 use Rattle.leastset.specs.NumberMarks.{IsMarked}
-use Rattle.leastset.specs.Way.{Way, At, IsWay, IsThrough, Opens, Meets, Closes, Tally, SetsAll, IsRanked, KeepsDone}
+use Rattle.leastset.specs.Way.{Way, At, IsWay, IsThrough, Opens, Closes, Tally, SetsAll, IsRanked, KeepsDone}
 use Rattle.leastset.specs.Way.{Ranks, undone, rank_at}
 use Rattle.leastset.specs.declared.cycles.Part.{Part}
 use Rattle.leastset.specs.declared.cycles.Place.{Place}
 use Rattle.leastset.specs.declared.cycles.Place.TheVariants as place
 use Rattle.leastset.proofs.ClosesLemmas.{last_step}
-use Rattle.leastset.proofs.IsMarkedLemmas.{marked_set}
 use Rattle.leastset.proofs.ContainsLemmas.{none_of}
 use Rattle.leastset.proofs.AtLemmas.{at_one, at_some, at_push, drop_in, in_drop, set_cases, set_other}
 use Rattle.leastset.proofs.TurnsLemmas.{row_within, replicate_is_new}

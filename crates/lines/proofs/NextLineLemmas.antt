@@ -1,5 +1,5 @@
 -- What was found in a window stands in every input of which so much has been seen.
--- Serves: next_line (follows, fits, short)
+-- Serves: next_line (follows, still, filled, fits, short)
 use Rattle.std.proofs.Common.{◌≡◌, ◌≢◌, ℕ, suc, ◌+◌, ◌<◌, ◌≤◌, ◌==◌, Bool, true, false, Some, None, List, [], ◌∷◌, ◌++◌}
 use Rattle.std.proofs.Common.{length, drop, take, refl, sym, ◌∙◌, ap, arith, append_assoc, length-append, length-take}
 use Rattle.std.proofs.Common.{get_or, drop-cons, if◌then◌else◌}
@@ -8,7 +8,7 @@ use Rattle.std.proofs.lemmas.Bool.{eqb-true, eq-eqb}
 use Rattle.std.proofs.lemmas.Bool.Decides.{nat_tests}
 use Rattle.std.proofs.lemmas.Grind.{common_steps}
 use Rattle.std.proofs.lemmas.List.{get_or-take, take-append-drop, take-append-le}
-use Rattle.std.proofs.lemmas.List.Elements.{All-from_get_or}
+use Rattle.std.proofs.lemmas.List.Elements.{All-from_get_or, All-get_or}
 use Rattle.memchr.specs.Find.{IsFirstByte, Nowhere, NoneBefore, is_byte, Passes}
 use Rattle.feed.specs.Feed.{IsHeld, bytes_of, capacity_of, flow_of}
 use Rattle.feed.specs.declared.feed.Feed.{Feed}
@@ -47,6 +47,12 @@ first_found end n xs before found =
           before.before i (omega arith) low (rw same (eq-eqb end end refl))),
       omega arith,
     )
+
+-- where one was found, there is one
+pub found_has_end : (end k : ℕ) (xs : List ℕ) → IsFirstByte (is_byte end) xs (Some k) → HasNoEnd end xs → ⊥
+found_has_end end k xs (before, found) none =
+    let here : get_or xs k 0 ≡ end = grind (arith, nat_tests, found) in
+    All-get_or (λ b. b ≢ end) xs k 0 (omega (arith, before.high)) none here
 
 -- what is held is the beginning of the rest
 pub held_front : (before items : List ℕ) (more bytes : List ℕ) (k start : ℕ) → bytes ≡ (before ++ items) ++ more

@@ -1,9 +1,9 @@
 //! The next line at the front of what a feed holds.
 ghost use Rattle.std.specs.Prelude.{◌≡◌, ℕ, List, ◌+◌, ◌≤◌, ◌++◌, length};
-ghost use Rattle.feed.specs.Feed.{Grows, IsTrueOfReader, SameLoan, bytes_of, capacity_of, flow_of};
+ghost use Rattle.feed.specs.Feed.{Grows, IsTrueOfReader, SameFeed, SameLoan, bytes_of, capacity_of, flow_of};
 ghost use Rattle.toolrun.specs.Agrees.{Agrees};
 ghost use Rattle.toolrun.specs.Input.{Input};
-ghost use Rattle.lines.specs.InputLines.{IsNext, IsShort, LiesWithin, line_without, taken_at};
+ghost use Rattle.lines.specs.InputLines.{HasNoEnd, IsNext, IsShort, LiesWithin, line_without, taken_at};
 
 use feed::{Feed, Held, Source};
 
@@ -52,6 +52,10 @@ pub fn next_line<R: Source>(feed: &mut Feed<'_, R>, end: u8) -> Line
         Agrees (before ++ bytes_of feed.new) (flow_of feed.new) input →
         IsNext (record { limit = limit; end = end }) input (length before) result ×
         (length (before ++ bytes_of feed.new) ≤ taken_at limit input (length before)) }
+    ensures still { (HasNoEnd end (bytes_of feed.old) → ⊥) → SameFeed feed.old feed.new }
+    ensures filled { HasNoEnd end (bytes_of feed.old) → (limit : ℕ) (before : List ℕ) (input : Input) →
+        capacity_of feed.new ≡ limit + 1 → Agrees (before ++ bytes_of feed.new) (flow_of feed.new) input →
+        length (before ++ bytes_of feed.new) ≡ taken_at limit input (length before) }
     ensures fits { LiesWithin (length (bytes_of feed.new)) result }
     ensures short { IsShort (capacity_of feed.new) result }
 {

@@ -1,5 +1,5 @@
 -- The stored keys imply one list of cells.
--- Serves: one_view
+-- Serves: one_view, same_cells
 use Rattle.std.proofs.Common.{◌≡◌, inl, inr, ℕ, Bool, List}
 use Rattle.std.proofs.Common.{refl, sym, subst}
 use Rattle.pegread.specs.Pattern.{Rule}
@@ -146,7 +146,8 @@ module _ (rules : List Rule) (start : ℕ) (nodes : List Shape) (bodies ranks x 
   abbrev IF : ℕ → ℕ → Found → Type 0
   IF n p f = IsFound rules start nodes bodies x more n p f
 
-  one_found : (n p : ℕ) (f h : Found) → IF n p f → IF n p h → f ≡ h
+  pub one_found : (n p : ℕ) (f h : Found) → IsFound rules start nodes bodies x more n p f
+      → IsFound rules start nodes bodies x more n p h → f ≡ h
   one_found n p Failed Failed a b = refl
   one_found n p Failed (Took q) a b =
       absurd (let s = (same_node rules nodes sound.defined bodies x a.gives b.gives).outcome in cc s)

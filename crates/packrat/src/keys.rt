@@ -11,11 +11,7 @@ pub(crate) fn is_key(peg: &SoundPeg, spot: Spot) -> bool
     ensures { result ≡ is_key_of (node_marks peg.now.keys) (tail_marks peg.now.keys) spot }
 {
     match spot {
-        Spot::Pair { node, place: _ } => peg.is_key_node(node),
-        Spot::Tail {
-            node,
-            index,
-            place: _,
-        } => peg.is_key_tail(node, index),
+        Spot::Pair { node, .. } => peg.is_key_node(node),
+        Spot::Tail { node, index, .. } => peg.is_key_tail(node, index),
     }
 }

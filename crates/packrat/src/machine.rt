@@ -53,12 +53,8 @@ fn counted(nodes: usize, length: usize, begun: u128, spot: Spot) -> u128
     ensures { result ≡ begun + weight spot }
 {
     match spot {
-        Spot::Pair { node: _, place: _ } => begun + 1,
-        Spot::Tail {
-            node: _,
-            index: _,
-            place: _,
-        } => begun,
+        Spot::Pair { .. } => begun + 1,
+        Spot::Tail { .. } => begun,
     }
 }
 
@@ -301,11 +297,7 @@ impl Machine {
         ensures fits { IfSome result (λ t. self.now.begun + t.pairs < 2 ^ 128) }
     {
         match spot {
-            Spot::Tail {
-                node: _,
-                index: _,
-                place: _,
-            } => None,
+            Spot::Tail { .. } => None,
             Spot::Pair { node, place } => match peg.node(node) {
                 Node::Star(operand) => {
                     if !is_fresh(&self.log, peg, node, place) {

@@ -1,17 +1,21 @@
 //! The packrat matcher.
 ghost use Rattle.std.specs.Prelude.{◌≡◌, ℕ, ◌+◌, ◌*◌, ◌<◌, ◌≤◌, true, false, List, length, IfOk, OnErr, Err};
+ghost use Rattle.std.specs.Prelude.{IfSome, IfNone};
+ghost use Rattle.memo.specs.KeyLog.{spots_of};
+ghost use Rattle.memo.specs.Parts.{IsIn};
+ghost use Rattle.memo.specs.declared.key_log.Given.{Given};
 ghost use Rattle.pegnodes.specs.Nodes.{shapes_of};
 ghost use Rattle.gramcheck.specs.Outcome.{Event, Outcome};
 ghost use Rattle.pegmatch.specs.Answers.{StartGives, IsAnswer, HoldsSuccess, Replays};
 ghost use Rattle.pegmatch.specs.Text.{text_of};
 ghost use Rattle.pegmatch.specs.declared.matcher.ReplayFault.{ReplayFault};
-ghost use Rattle.packrat.specs.Done.{empty, Holds, IsOutcome, head_of, unit_of, unit_of_match};
+ghost use Rattle.packrat.specs.Done.{empty, Holds, IsOutcome, head_of, unit_of_match};
 
 use crate::frames::Frames;
 use crate::machine::Machine;
 use eventlog::EventLog;
 use gramcheck::SoundPeg;
-use memo::{Found, Given, KeyLog};
+use memo::{Found, Given, KeyLog, Spot};
 use pegmatch::{Matcher, ReplayFault, Unit};
 use ruletable::{Memory, Sink};
 use std::alloc::Global;
@@ -48,23 +52,16 @@ impl Model for Packrat {
     ghost invariant = { λ m. IsHead m.machine.events m.head };
 }
 
-// Returns the answer for an outcome.
-fn ended(found: Found, begun: u128) -> Unit
-    ensures { result ≡ unit_of found begun }
-{
-    match found {
-        Found::Failed => Unit::Failed { begun },
-        Found::Took(end) => Unit::Took { end, begun },
-    }
-}
-
 // Returns the answer for what a match found; `Need` where the window was too short.
 fn matched_unit(given: Option<Given>, begun: u128) -> Unit
     ensures { result ≡ unit_of_match given begun }
 {
     match given {
-        Some(given) => ended(given.found, begun),
         None => Unit::Need,
+        Some(given) => match given.found {
+            Found::Failed => Unit::Failed { begun },
+            Found::Took(end) => Unit::Took { end, begun },
+        },
     }
 }
 
@@ -106,6 +103,22 @@ impl Packrat {
         ensures { result ≡ self.now.begun }
     {
         self.machine.begun
+    }
+
+    /// Returns what was found for a key in its last unit, if the key was evaluated.
+    ///
+    /// # Errors
+    /// `Memory` if an allocation fails.
+    pub fn found(&mut self, key: Spot) -> Result<Option<Found>, Memory>
+        ensures some { IfOk result (λ found. IfSome found (λ f. (given : Given) × (given.found ≡ f)
+            × IsIn (record { spot = key; given = given }) self.old.stored)) }
+        ensures none { IfOk result (λ found. IfNone found (IsIn key (spots_of self.old.stored) → ⊥)) }
+        ensures same { self.new ≡ self.old }
+    {
+        match self.machine.log.get(key)? {
+            Some(given) => Ok(Some(given.found)),
+            None => Ok(None),
+        }
     }
 
     /// Empties it, and takes no memory.

@@ -3,3 +3,4 @@ pub mod PegExpected
 pub mod PegExplained
 pub mod PegStands
 pub mod PhraseRows
+pub mod PegNotes

@@ -11,6 +11,7 @@ pub mod HasShapeLemmas
 pub mod IsCutLemmas
 pub mod KeyNeedsLemmas
 pub mod NamersLemmas
+pub mod NodeListsLemmas
 pub mod NodeSpellsLemmas
 pub mod NumbersLemmas
 pub mod OwnIdLemmas

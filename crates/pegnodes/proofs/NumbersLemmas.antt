@@ -14,11 +14,13 @@ use Rattle.pegnodes.specs.declared.node.Node.{Node}
 use Rattle.pegnodes.specs.declared.node.Node.TheVariants as code
 use Rattle.pegnodes.specs.Bodies.{IsBuilt, IsOperand}
 use Rattle.pegnodes.specs.NodeCounts.{node_count, node_count_all}
+use Rattle.pegnodes.specs.NodeLists.{all_nodes, nodes_of, node_number, numbers_of, star_of}
 use Rattle.pegnodes.specs.Nodes.{Shape, Star, Plus, shape_of, shapes_of, Spells, spells_star, spells_plus, SpellAll}
 use Rattle.pegnodes.specs.Nodes.{spell_none, spell_more}
 use Rattle.pegnodes.specs.Numbering.{Numbers, NumbersAll, SpellsPart}
 use Rattle.pegnodes.specs.Within.{Within, WithinSome, itself, of_star, of_plus, of_first, of_later}
 use Rattle.leastset.proofs.AtLemmas.{at_push, at_append_left}
+use Rattle.pegnodes.proofs.NodeListsLemmas.{all_nodes_push, numbers_push}
 use Rattle.pegnodes.proofs.PushCasesLemmas.{push_cases}
 use Rattle.pegnodes.proofs.NodeSpellsLemmas.{still_spells, still_spell_all, is_there, are_there}
 
@@ -32,18 +34,20 @@ built_push xs a b low = record {
 
 -- one more node
 module _ (rules : List Rule) (first mid : List Shape) (a : Shape) (n : ℕ) (p : Pattern) where
-  one_more : (added : List Shape) → mid ≡ first ++ added → (IsBuilt first → IsBuilt mid)
-      → length mid + 1 ≡ length first + node_count p
+  one_more : (added : List Shape) → mid ≡ first ++ added → added ++ a ∷ [] ≡ nodes_of rules (length first) p
+      → (IsBuilt first → IsBuilt mid) → length mid + 1 ≡ length first + node_count p
       → ((m : ℕ) → length first ≤ m → m < length mid → SpellsPart rules mid p m) →
       n ≡ length mid → ((m : ℕ) → IsOperand a m → m < length mid)
       → (slice_get (mid ++ a ∷ []) n ≡ Some a → Spells rules (mid ++ a ∷ []) n p) →
       Numbers rules first (mid ++ a ∷ []) n p
-  one_more added grown built count parts is low spells =
+  one_more added grown exact built count parts is low spells =
       let at : slice_get (mid ++ a ∷ []) n ≡ Some a = subst (λ v. slice_get (mid ++ a ∷ []) v ≡ Some a) (sym is)
       (at_push mid a) in
       record {
         added = added ++ a ∷ [];
         grown = ap (λ v. v ++ a ∷ []) grown ∙ append_assoc first added (a ∷ []);
+        exact = exact;
+        own = omega (arith, is, count);
         counted = let l = length-append mid (a ∷ []) in omega (arith, l, count);
         spelled = spells at;
         parts = λ m above below. ⊎_elim
@@ -72,27 +76,33 @@ shapes_pushed nodes more v e = ap shapes_of e ∙ map-append shape_of nodes (v �
 module _ (rules : List Rule) (nodes more : List Node) (v : Node) (n : ℕ) (p : Pattern)
     (is_more : more ≡ nodes ++ v ∷ []) (is : n ≡ length nodes) where
   -- a node without operands
-  pub leaf_numbers : node_count p ≡ 1 → ((m : ℕ) → IsOperand (shape_of v) m → ⊥)
+  pub leaf_numbers : node_count p ≡ 1 → shape_of v ∷ [] ≡ nodes_of rules (length (shapes_of nodes)) p
+      → ((m : ℕ) → IsOperand (shape_of v) m → ⊥)
       → ((xs : List Shape) → slice_get xs n ≡ Some (shape_of v) → Spells rules xs n p) →
       Numbers rules (shapes_of nodes) (shapes_of more) n p
-  leaf_numbers one none spells =
+  leaf_numbers one exact none spells =
       rw (shapes_pushed nodes more v is_more)
       (one_more rules (shapes_of nodes) (shapes_of nodes) (shape_of v) n p [] (sym (append-nil (shapes_of nodes)))
-      (λ b. b) (omega (arith, one)) (λ m low high. absurd (omega arith))
+      exact (λ b. b) (omega (arith, one)) (λ m low high. absurd (omega arith))
       (is ∙ sym (length-map nodes shape_of)) (λ m o. absurd (none m o))
       (λ at. spells (shapes_of nodes ++ shape_of v ∷ []) at))
 
   -- a node over one operand, which stands before it
-  pub numbers_over : (first : List Shape) (k : ℕ) (e : Pattern) → node_count p ≡ node_count e + 1
+  pub numbers_over : (first : List Shape) (k : ℕ) (e : Pattern) (over : ℕ → Shape) → node_count p ≡ node_count e + 1
+      → shape_of v ≡ over k
+      → ((f : ℕ) → nodes_of rules f p ≡ nodes_of rules f e ++ over (node_number f e) ∷ [])
       → Numbers rules first (shapes_of nodes) k e
       → ((m : ℕ) → IsOperand (shape_of v) m → m ≡ k) →
       ((d : Pattern) → Within e d → Within p d) → ((xs : List Shape) → slice_get xs n ≡ Some (shape_of v)
       → Spells rules xs k e → Spells rules xs n p) →
       Numbers rules first (shapes_of more) n p
-  numbers_over first k e one g alone within spells =
+  numbers_over first k e over one is_over split g alone within spells =
       let there = is_there rules (shapes_of nodes) g.spelled in
       rw (shapes_pushed nodes more v is_more)
-      (one_more rules first (shapes_of nodes) (shape_of v) n p g.added g.grown g.built (omega (arith, one, g.counted))
+      (one_more rules first (shapes_of nodes) (shape_of v) n p g.added g.grown
+      (ap (λ w. w ++ shape_of v ∷ []) g.exact
+      ∙ ap (λ s. nodes_of rules (length first) e ++ s ∷ []) (is_over ∙ ap over g.own) ∙ sym (split (length first)))
+      g.built (omega (arith, one, g.counted))
       (λ m low high. let part = g.parts m low high in
       record { part = part.part; within = within part.part part.within; spelled = part.spelled })
       (is ∙ sym (length-map nodes shape_of)) (λ m o. subst (λ i. i < length (shapes_of nodes)) (sym (alone m o)) there)
@@ -100,15 +110,20 @@ module _ (rules : List Rule) (nodes more : List Node) (v : Node) (n : ℕ) (p : 
       (still_spells rules (shapes_of nodes) (shape_of v ∷ []) g.spelled)))
 
   -- a node over members, which stand before it
-  pub over_all : (first : List Shape) (ks : List ℕ) (es : Patterns) → node_count p ≡ node_count_all es + 1
+  pub over_all : (first : List Shape) (ks : List ℕ) (es : Patterns) (over : List ℕ → Shape)
+      → node_count p ≡ node_count_all es + 1 → shape_of v ≡ over ks
+      → ((f : ℕ) → nodes_of rules f p ≡ all_nodes rules f es ++ over (numbers_of f es) ∷ [])
       → NumbersAll rules first (shapes_of nodes) ks es →
       ((m : ℕ) → IsOperand (shape_of v) m → Contains ks m) →
       ((d : Pattern) → WithinSome es d → Within p d)
       → ((xs : List Shape) → slice_get xs n ≡ Some (shape_of v) → SpellAll rules xs ks es → Spells rules xs n p) →
       Numbers rules first (shapes_of more) n p
-  over_all first ks es one g among within spells =
+  over_all first ks es over one is_over split g among within spells =
       rw (shapes_pushed nodes more v is_more)
-      (one_more rules first (shapes_of nodes) (shape_of v) n p g.added g.grown g.built (omega (arith, one, g.counted))
+      (one_more rules first (shapes_of nodes) (shape_of v) n p g.added g.grown
+      (ap (λ w. w ++ shape_of v ∷ []) g.exact
+      ∙ ap (λ s. all_nodes rules (length first) es ++ s ∷ []) (is_over ∙ ap over g.own) ∙ sym (split (length first)))
+      g.built (omega (arith, one, g.counted))
       (λ m low high. let part = g.parts m low high in
       record { part = part.part; within = within part.part part.within; spelled = part.spelled })
       (is ∙ sym (length-map nodes shape_of)) (λ m o. are_there rules (shapes_of nodes) m g.spelled (among m o))
@@ -122,7 +137,8 @@ module _ {rules : List Rule} {first : List Shape} (nodes : List Node) {mid new :
     (n_is : n ≡ length mid) where
   star_numbers : Numbers rules first (shapes_of mid) k (expr.Star e)
   star_numbers =
-      numbers_over rules nodes mid (code.Star m) k (expr.Star e) star_is k_is first m e refl was (λ i h. h)
+      numbers_over rules nodes mid (code.Star m) k (expr.Star e) star_is k_is first m e Star refl refl (λ f. refl) was
+      (λ i h. h)
       (λ d. of_star)
       (λ xs at s. spells_star at s)
 
@@ -135,11 +151,17 @@ module _ {rules : List Rule} {first : List Shape} (nodes : List Node) {mid new :
   operand_spelled = rw (shapes_pushed nodes mid (code.Star m) star_is)
       (still_spells rules (shapes_of nodes) (Star m ∷ []) was.spelled)
 
+  star_is_own : k ≡ star_of (length first) e
+  star_is_own = let l = length-map nodes shape_of in omega (arith, k_is, l, was.counted)
+
   pub plus_numbers : Numbers rules first (shapes_of new) n (expr.Plus e)
   plus_numbers =
       let there = is_there rules (shapes_of mid) operand_spelled in
       rw (shapes_pushed mid new (code.Plus m k) plus_is)
       (one_more rules first (shapes_of mid) (Plus m k) n (expr.Plus e) star_numbers.added star_numbers.grown
+      (ap (λ w. w ++ Plus m k ∷ []) star_numbers.exact
+      ∙ ap (λ s. (nodes_of rules (length first) e ++ Star (node_number (length first) e) ∷ []) ++ s ∷ [])
+      (ap (λ i. Plus i k) was.own ∙ ap (λ i. Plus (node_number (length first) e) i) star_is_own))
       star_numbers.built (omega (arith, star_numbers.counted))
       (λ i low high. let part = star_numbers.parts i low high in
       record { part = part.part; within = of_plus part.within; spelled = part.spelled })
@@ -168,6 +190,8 @@ pub no_members : (rules : List Rule) (xs : List Shape) (ns : List ℕ) → ns �
 no_members rules xs ns is = rw is (record {
   added = [];
   grown = sym (append-nil xs);
+  exact = refl;
+  own = refl;
   counted = omega arith;
   spelled = spell_none;
   parts = λ m low high. absurd (omega arith);
@@ -193,6 +217,12 @@ module _ {rules : List Rule} {first mid new : List Shape} {ns : List ℕ} {n : �
   append_member g h = record {
     added = g.added ++ h.added;
     grown = h.grown ∙ ap (λ w. w ++ h.added) g.grown ∙ append_assoc first g.added h.added;
+    exact = ap (λ w. w ++ h.added) g.exact
+        ∙ ap (λ w. all_nodes rules (length first) (patterns ps) ++ w) (h.exact ∙ ap (λ k. nodes_of rules k p) g.counted)
+        ∙ sym (all_nodes_push rules (length first) ps p);
+    own = ap (λ w. w ++ n ∷ []) g.own
+        ∙ ap (λ k. numbers_of (length first) (patterns ps) ++ k ∷ [])
+        (h.own ∙ ap (λ k. node_number k p) g.counted) ∙ sym (numbers_push (length first) ps p);
     counted = let e = count_push ps p in omega (arith, e, g.counted, h.counted);
     spelled = spell_push rules new ps p n (subst (λ w. SpellAll rules w ns (patterns ps)) (sym h.grown)
         (still_spell_all rules mid h.added g.spelled)) h.spelled;

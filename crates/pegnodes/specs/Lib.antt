@@ -6,6 +6,7 @@ pub mod KeyMarks
 pub mod KeyNeeds
 pub mod Namers
 pub mod NodeCounts
+pub mod NodeLists
 pub mod NodeWays
 pub mod Nodes
 pub mod Numbering

@@ -11,7 +11,7 @@ use Rattle.pegread.specs.declared.expr.Expr.{Expr}
 use Rattle.pegread.specs.declared.place.Place.{Place}
 use Rattle.pegread.specs.Brackets.{around, wraps}
 use Rattle.pegread.specs.Canon.{text_of, joined, more_joined, definition_text, grammar_text}
-use Rattle.pegread.specs.Pattern.{Pattern, Patterns, none, more}
+use Rattle.pegread.specs.Pattern.{Patterns}
 use Rattle.pegread.specs.PegViews.{pattern_of, patterns_of, rule_of}
 
 pub leaves-around : (a : Option (List ℕ)) (b : Bool) (s : List ℕ) → b ≡ true

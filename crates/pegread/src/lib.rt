@@ -24,6 +24,7 @@ pub use kind::Kind;
 pub use lexer::{MAX_GRAMMAR, MAX_OPEN};
 pub use literal::literal_bytes;
 pub use print::{is_read_back, print_peg};
+pub use print_bytes::{print_literal, print_set};
 pub use read::{one_reading, one_tree, read_peg};
 pub use spelling_laws::{
     spells_one_char, spells_one_class, spells_one_literal, spells_some_char, spells_some_class,

@@ -92,7 +92,8 @@ fn print_bytes<W: Sink>(bytes: &[u8], w: &mut W) -> Result<(), WriteFault>
     Ok(())
 }
 
-pub(crate) fn print_literal<W: Sink>(bytes: &[u8], w: &mut W) -> Result<(), WriteFault>
+/// Writes a literal in its canonical text. `WriteFault` where the writer fails; then a beginning of it is written.
+pub fn print_literal<W: Sink>(bytes: &[u8], w: &mut W) -> Result<(), WriteFault>
     requires { W.failed w.old ≡ false }
     ensures bytes { Writes (W.contents w.old) (W.contents w.new) (canon.text_of (patterns.Pattern.Bytes bytes.now))
         result }
@@ -171,7 +172,9 @@ fn print_class<W: Sink>(mark: &[u8], set: &ByteSet, w: &mut W) -> Result<(), Wri
     }
 }
 
-pub(crate) fn print_set<W: Sink>(set: &ByteSet, w: &mut W) -> Result<(), WriteFault>
+/// Writes a class in its canonical text: the ranges of its members, or of all other bytes behind `^` if the byte 255 is
+/// a member. `WriteFault` where the writer fails; then a beginning of it is written.
+pub fn print_set<W: Sink>(set: &ByteSet, w: &mut W) -> Result<(), WriteFault>
     requires { W.failed w.old ≡ false }
     ensures bytes { Writes (W.contents w.old) (W.contents w.new) (class_text (test_of set.now)) result }
     ensures flag { Flags (W.failed w.old) (W.failed w.new) result }

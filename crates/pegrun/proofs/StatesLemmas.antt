@@ -1,10 +1,11 @@
 -- What is stated for a grammar's text, settings and an input is one, but for want of memory.
 -- Serves: one_statement
-use Rattle.std.proofs.Common.{◌≡◌, ◌≢◌, ℕ, inl, inr, List, [], refl, sym, ◌∙◌, ap, map, subst, arith, true, false}
+use Rattle.std.proofs.Common.{◌≡◌, ◌≢◌, ℕ, inl, inr, List, [], refl, sym, ◌∙◌, ap, map, subst, arith}
+use Rattle.std.proofs.Common.{true, false, Option}
 use Rattle.std.specs.Prelude.{Contains}
 use Rattle.ruletable.specs.Notes.{Said, said}
 use Rattle.ruletable.specs.declared.fault.ReadFault.{ReadFault}
-use Rattle.ruletable.specs.declared.fault.ReadFault.TheVariants.{Memory, TooLong}
+use Rattle.ruletable.specs.declared.fault.ReadFault.TheVariants.{TooLong}
 use Rattle.ruletable.specs.declared.note.NoteKind.TheVariants.{Redefined}
 use Rattle.pegread.specs.Definitions.{firsts, agains}
 use Rattle.pegread.specs.Pattern.{Rule}
@@ -14,7 +15,9 @@ use Rattle.gramcheck.specs.Checked.{is_refused, IsStart}
 use Rattle.gramcheck.specs.GrammarNotes.{names_at}
 use Rattle.gramcheck.proofs.AreNotesLemmas.{notes-one, those-one}
 use Rattle.pegexplain.specs.PegExplained.{Explains}
-use Rattle.pegrun.specs.Answers.{States, refused, unexplained, noted, checked, runs, again, printed, no_memory}
+use Rattle.pegexplain.specs.PegNotes.{ExplainsNote}
+use Rattle.pegrun.specs.Answers.{States, refused, unexplained, noted, checked, runs, cut_notes, again}
+use Rattle.pegrun.specs.Answers.{cut_again, printed, no_memory}
 use Rattle.pegrun.specs.Noted.{AreNotesOn, AreAgain, start_given}
 use Rattle.pegrun.specs.PegReply.{printed_text, RunStates}
 use Rattle.pegrun.proofs.FirstsLemmas.{start_is_one}
@@ -26,6 +29,8 @@ use Rattle.toolrun.specs.RunSteps as steps
 use Rattle.toolrun.specs.declared.settings.Settings.{Settings}
 use Rattle.toolrun.proofs.OneStatementLemmas.{Stated, one_stated, one-explained, is_noted, is_checked, is_run}
 use Rattle.toolrun.proofs.OneStatementLemmas.{is_again, is_printed}
+use Rattle.toolrun.proofs.ToldNotesLemmas.{told-one}
+use Rattle.toolrun.specs.ToldNotes.{ToldNotes}
 
 -- the notes on redefinitions are one list
 again_is_one : (definitions : List Rule) (a b : List Said) → AreAgain definitions a → AreAgain definitions b → a ≡ b
@@ -39,6 +44,11 @@ again_is_one definitions a b g h =
 abbrev ExplanationsAreOne : Type 0
 ExplanationsAreOne = (text : List ℕ) (fault : ReadFault) (a b : List ℕ) → Explains text fault a
     → Explains text fault b → a ≡ b
+
+-- what explains a note is one text
+abbrev pub NotesAreOne : Type 0
+NotesAreOne = (text : List ℕ) (start : Option (List ℕ)) (note : Said) (a b : List ℕ) → ExplainsNote text start note a
+    → ExplainsNote text start note b → a ≡ b
 
 module _ (settings : Settings) (input : Input) where
   -- what a run of these definitions states
@@ -73,8 +83,8 @@ module _ (settings : Settings) (input : Input) where
     abbrev IsStated : List ℕ → Reply → Type 0
     IsStated = Stated (IsFaultOf text) (λ fault. Explained settings (Explains text fault)) (Reads text)
         (λ definitions. AreNotesOn definitions (start_given settings))
-        (λ definitions notes. is_refused notes ≡ true) (λ definitions notes. is_refused notes ≡ false) AreAgain RunOf
-        printed_text settings.mode
+        (λ definitions notes. is_refused notes ≡ true) (λ definitions notes. is_refused notes ≡ false) AreAgain
+        (ToldNotes settings (ExplainsNote text)) RunOf printed_text settings.mode
 
     parts_of : (notes : List ℕ) (reply : Reply) → States text settings input notes reply → reply.status ≢ 5
         → IsStated notes reply
@@ -88,38 +98,42 @@ module _ (settings : Settings) (input : Input) where
       told = refl;
     })
     parts_of notes reply (unexplained fault f m asked) ample = absurd (ample refl)
-    parts_of notes reply (noted ds said r are bad mode) ample =
-        inr (record { definitions = ds; reads = r; states = is_noted said are bad mode })
-    parts_of notes reply (checked ds said r are fine mode) ample =
-        inr (record { definitions = ds; reads = r; states = is_checked said are fine mode })
-    parts_of notes reply (runs ds said start stated r are fine mode is run) ample = inr (record {
+    parts_of notes reply (noted ds said told r are tells bad mode) ample =
+        inr (record { definitions = ds; reads = r; states = is_noted said told are tells bad mode })
+    parts_of notes reply (checked ds said told r are tells fine mode) ample =
+        inr (record { definitions = ds; reads = r; states = is_checked said told are tells fine mode })
+    parts_of notes reply (runs ds said told start stated r are tells fine mode is run) ample = inr (record {
       definitions = ds;
       reads = r;
-      states = is_run said stated are fine mode (record { start = start; is_start = is; states = run });
+      states = is_run said told stated are tells fine mode (record { start = start; is_start = is; states = run });
     })
-    parts_of notes reply (again ds said r are some mode) ample =
-        inr (record { definitions = ds; reads = r; states = is_again said are some mode })
+    parts_of notes reply (cut_notes ds said told r are cut mode) ample = absurd (ample refl)
+    parts_of notes reply (again ds said told r are tells some mode) ample =
+        inr (record { definitions = ds; reads = r; states = is_again said told are tells some mode })
+    parts_of notes reply (cut_again ds said told r are cut mode) ample = absurd (ample refl)
     parts_of notes reply (printed ds r are mode) ample =
         inr (record { definitions = ds; reads = r; states = is_printed are mode })
     parts_of notes reply (no_memory within) ample = absurd (ample refl)
 
-    one_of_text : ExplanationsAreOne → (notes others : List ℕ) (a b : Reply) → IsStated notes a
+    one_of_text : ExplanationsAreOne → NotesAreOne → (notes others : List ℕ) (a b : Reply) → IsStated notes a
         → IsStated others b → a.status ≢ 5 → b.status ≢ 5 → (notes ≡ others) × (a ≡ b)
-    one_of_text one = one_stated (IsFaultOf text) (λ fault. Explained settings (Explains text fault)) (Reads text)
+    one_of_text one lines = one_stated (IsFaultOf text) (λ fault. Explained settings (Explains text fault)) (Reads text)
         (λ definitions. AreNotesOn definitions (start_given settings))
-        (λ definitions notes. is_refused notes ≡ true) (λ definitions notes. is_refused notes ≡ false) AreAgain RunOf
-        printed_text settings.mode (one-reading text) (one-fault text)
+        (λ definitions notes. is_refused notes ≡ true) (λ definitions notes. is_refused notes ≡ false) AreAgain
+        (ToldNotes settings (ExplainsNote text)) RunOf printed_text settings.mode (one-reading text) (one-fault text)
         (λ fault. one-explained settings (Explains text fault) (one text fault)) (no-fault text) notes_are_one
         again_is_one
+        (λ notes. told-one (λ note. one-explained settings (ExplainsNote text (start_given settings) note)
+        (lines text (start_given settings) note)))
         (λ definitions notes bad fine. absurd (cc)) one_run
 
 -- one list of notes and one reply
-pub statement_is_one : ExplanationsAreOne → (text : List ℕ) (settings : Settings) (input : Input)
+pub statement_is_one : ExplanationsAreOne → NotesAreOne → (text : List ℕ) (settings : Settings) (input : Input)
     (notes others : List ℕ) (a b : Reply) →
     States text settings input notes a → States text settings input others b → a.status ≢ 5 → b.status ≢ 5
     → (notes ≡ others) × (a ≡ b)
-statement_is_one one text settings input notes others a b g h m n =
-    one_of_text settings input text one notes others a b (parts_of settings input text notes a g m)
+statement_is_one one lines text settings input notes others a b g h m n =
+    one_of_text settings input text one lines notes others a b (parts_of settings input text notes a g m)
     (parts_of settings input text others b h n) m n
 
 -- what spells definitions is not too long
@@ -143,10 +157,17 @@ long_is_told text settings input notes reply long (unexplained fault f other ask
   refl,
   inr (asked, ap unexplained_fault (one-fault text fault TooLong f long other (λ e. cc))),
 )
-long_is_told text settings input notes reply long (noted ds said r are bad mode) = absurd (long-unread long r)
-long_is_told text settings input notes reply long (checked ds said r are fine mode) = absurd (long-unread long r)
-long_is_told text settings input notes reply long (runs ds said start stated r are fine mode is run) =
+long_is_told text settings input notes reply long (noted ds said told r are tells bad mode) =
     absurd (long-unread long r)
-long_is_told text settings input notes reply long (again ds said r are some mode) = absurd (long-unread long r)
+long_is_told text settings input notes reply long (checked ds said told r are tells fine mode) =
+    absurd (long-unread long r)
+long_is_told text settings input notes reply long (runs ds said told start stated r are tells fine mode is run) =
+    absurd (long-unread long r)
+long_is_told text settings input notes reply long (cut_notes ds said told r are cut mode) =
+    absurd (long-unread long r)
+long_is_told text settings input notes reply long (again ds said told r are tells some mode) =
+    absurd (long-unread long r)
+long_is_told text settings input notes reply long (cut_again ds said told r are cut mode) =
+    absurd (long-unread long r)
 long_is_told text settings input notes reply long (printed ds r are mode) = absurd (long-unread long r)
 long_is_told text settings input notes reply long (no_memory within) = absurd (omega arith)

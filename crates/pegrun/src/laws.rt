@@ -11,7 +11,7 @@ ghost use Rattle.toolrun.specs.Explained.{IsLongReply};
 ghost use Rattle.toolrun.specs.Reply.{Reply};
 ghost use Rattle.toolrun.specs.declared.settings.Settings.{Settings};
 
-use pegexplain::one_explanation;
+use pegexplain::{one_explanation, one_note_explanation};
 use pegread::one_reading;
 
 /// Says that a list of rules, a start rule and settings have at most one reply to an input.
@@ -37,5 +37,6 @@ pub fn one_statement()
         (notes ≡ []) × IsLongReply settings (Explains text ReadFault.TooLong) reply }
 {
     one_explanation();
+    one_note_explanation();
     one_reading();
 }

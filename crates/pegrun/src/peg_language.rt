@@ -1,5 +1,6 @@
 //! The language of peg(1), whose grammars are run on units of an input.
 ghost use Rattle.pegexplain.specs.PegExplained.{Explains};
+ghost use Rattle.pegexplain.specs.PegNotes.{ArePegPlaces, ExplainsNote};
 ghost use Rattle.pegread.specs.Canon.{grammar_text};
 ghost use Rattle.pegread.specs.PegViews.{rules_of};
 ghost use Rattle.pegread.specs.Reading.{IsFaultOf};
@@ -10,8 +11,9 @@ ghost use Rattle.pegrun.specs.PegReply.{RunStates};
 use crate::engine::run_units;
 use feed::Source;
 use gramcheck::{SoundPeg, check_peg, redefinitions};
+use noteplaces::Places;
 use packrat::Packrat;
-use pegexplain::explain_fault;
+use pegexplain::{explain_fault, explain_peg_note, peg_places};
 use pegread::{Peg, print_peg, read_peg};
 use ruletable::{Memory, Note, ReadFault, Sink, WriteFault};
 use std::alloc::Global;
@@ -25,11 +27,17 @@ impl Language for PegLanguage {
 
     type Sound = SoundPeg;
 
+    type Places = Places;
+
     ghost states = { States };
 
     ghost has_fault = { IsFaultOf };
 
     ghost explains = { Explains };
+
+    ghost are_places = { λ text start. ArePegPlaces text };
+
+    ghost explains_note = { ExplainsNote };
 
     ghost is_read = { λ text peg. IsReadAs text peg.rules peg.redefined.items };
 
@@ -47,6 +55,19 @@ impl Language for PegLanguage {
 
     fn explain_fault(alloc: Global, text: &[u8], fault: ReadFault) -> Result<Vec<u8>, Memory> {
         explain_fault(alloc, text, fault)
+    }
+
+    fn places(alloc: Global, text: &[u8], _start: Option<&str>) -> Result<Places, Memory> {
+        peg_places(alloc, text)
+    }
+
+    fn explain_note(
+        alloc: Global,
+        places: &Places,
+        start: Option<&str>,
+        note: &Note,
+    ) -> Result<Vec<u8>, Memory> {
+        explain_peg_note(alloc, places, start, note)
     }
 
     fn check(

@@ -18,7 +18,9 @@ use toolrun::{Settings, Status, run_tool};
 ///   nothing is read. If the settings ask for explanations, behind that line stand those that explain it: a picture of
 ///   the token that decides, its column, exactly the kinds of tokens that could stand there, and a usual mistake.
 /// - If it is to be printed, its canonical text is written on `out`, `Done`; but if it defines a rule again, the notes
-///   on that are written on `err`, `Refused`. Nothing is read, and no other check is made.
+///   on that are written on `err`, `Refused`. Nothing is read, and no other check is made. If the settings ask for
+///   explanations, behind a note on a rule that is defined again, or not used, stand the lines of its definitions, and
+///   behind one on a name that is not defined its first use.
 /// - Else the notes on it are written on `err`. If one of them refuses it, or it is only to be checked, that is all:
 ///   `Refused`, or `Done`, and nothing is read.
 /// - A unit is one success of the start rule, the one named in the settings or else the first; it begins where the one
@@ -32,7 +34,7 @@ use toolrun::{Settings, Status, run_tool};
 ///   fails in the notes, nothing is read, and nothing is written on `out`. Writers that have not failed are flushed
 ///   once at the end, `out` first.
 /// - If an allocation fails, the text of the units before stands whole: `out of memory`, `NoMemory`. In an explanation
-///   the fault's line stands before that, without what explains it.
+///   the fault's line stands before that, without what explains it, or the first notes do, the last perhaps without.
 pub fn run_peg<R: Source, O: Sink, E: Sink>(
     alloc: Global,
     grammar: &[u8],

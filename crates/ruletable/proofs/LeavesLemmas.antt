@@ -1,6 +1,6 @@
 -- Texts that are written piece by piece, and what is left of one.
 -- Serves: print_peg, print_abnf
-use Rattle.std.proofs.Common.{◌≡◌, ℕ, zero, suc, ◌+◌, ◌≤◌, ◌<◌, ◌==◌, cond, Bool, true, false, Option, Some, List, []}
+use Rattle.std.proofs.Common.{◌≡◌, ℕ, zero, suc, ◌+◌, ◌<◌, ◌==◌, cond, Bool, true, false, Option, Some, List, []}
 use Rattle.std.proofs.Common.{◌∷◌, ◌++◌, length, drop, get_or, slice_get, map, refl, sym, ◌∙◌, ap, subst, append_assoc}
 use Rattle.std.proofs.Common.{arith, add-one, drop-cons}
 use Rattle.std.proofs.lemmas.List.{append-nil}

@@ -3,8 +3,8 @@
 use Rattle.std.proofs.Common.{◌≡◌, ℕ, ◌+◌, List, [], ◌∷◌, ◌++◌, refl, sym, ◌∙◌, ap, subst, ◌↔◌, ◌⊎◌, inl, inr}
 use Rattle.std.proofs.Common.{append_assoc}
 use Rattle.std.specs.Prelude.{Bool, true, false, slice_get, Some}
-use Rattle.flatgrammar.specs.Flat.{Flat, Place, Set, Has, Reads}
-use Rattle.stacks.specs.Stacks.{Moves, Led, led, moves, LedToEnd, ReadBy, reads, After, Reach, Accepts, AreAlike}
+use Rattle.flatgrammar.specs.Flat.{Flat, Place, Reads}
+use Rattle.stacks.specs.Stacks.{Led, led, moves, ReadBy, reads, Reach, AreAlike}
 use Rattle.stacks.specs.Stacks.{IsReading, reading, Lifted, Empties, IsPlain, IsFront, IsNext, IsUnfolded}
 use Rattle.stacks.proofs.LeadOnLemmas.{leads_on}
 use Rattle.stacks.proofs.LiftLemmas.{over, from_over, ends_over, rests_empty, led_some, IsOver}

@@ -1,9 +1,9 @@
 -- What a letter leads to.
 -- Serves: a_letter_leads_on, judge.
-use Rattle.std.proofs.Common.{◌≡◌, ℕ, ◌+◌, List, [], ◌∷◌, refl, sym, ap, subst, arith, ◌↔◌}
+use Rattle.std.proofs.Common.{◌≡◌, ℕ, ◌+◌, List, ◌∷◌, refl, subst, arith, ◌↔◌}
 use Rattle.std.specs.Prelude.{slice_get, Bool, Some}
-use Rattle.flatgrammar.specs.Flat.{Flat, Place, Set, Has, Reads}
-use Rattle.stacks.specs.Stacks.{Moves, Reach, Led, ReadBy, After, AreAlike}
+use Rattle.flatgrammar.specs.Flat.{Flat, Place, Has}
+use Rattle.stacks.specs.Stacks.{Reach, Led, ReadBy, After, AreAlike}
 
 module _ (flat : Flat) (last : Place → Bool) (x : List ℕ) (j c d : ℕ) (is : slice_get x j ≡ Some c)
     (alike : AreAlike flat c d) where

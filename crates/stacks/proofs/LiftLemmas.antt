@@ -1,7 +1,7 @@
 -- Stacks with more below them.
 -- Serves: a_letter_leads_on, parts_are_moved, judge.
-use Rattle.std.proofs.Common.{◌≡◌, ℕ, ◌+◌, List, [], ◌∷◌, ◌++◌, refl, sym, ◌∙◌, ap, subst, ◌↔◌, ◌⊎◌, inl, inr}
-use Rattle.std.specs.Prelude.{Bool, true, false}
+use Rattle.std.proofs.Common.{◌≡◌, List, [], ◌∷◌, ◌++◌, refl, sym, ◌∙◌, subst, ◌↔◌, ◌⊎◌, inl, inr}
+use Rattle.std.specs.Prelude.{Bool}
 use Rattle.flatgrammar.specs.Flat.{Flat, Place, Calls}
 use Rattle.stacks.specs.Stacks as st
 use Rattle.stacks.specs.Stacks.{IsDoneAt, Moves, call, tail_call, Led, led, moves, LedToEnd, Lifted, Empties}

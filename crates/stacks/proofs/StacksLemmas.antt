@@ -1,10 +1,10 @@
 -- Stacks of places tell what item sets tell.
 -- Serves: stacks_tell, judge.
-use Rattle.std.proofs.Common.{◌≡◌, ℕ, ◌+◌, ◌<◌, ◌≤◌, List, [], ◌∷◌, length, refl, sym, ◌∙◌, ap, subst, arith, ◌↔◌}
+use Rattle.std.proofs.Common.{◌≡◌, ℕ, ◌+◌, ◌<◌, ◌≤◌, List, [], ◌∷◌, refl, sym, ◌∙◌, ap, subst, arith}
 use Rattle.std.proofs.Common.{◌⊎◌, inl, inr}
 use Rattle.std.proofs.lemmas.Bool.{cases_lt}
 use Rattle.std.specs.Prelude.{slice_get, Bool, true, false, Option, Some, None}
-use Rattle.flatgrammar.specs.Flat.{Flat, Node, Name, Concat, Turns, top, Place, at, Set, Has, Begins, IsDone, Calling}
+use Rattle.flatgrammar.specs.Flat.{Flat, Node, Name, Concat, Turns, top, Place, at, Set, Begins, IsDone, Calling}
 use Rattle.flatgrammar.specs.Flat.{IsTaking, Starts, starts}
 use Rattle.flatgrammar.specs.Flat.{name_starts, Ends, ends, name_ends, Reads, reads, Calls, calls, Takes, in_turns}
 use Rattle.flatgrammar.specs.ToldBeginnings.{HasItem}

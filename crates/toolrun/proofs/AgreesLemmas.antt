@@ -1,6 +1,6 @@
 -- How inputs agree with what was seen, as more is seen and as a window slides.
 -- Serves: run_peg (right)
-use Rattle.std.proofs.Common.{◌≡◌, ℕ, suc, ◌+◌, ◌<◌, ◌≤◌, min, Bool, true, false, Option, Some, None, List, [], ◌++◌}
+use Rattle.std.proofs.Common.{◌≡◌, ℕ, ◌+◌, ◌<◌, ◌≤◌, min, Bool, true, false, Option, Some, None, List, [], ◌++◌}
 use Rattle.std.proofs.Common.{length, take, drop, refl, sym, ◌∙◌, ap, subst, arith, inl, inr, nat_lt, append_assoc}
 use Rattle.std.proofs.Common.{length-append, length-take, if◌then◌else◌}
 use Rattle.std.proofs.Math.Nat.{min-eq_left, min-eq_right}

@@ -15,6 +15,7 @@ use Rattle.toolrun.specs.Plan.{Behind, behind_notes, in_reply, IsPlan, does_of, 
 use Rattle.toolrun.specs.Reply.{Reply, refusal, text_alone, unexplained_fault, without_memory}
 use Rattle.toolrun.specs.Stop.{unread}
 use Rattle.toolrun.specs.Tasks.{checked_task, task_does}
+use Rattle.toolrun.specs.ToldNotes.{AreToldBefore, told_whole, told_part, ToldNotes}
 use Rattle.toolrun.specs.declared.plan.Task.{Task}
 use Rattle.toolrun.specs.declared.plan.Task.TheVariants.{Prints}
 use Rattle.toolrun.specs.declared.settings.Mode.{Mode}
@@ -73,11 +74,11 @@ module _ (States : Input → List ℕ → Reply → Type 0) (IsFault : ReadFault
 
 module _ {Grammar Sound : Type 0} {States : List ℕ → Settings → Input → List ℕ → Reply → Type 0}
     {HasFault : List ℕ → ReadFault → Type 0} {Explains : List ℕ → ReadFault → List ℕ → Type 0}
-    {IsRead : List ℕ → Grammar → Type 0}
+    {ExplainsNote : List ℕ → Option (List ℕ) → Said → List ℕ → Type 0} {IsRead : List ℕ → Grammar → Type 0}
     {IsChecked : List ℕ → Option (List ℕ) → List Said → Option Sound → Type 0}
     {IsPrintable : List ℕ → Grammar → List Said → Type 0} {canonical : Grammar → List ℕ}
     {Runs : Sound → Settings → Input → Reply → Type 0}
-    (law : AreStated States HasFault Explains IsRead IsChecked IsPrintable canonical Runs) (text : List ℕ)
+    (law : AreStated States HasFault Explains ExplainsNote IsRead IsChecked IsPrintable canonical Runs) (text : List ℕ)
     (settings : Settings)
   where
     abbrev Planned : List ℕ → Result (Task Grammar Sound) Stop → Type 0
@@ -119,30 +120,47 @@ module _ {Grammar Sound : Type 0} {States : List ℕ → Settings → Input → 
       some = λ input. (stopped NoMemory, refl);
     }
 
-    -- a grammar that was checked
-    pub plan_checked : (notes : List Said) (mode : Mode) (sound : Option Sound) → settings.mode ≡ mode → mode ≢ Print
-        → IsChecked text (option_copied settings.start) notes sound
-        → Planned (notes_text notes) (checked_task mode sound)
-    plan_checked notes mode None is other c = record {
-      stated = λ input reply r. rw r (behind_notes (law.noted text settings input notes c (rw is other)));
+    -- a grammar that was checked, and all whose notes are told
+    plan_whole : (notes : List Said) (told : List ℕ) (mode : Mode) (sound : Option Sound) → settings.mode ≡ mode
+        → mode ≢ Print → IsChecked text (option_copied settings.start) notes sound
+        → ToldNotes settings (ExplainsNote text) notes told → Planned told (checked_task mode sound)
+    plan_whole notes told mode None is other c t = record {
+      stated = λ input reply r. rw r (behind_notes (law.noted text settings input notes told c t (rw is other)));
       some = λ input. (stopped (Quiet status.Refused), refl);
     }
-    plan_checked notes Run (Some sound) is other c = record {
-      stated = λ input reply r. behind_notes (law.run text settings input notes sound reply c is r);
+    plan_whole notes told Run (Some sound) is other c t = record {
+      stated = λ input reply r. behind_notes (law.run text settings input notes told sound reply c t is r);
       some = λ input. law.replies text settings input notes sound c;
     }
-    plan_checked notes Check (Some sound) is other c = record {
-      stated = λ input reply r. rw r (behind_notes (law.checked text settings input notes sound c is));
+    plan_whole notes told Check (Some sound) is other c t = record {
+      stated = λ input reply r. rw r (behind_notes (law.checked text settings input notes told sound c t is));
       some = λ input. (stopped (Quiet status.Done), refl);
     }
-    plan_checked notes Print (Some sound) is other c = absurd (other refl)
+    plan_whole notes told Print (Some sound) is other c t = absurd (other refl)
+
+    pub plan_checked : (notes : List Said) (told : List ℕ) (mode : Mode) (sound : Option Sound)
+        (task : Result (Task Grammar Sound) Stop) → settings.mode ≡ mode → mode ≢ Print
+        → IsChecked text (option_copied settings.start) notes sound
+        → AreToldBefore settings (ExplainsNote text) notes told (checked_task mode sound) task → Planned told task
+    plan_checked notes told mode sound task is other c (told_whole t) = plan_whole notes told mode sound is other c t
+    plan_checked notes told mode sound task is other c (told_part t) = record {
+      stated = λ input reply r. rw r (behind_notes
+          (law.cut_notes text settings input notes told sound c t (rw is other)));
+      some = λ input. (stopped NoMemory, refl);
+    }
 
     -- a grammar that was read to be printed, with notes and without
-    pub plan_again : (grammar : Grammar) (notes : List Said) → settings.mode ≡ Print → notes ≢ []
-        → IsPrintable text grammar notes → Planned (notes_text notes) (Err (Quiet status.Refused))
-    plan_again grammar notes print some p = record {
-      stated = λ input reply r. rw r (behind_notes (law.again text settings input grammar notes p some print));
+    pub plan_again : (grammar : Grammar) (notes : List Said) (told : List ℕ) (task : Result (Task Grammar Sound) Stop)
+        → settings.mode ≡ Print → notes ≢ [] → IsPrintable text grammar notes
+        → AreToldBefore settings (ExplainsNote text) notes told (Err (Quiet status.Refused)) task → Planned told task
+    plan_again grammar notes told task print some p (told_whole t) = record {
+      stated = λ input reply r. rw r (behind_notes (law.again text settings input grammar notes told p some t print));
       some = λ input. (stopped (Quiet status.Refused), refl);
+    }
+    plan_again grammar notes told task print some p (told_part t) = record {
+      stated = λ input reply r. rw r (behind_notes
+          (law.cut_again text settings input grammar notes told p some t print));
+      some = λ input. (stopped NoMemory, refl);
     }
 
     pub plan_printed : (grammar : Grammar) (notes : List Said) → settings.mode ≡ Print → notes ≡ []

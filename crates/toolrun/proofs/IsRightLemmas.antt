@@ -1,6 +1,6 @@
 -- A run and its end were right.
 -- Serves: run_tool (right)
-use Rattle.std.proofs.Common.{◌≡◌, ℕ, Bool, true, false, Option, Some, None, List, [], ◌++◌, refl, sym, ◌∙◌, ap, subst}
+use Rattle.std.proofs.Common.{◌≡◌, ℕ, Bool, true, false, Option, Some, None, List, [], ◌++◌, refl, sym, ◌∙◌, ap}
 use Rattle.std.proofs.Common.{◌≢◌, ◌≤◌, ◌∷◌, arith, append_assoc, length, length-append}
 use Rattle.std.specs.Prelude.{Result, Ok, Err, IfSome}
 use Rattle.std.specs.Result.{is_err}

@@ -6,3 +6,4 @@ pub mod NotesTextLemmas
 pub mod OneStatementLemmas
 pub mod PrintsLemmas
 pub mod StopsAsLemmas
+pub mod ToldNotesLemmas

@@ -5,7 +5,6 @@ use Rattle.ruletable.specs.Notes.{Said}
 use Rattle.ruletable.specs.declared.fault.ReadFault.{ReadFault}
 use Rattle.ruletable.specs.declared.fault.ReadFault.TheVariants.{Memory}
 use Rattle.toolrun.specs.Explained.{Explained, ExplainedIf}
-use Rattle.toolrun.specs.NotesText.{notes_text}
 use Rattle.toolrun.specs.Reply.{Reply, notes_alone, refusal}
 use Rattle.toolrun.specs.declared.settings.Settings.{Settings}
 use Rattle.toolrun.specs.declared.settings.Mode.{Mode}
@@ -23,21 +22,22 @@ one-explained settings Why one a b g h = if-explained settings.explain Why one a
 
 -- Of a text, IsFault says what is wrong with it, Explains what is told of that, and Reads which definitions it spells.
 -- Of definitions, AreNotes and AreAgain say what is noted, IsRefused and IsSound which notes refuse them and which do
--- not, Runs what a run of them states, and printed what is written of them.
+-- not, Runs what a run of them states, and printed what is written of them. IsTold says what is told of notes.
 module _ {Definitions : Type 0} (IsFault : ReadFault → Type 0) (Explains : ReadFault → List ℕ → Type 0)
     (Reads : Definitions → Type 0)
-    (AreNotes IsRefused IsSound AreAgain : Definitions → List Said → Type 0) (Runs : Definitions → Reply → Type 0)
+    (AreNotes IsRefused IsSound AreAgain : Definitions → List Said → Type 0)
+    (IsTold : List Said → List ℕ → Type 0) (Runs : Definitions → Reply → Type 0)
     (printed : Definitions → Reply) (mode : Mode) where
   -- what is stated for a text that spells these definitions
   pub data StatesOf (definitions : Definitions) : List ℕ → Reply → Type 0 where
-    is_noted : (notes : List Said) → AreNotes definitions notes → IsRefused definitions notes → mode ≢ Print
-        → StatesOf definitions (notes_text notes) (notes_alone 2)
-    is_checked : (notes : List Said) → AreNotes definitions notes → IsSound definitions notes → mode ≡ Check
-        → StatesOf definitions (notes_text notes) (notes_alone 0)
-    is_run : (notes : List Said) (stated : Reply) → AreNotes definitions notes → IsSound definitions notes → mode ≡ Run
-        → Runs definitions stated → StatesOf definitions (notes_text notes) stated
-    is_again : (notes : List Said) → AreAgain definitions notes → notes ≢ [] → mode ≡ Print
-        → StatesOf definitions (notes_text notes) (notes_alone 2)
+    is_noted : (notes : List Said) (told : List ℕ) → AreNotes definitions notes → IsTold notes told
+        → IsRefused definitions notes → mode ≢ Print → StatesOf definitions told (notes_alone 2)
+    is_checked : (notes : List Said) (told : List ℕ) → AreNotes definitions notes → IsTold notes told
+        → IsSound definitions notes → mode ≡ Check → StatesOf definitions told (notes_alone 0)
+    is_run : (notes : List Said) (told : List ℕ) (stated : Reply) → AreNotes definitions notes → IsTold notes told
+        → IsSound definitions notes → mode ≡ Run → Runs definitions stated → StatesOf definitions told stated
+    is_again : (notes : List Said) (told : List ℕ) → AreAgain definitions notes → IsTold notes told → notes ≢ []
+        → mode ≡ Print → StatesOf definitions told (notes_alone 2)
     is_printed : AreAgain definitions [] → mode ≡ Print → StatesOf definitions [] (printed definitions)
 
   -- the text has a fault, which is told, or spells definitions
@@ -66,13 +66,16 @@ module _ {Definitions : Type 0} (IsFault : ReadFault → Type 0) (Explains : Rea
       → a ≡ b)
       (one_again : (definitions : Definitions) (a b : List Said) → AreAgain definitions a → AreAgain definitions b
       → a ≡ b)
+      (one_told : (notes : List Said) (a b : List ℕ) → IsTold notes a → IsTold notes b → a ≡ b)
       (one_verdict : (definitions : Definitions) (notes : List Said) → IsRefused definitions notes
       → IsSound definitions notes → ⊥)
       (one_run : (definitions : Definitions) (a b : Reply) → Runs definitions a → Runs definitions b → a.status ≢ 5
       → b.status ≢ 5 → a ≡ b) where
     module _ (definitions : Definitions) where
-      one_text : (a b : List Said) → AreNotes definitions a → AreNotes definitions b → notes_text a ≡ notes_text b
-      one_text a b g h = ap notes_text (one_notes definitions a b g h)
+      one_text : (a b : List Said) (s t : List ℕ) → AreNotes definitions a → AreNotes definitions b → IsTold a s
+          → IsTold b t → s ≡ t
+      one_text a b s t g h told other =
+          one_told b s t (subst (λ (ns : List Said). IsTold ns s) (one_notes definitions a b g h) told) other
 
       -- no list of notes refuses the grammar beside one that does not
       not_both : (a b : List Said) → AreNotes definitions a → AreNotes definitions b → IsRefused definitions a
@@ -82,37 +85,46 @@ module _ {Definitions : Type 0} (IsFault : ReadFault → Type 0) (Explains : Rea
 
       one_of : (notes others : List ℕ) (a b : Reply) → StatesOf definitions notes a → StatesOf definitions others b
           → a.status ≢ 5 → b.status ≢ 5 → (notes ≡ others) × (a ≡ b)
-      one_of notes others a b (is_noted v g bad mode) (is_noted w h bad' mode') m n = (one_text v w g h, refl)
-      one_of notes others a b (is_noted v g bad mode) (is_checked w h fine mode') m n =
+      one_of notes others a b (is_noted v s g told bad mode) (is_noted w t h other bad' mode') m n =
+          (one_text v w s t g h told other, refl)
+      one_of notes others a b (is_noted v s g told bad mode) (is_checked w t h other fine mode') m n =
           absurd (not_both v w g h bad fine)
-      one_of notes others a b (is_noted v g bad mode) (is_run w stated h fine mode' run) m n =
+      one_of notes others a b (is_noted v s g told bad mode) (is_run w t stated h other fine mode' run) m n =
           absurd (not_both v w g h bad fine)
-      one_of notes others a b (is_noted v g bad mode) (is_again w h some mode') m n = absurd (mode mode')
-      one_of notes others a b (is_noted v g bad mode) (is_printed h mode') m n = absurd (mode mode')
-      one_of notes others a b (is_checked v g fine mode) (is_noted w h bad mode') m n =
+      one_of notes others a b (is_noted v s g told bad mode) (is_again w t h other some mode') m n = absurd (mode mode')
+      one_of notes others a b (is_noted v s g told bad mode) (is_printed h mode') m n = absurd (mode mode')
+      one_of notes others a b (is_checked v s g told fine mode) (is_noted w t h other bad mode') m n =
           absurd (not_both w v h g bad fine)
-      one_of notes others a b (is_checked v g fine mode) (is_checked w h fine' mode') m n = (one_text v w g h, refl)
-      one_of notes others a b (is_checked v g fine mode) (is_run w stated h fine' mode' run) m n = absurd (cc)
-      one_of notes others a b (is_checked v g fine mode) (is_again w h some mode') m n = absurd (cc)
-      one_of notes others a b (is_checked v g fine mode) (is_printed h mode') m n = absurd (cc)
-      one_of notes others a b (is_run v stated g fine mode run) (is_noted w h bad mode') m n =
+      one_of notes others a b (is_checked v s g told fine mode) (is_checked w t h other fine' mode') m n =
+          (one_text v w s t g h told other, refl)
+      one_of notes others a b (is_checked v s g told fine mode) (is_run w t stated h other fine' mode' run) m n =
+          absurd (cc)
+      one_of notes others a b (is_checked v s g told fine mode) (is_again w t h other some mode') m n = absurd (cc)
+      one_of notes others a b (is_checked v s g told fine mode) (is_printed h mode') m n = absurd (cc)
+      one_of notes others a b (is_run v s stated g told fine mode run) (is_noted w t h other bad mode') m n =
           absurd (not_both w v h g bad fine)
-      one_of notes others a b (is_run v stated g fine mode run) (is_checked w h fine' mode') m n = absurd (cc)
-      one_of notes others a b (is_run v stated g fine mode run) (is_run w told h fine' mode' run') m n =
-          (one_text v w g h, one_run definitions a b run run' m n)
-      one_of notes others a b (is_run v stated g fine mode run) (is_again w h some mode') m n = absurd (cc)
-      one_of notes others a b (is_run v stated g fine mode run) (is_printed h mode') m n = absurd (cc)
-      one_of notes others a b (is_again v g some mode) (is_noted w h bad mode') m n = absurd (mode' mode)
-      one_of notes others a b (is_again v g some mode) (is_checked w h fine mode') m n = absurd (cc)
-      one_of notes others a b (is_again v g some mode) (is_run w stated h fine mode' run) m n = absurd (cc)
-      one_of notes others a b (is_again v g some mode) (is_again w h some' mode') m n =
-          (ap notes_text (one_again definitions v w g h), refl)
-      one_of notes others a b (is_again v g some mode) (is_printed h mode') m n =
+      one_of notes others a b (is_run v s stated g told fine mode run) (is_checked w t h other fine' mode') m n =
+          absurd (cc)
+      one_of notes others a b (is_run v s stated g told fine mode run)
+          (is_run w t stated' h other fine' mode' run') m n =
+          (one_text v w s t g h told other, one_run definitions a b run run' m n)
+      one_of notes others a b (is_run v s stated g told fine mode run) (is_again w t h other some mode') m n =
+          absurd (cc)
+      one_of notes others a b (is_run v s stated g told fine mode run) (is_printed h mode') m n = absurd (cc)
+      one_of notes others a b (is_again v s g told some mode) (is_noted w t h other bad mode') m n = absurd (mode' mode)
+      one_of notes others a b (is_again v s g told some mode) (is_checked w t h other fine mode') m n = absurd (cc)
+      one_of notes others a b (is_again v s g told some mode) (is_run w t stated h other fine mode' run) m n =
+          absurd (cc)
+      one_of notes others a b (is_again v s g told some mode) (is_again w t h other some' mode') m n = (
+        one_told w s t (subst (λ (ns : List Said). IsTold ns s) (one_again definitions v w g h) told) other,
+        refl,
+      )
+      one_of notes others a b (is_again v s g told some mode) (is_printed h mode') m n =
           absurd (some (one_again definitions v [] g h))
-      one_of notes others a b (is_printed g mode) (is_noted w h bad mode') m n = absurd (mode' mode)
-      one_of notes others a b (is_printed g mode) (is_checked w h fine mode') m n = absurd (cc)
-      one_of notes others a b (is_printed g mode) (is_run w stated h fine mode' run) m n = absurd (cc)
-      one_of notes others a b (is_printed g mode) (is_again w h some mode') m n =
+      one_of notes others a b (is_printed g mode) (is_noted w t h other bad mode') m n = absurd (mode' mode)
+      one_of notes others a b (is_printed g mode) (is_checked w t h other fine mode') m n = absurd (cc)
+      one_of notes others a b (is_printed g mode) (is_run w t stated h other fine mode' run) m n = absurd (cc)
+      one_of notes others a b (is_printed g mode) (is_again w t h other some mode') m n =
           absurd (some (one_again definitions w [] h g))
       one_of notes others a b (is_printed g mode) (is_printed h mode') m n = (refl, refl)
 

@@ -15,3 +15,4 @@ pub mod Stop
 pub mod Stopped
 pub mod Stream
 pub mod Tasks
+pub mod ToldNotes

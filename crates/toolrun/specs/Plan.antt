@@ -8,7 +8,7 @@ use Rattle.toolrun.specs.Reply.{Reply}
 use Rattle.toolrun.specs.Status.{code_of}
 use Rattle.toolrun.specs.Stop.{message_of, status_of}
 use Rattle.toolrun.specs.declared.plan.First.{First}
-use Rattle.toolrun.specs.declared.plan.First.TheVariants.{Notes, Fault}
+use Rattle.toolrun.specs.declared.plan.First.TheVariants.{Notes, Told, Fault}
 use Rattle.toolrun.specs.declared.stop.Stop.{Stop}
 
 -- a run that stops at once
@@ -23,6 +23,7 @@ does_of Does (Err stop) input reply = reply ≡ stopped stop
 -- the text of what is told before anything is read
 abbrev pub first_text : First → List ℕ
 first_text (Notes notes) = notes_text (map said_of notes.items)
+first_text (Told told) = told.items
 first_text (Fault fault why) = fault_text fault ++ why.items
 
 -- the reply that tells this text first

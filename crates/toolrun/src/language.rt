@@ -33,6 +33,9 @@ pub trait Language {
     /// A grammar that was checked and is not refused.
     type Sound: Drop;
 
+    /// Where a text says what explains notes on its grammar.
+    type Places: Drop;
+
     /// What is stated for a grammar's text, settings and an input: the notes, and what follows them.
     ghost states: { List ℕ → AllSettings → Input → List ℕ → Reply → Type 0 };
 
@@ -41,6 +44,12 @@ pub trait Language {
 
     /// What explains a fault of a text: the lines behind its message.
     ghost explains: { List ℕ → Fault → List ℕ → Type 0 };
+
+    /// What such places of a text are, where a name is given for the start rule.
+    ghost are_places: { List ℕ → Option (List ℕ) → Self.Places → Type 0 };
+
+    /// What explains a note on the grammar of a text, where a name is given for the start rule: the lines behind it.
+    ghost explains_note: { List ℕ → Option (List ℕ) → Said → List ℕ → Type 0 };
 
     /// What a text is read as.
     ghost is_read: { List ℕ → Self.Grammar → Type 0 };
@@ -66,6 +75,20 @@ pub trait Language {
     fn explain_fault(alloc: Global, text: &[u8], fault: ReadFault) -> Result<Vec<u8>, Memory>
         requires { has_fault text.now fault }
         ensures { IfOk result (λ why. explains text.now fault why.items) };
+
+    /// Returns where a text says what explains notes. `Memory` if an allocation fails.
+    fn places(alloc: Global, text: &[u8], start: Option<&str>) -> Result<Self::Places, Memory>
+        ensures { IfOk result (λ places. are_places text.now (option_copied start.entry) places) };
+
+    /// Returns the lines that explain a note. `Memory` if an allocation fails.
+    fn explain_note(
+        alloc: Global,
+        places: &Self::Places,
+        start: Option<&str>,
+        note: &Note,
+    ) -> Result<Vec<u8>, Memory>
+        ensures { IfOk result (λ why. (text : List ℕ) → are_places text (option_copied start.entry) places.now
+            → explains_note text (option_copied start.entry) (said_of note.now) why.items) };
 
     /// Checks a grammar, and notes what there is to say of it. `Memory` if an allocation fails.
     fn check(
@@ -103,5 +126,5 @@ pub trait Language {
 
     /// Says that what is stated follows from what is read, checked, printed and run. It does nothing.
     fn follows()
-        ensures { AreStated states has_fault explains is_read is_checked is_printable canonical runs };
+        ensures { AreStated states has_fault explains explains_note is_read is_checked is_printable canonical runs };
 }

@@ -10,13 +10,16 @@ mod plan;
 mod settings;
 mod status;
 mod stop;
+mod told;
 mod tool;
 
 pub use finish::{close as close_run, finish as end_run};
+pub use first::write_first;
 pub use language::{Checked, Language};
 pub use letters::Alphabet;
 pub use plan::{First, Plan, Task, plan_of};
 pub use settings::{DEFAULT_LIMIT, MAX_LIMIT, Mode, Settings};
 pub use status::Status;
 pub use stop::Stop;
+pub use told::{Told, told_notes};
 pub use tool::{act as act_on, run_tool};

@@ -1,6 +1,6 @@
 //! The notes on a grammar, on the error output.
 ghost use Rattle.std.specs.Prelude.{◌≡◌, map, false, IfOk};
-ghost use Rattle.ruletable.specs.Notes.{said_of};
+ghost use Rattle.ruletable.specs.Notes.{note_text, said_of};
 ghost use Rattle.ruletable.specs.Writing.{Flags, Writes};
 ghost use Rattle.toolrun.specs.NotesText.{notes_text};
 
@@ -31,6 +31,17 @@ fn text_of(alloc: Global, notes: &[Note]) -> Result<Vec<u8>, Memory>
 {
     let mut text = SinkOf::new(Vec::new(alloc));
     match write_lines(notes, &mut text) {
+        Ok(()) => Ok(text.into_inner()),
+        Err(_) => Err(Memory),
+    }
+}
+
+/// Returns the line of a note. `Memory` if an allocation fails.
+pub(crate) fn line_of(alloc: Global, note: &Note) -> Result<Vec<u8>, Memory>
+    ensures { IfOk result (λ text. text.items ≡ note_text (said_of note.now)) }
+{
+    let mut text = SinkOf::new(Vec::new(alloc));
+    match write_note(note, &mut text) {
         Ok(()) => Ok(text.into_inner()),
         Err(_) => Err(Memory),
     }

@@ -4,12 +4,14 @@ ghost use Rattle.ruletable.specs.Notes.{said_of};
 ghost use Rattle.toolrun.specs.Plan.{Behind, IsPlan, does_of, first_text};
 ghost use Rattle.toolrun.specs.Stop.{unread};
 ghost use Rattle.toolrun.specs.Tasks.{checked_task, task_does};
+ghost use Rattle.toolrun.specs.ToldNotes.{AreToldBefore};
 ghost use Rattle.toolrun.specs.declared.settings.Mode.TheVariants.{Print};
 
 use crate::language::{Checked, Language};
 use crate::settings::{Mode, Settings};
 use crate::status::Status;
 use crate::stop::{Stop, stop_unread};
+use crate::told::{Told, told_notes};
 use ruletable::{Memory, Note, ReadFault};
 use std::alloc::Global;
 
@@ -27,6 +29,8 @@ pub enum Task<G, S> {
 pub enum First {
     /// The notes on the grammar.
     Notes(Vec<Note>),
+    /// Notes on the grammar, each with the lines that explain it.
+    Told(Vec<u8>),
     /// The fault of its text, and the lines that explain it.
     Fault { fault: ReadFault, why: Vec<u8> },
 }
@@ -151,6 +155,36 @@ fn plan_fault<L: Language>(
     plan_explained::<L>(alloc, text, settings, fault)
 }
 
+/// Returns the plan that tells notes before a task, each explained if that is asked. Where an allocation fails in
+/// explaining them, the run stops behind those before.
+fn plan_noted<L: Language>(
+    alloc: Global,
+    text: &[u8],
+    settings: &Settings<'_>,
+    notes: Vec<Note>,
+    task: Result<Task<L::Grammar, L::Sound>, Stop>,
+) -> Plan<L::Grammar, L::Sound>
+    ensures { AreToldBefore settings.now (L.explains_note text.now) (map said_of notes.items)
+        (first_text result.first) task result.task }
+{
+    if !settings.explain {
+        return Plan {
+            first: First::Notes(notes),
+            task,
+        };
+    }
+    match told_notes::<L>(alloc, text, settings.start, notes.as_slice()) {
+        Told::Whole(told) => Plan {
+            first: First::Told(told),
+            task,
+        },
+        Told::Part(told) => Plan {
+            first: First::Told(told),
+            task: Err(Stop::NoMemory),
+        },
+    }
+}
+
 /// Reads and checks a grammar's text that is to be run, or to be checked alone.
 fn plan_checked<L: Language>(
     alloc: Global,
@@ -163,10 +197,10 @@ fn plan_checked<L: Language>(
 {
     L::follows();
     match checked::<L>(alloc, text, settings.start) {
-        Ok(Checked { notes, sound }) => Plan {
-            first: First::Notes(notes),
-            task: task_of(settings.mode, sound),
-        },
+        Ok(Checked { notes, sound }) => {
+            let task = task_of(settings.mode, sound);
+            plan_noted::<L>(alloc, text, settings, notes, task)
+        }
         Err(fault) => plan_fault::<L>(alloc, text, settings, fault),
     }
 }
@@ -190,10 +224,8 @@ fn plan_print<L: Language>(
                     task: Ok(Task::Prints(grammar)),
                 };
             }
-            Plan {
-                first: First::Notes(again),
-                task: Err(Stop::Quiet(Status::Refused)),
-            }
+            let task = Err(Stop::Quiet(Status::Refused));
+            plan_noted::<L>(alloc, text, settings, again, task)
         }
         Err(fault) => plan_fault::<L>(alloc, text, settings, fault),
     }

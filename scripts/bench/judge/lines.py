@@ -25,6 +25,8 @@ G['alpha']='w = 1*ALPHA\n'
 G['ss']='s = s s / "a"\n'
 G['right']='s = "a" s / "a"\n'
 G['left']='s = s "a" / "a"\n'
+G['dense']='b = LWSP ( "a" / b b ) 0*10[ b ]\nCRLF = b\n'
+G['both']='s = "a" s "a" / "a"\n'
 G['uri']='''URI-reference = URI / relative-ref
 URI           = scheme ":" hier-part [ "?" query ] [ "#" fragment ]
 hier-part     = "//" authority path-abempty / path-absolute / path-rootless / path-empty
@@ -126,6 +128,10 @@ def lines(name):
         return ["a" * 200] * 4
     if name == "right":
         return ["a" * 1000] * 4
+    if name in ("dense", "dense2500"):
+        return ["a" * (800 if name == "dense" else 2500)]
+    if name in ("both", "right10k"):
+        return ["a" * (10001 if name == "both" else 10000)]
     if name == "left":
         return ["a" * 10000] * 10
     if name == "kw":
@@ -148,7 +154,7 @@ def lines(name):
 
 def main():
     name = sys.argv[1]
-    grammar = G[{"ss50": "ss", "ss200": "ss"}.get(name, name)]
+    grammar = G[{"ss50": "ss", "ss200": "ss", "dense2500": "dense", "right10k": "right"}.get(name, name)]
     own = {line.split("=")[0].strip().lower() for line in grammar.splitlines()}
     core = [line for line in CORE.splitlines() if line.split("=")[0].strip().lower() not in own]
     sys.stdout.write(grammar + "\n".join(core) + "\n\0" + "".join(line + "\n" for line in lines(name)))

@@ -1,5 +1,6 @@
 //! Runs that read nothing: grammars that are refused, checked alone or printed, and what is said of them.
 
+use super::REDEFINED;
 use crate::ends::{Ends, run_over, settings_of};
 use gramtools::{DEFAULT_LIMIT, Mode, Program, Settings, Status};
 use std::alloc::Global;
@@ -33,8 +34,6 @@ fn check_row<R: Abort + AllocGlobal>(rt: &R, row: &Unread, step: usize) {
 
 /// Two rules that do not use one another.
 const TWO: &[u8] = b"S <- 'a' {x}\nT <- 'b' {y}";
-
-const REDEFINED: &[u8] = b"S <- 'a'\nS <- 'b'";
 
 const SECOND: &[u8] = b"rule 'T' defined but not used\n";
 
@@ -170,7 +169,7 @@ static UNREAD: [Unread; 33] = [
     (
         Mode::Run,
         None,
-        b"S <- 'a'\nS <- 'b'",
+        REDEFINED,
         b"",
         b"rule 'S' redefined\n",
         Status::Refused,

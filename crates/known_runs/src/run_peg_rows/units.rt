@@ -11,6 +11,9 @@ const L: usize = DEFAULT_LIMIT;
 /// The third byte of `bc` is compared, whether or not it matches.
 const THIRD: &[u8] = b"S <- 'a' {x} / \"bcd\" {y} / \"bc\" {z}";
 
+/// A letter, and the one behind it that it may not be.
+const LOOKAHEAD: &[u8] = b"S <- 'a' {y} !'b'";
+
 static ROWS: [Row; 33] = [
     // actions print in order
     (
@@ -228,9 +231,9 @@ static ROWS: [Row; 33] = [
         0,
     ),
     // no more is looked at or taken than the limit allows
-    (b"S <- 'a' {y} !'b'", 1, b"a", b"y\n", b"", Status::Done, 0),
+    (LOOKAHEAD, 1, b"a", b"y\n", b"", Status::Done, 0),
     (
-        b"S <- 'a' {y} !'b'",
+        LOOKAHEAD,
         1,
         b"ac",
         b"",

@@ -1,7 +1,7 @@
 //! Writers that fail at a byte or in a flush, and notes that stand before a run.
 ghost use Rattle.std.specs.Prelude.{None};
 
-use super::USERNAME;
+use super::{REDEFINED, USERNAME};
 use crate::ends::{Ended, Ends, run_over, settings_of};
 use fakes::{ALL, Takes, Tape};
 use gramtools::{DEFAULT_LIMIT, Mode, Program, SourceOf, Status, run_peg};
@@ -78,7 +78,7 @@ const REFUSED: Written = (
     b"",
 );
 
-const AGAIN: Written = (Mode::Print, b"S <- 'a'\nS <- 'b'", b"aaa", b"", b"");
+const AGAIN: Written = (Mode::Print, REDEFINED, b"aaa", b"", b"");
 
 /// Checks that the output holds a beginning where it fails at a byte, that this is told behind the notes, and that an
 /// output that failed is not flushed.

@@ -22,8 +22,8 @@ pad-requires c =
     let k = c.len.ensures.len in
     omega (arith, fit, l, n, k)
 
-pub returns : goal.returns
-returns c =
+pub returns-clause-graph : goal.returns-clause-graph
+returns-clause-graph c =
     let rules = rules_of c.args.rules.now in
     let first = first_known (rule_names rules) (option_to_list (option_copied c.args.rule))
     (names_of c.in_ok-names.names) (names_of c.judged_id.new.names)

@@ -1,3 +1,4 @@
+use Rattle.abnfrun.proofs.AbnfExplainedNotesLemmas.{explanation_is_one}
 use Rattle.abnfrun.proofs.AbnfStatesLemmas.{one_statement, long_is_told}
 use Rattle.abnfrun.proofs.laws.one_statement_of_abnf.Goals as goal
 
@@ -12,6 +13,8 @@ returns-clause-one_fault c = c.one_reading.ensures.one_fault
 
 pub returns-clause-whole : goal.returns-clause-whole
 returns-clause-whole c = one_statement c.one_explanation_of_abnf.ensures
+    (explanation_is_one c.one_note_explanation_of_abnf.ensures c.one_reading.ensures.definitions
+    c.one_name_chain.ensures)
     c.utf8_is_decided.ensures.one c.furthest_is_found.ensures.one
 
 pub returns-clause-long : goal.returns-clause-long

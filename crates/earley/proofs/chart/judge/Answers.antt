@@ -1,11 +1,11 @@
-use Rattle.std.proofs.Common.{◌↔◌, IsTrue, length, map, subst, arith}
+use Rattle.std.proofs.Common.{◌↔◌, map, subst, arith}
 use Rattle.std.proofs.lemmas.List.{length-map}
 use Rattle.abnfcheck.specs.Derivable.{RuleDerives}
+use Rattle.itemsets.proofs.ChartSetsLemmas.{set_bound}
+use Rattle.itemsets.specs.ChartSets.{set_at}
 use Rattle.flatgrammar.specs.Flat.{at}
 use Rattle.flatgrammar.specs.Holds.{Holds}
 use Rattle.letters.specs.Letters.{has}
-use Rattle.earley.specs.ChartSets.{set_at, IsSet}
-use Rattle.earley.proofs.ChartSetsLemmas.{set_bound}
 use Rattle.earley.proofs.chart.judge.Goals as goal
 
 chain : {A B C : Type 0} → (A ↔ B) → (B ↔ C) → A ↔ C
@@ -13,15 +13,11 @@ chain f g = ((λ a. g.0 (f.0 a)), (λ c. f.1 (g.1 c)))
 
 pub returns-clause-bound : goal.returns-clause-bound
 returns-clause-bound g c = λ j. set_bound c.args.flat.now (map g.L.Letter.number c.args.line.now) j
-    (set_at c.judge_by.new.chart j)
-    (subst (λ v. IsSet v (map g.L.Letter.number c.args.line.now) j (set_at c.judge_by.new.chart j))
-    c.in_ok-tables.ensures.view (c.in_ok-answer.ensures.sets j))
+    (set_at c.judge_by.new.chart j) (c.in_ok-answer.ensures.sets j)
 
 pub returns-clause-derives : goal.returns-clause-derives
 returns-clause-derives g c = λ rules judged lowered.
-    chain
-    (subst (λ v. IsTrue c.in_ok-answer.answer ↔ Holds v (map g.L.Letter.number c.args.line.now) (length c.args.line.now)
-    (at v.whole 1) 0) c.in_ok-tables.ensures.view c.in_ok-answer.ensures.answer)
+    chain c.in_ok-answer.ensures.answer
     (subst (λ n. Holds c.args.flat.now (map g.L.Letter.number c.args.line.now) n (at c.args.flat.now.whole 1) 0
     ↔ RuleDerives (has g.L.Letter.ALPHABET) rules judged (map g.L.Letter.number c.args.line.now))
     (length-map c.args.line.now g.L.Letter.number)

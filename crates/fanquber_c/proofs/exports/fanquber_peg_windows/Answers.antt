@@ -1,14 +1,22 @@
--- The runs of the windows, behind the notes of the plan.
+-- The runs of the windows, behind what is told once.
 use Rattle.pegrun.specs.Answers.{States}
 use Rattle.fanquber_c.specs.WindowsRun.{all_ran}
-use Rattle.fanquber_c.proofs.WindowRunsLemmas.{planned_is_memory, runs_told}
+use Rattle.fanquber_c.proofs.FrontTextLemmas.{front_is_memory, front_stands_first}
+use Rattle.fanquber_c.proofs.WindowRunsLemmas.{runs_told}
 use Rattle.toolrun.specs.Plan.{first_text}
 use Rattle.fanquber_c.proofs.exports.fanquber_peg_windows.Goals as goal
 
 pub returns : goal.returns
 returns c =
-    all_ran c.in-Some.settings (first_text c.plan_of-plan.result.first)
-    c.run_windows-texts.result.out.items c.run_windows-texts.result.err.items c.in-Some.ensures
-    (runs_told _ _ c.args.input.now (planned_is_memory (States c.args.grammar.now c.in-Some.settings) _ _
-    c.plan_of-plan.ensures) c.args.windows.now _ _ _ c.run_windows-texts.ensures)
-    c.hand_out.ensures.out c.hand_out.ensures.err c.hand_out.ensures.status
+    let settings = c.in-Some.settings in
+    let plan = c.plan_of.result in
+    let front = c.front_of-front.result in
+    let told = front.told.items in
+    let ran = c.run_windows-texts.ensures in
+    let states = States c.args.grammar.now settings in
+    all_ran settings told c.run_windows-texts.result.out.items ran.0 c.in-Some.ensures
+    (front_stands_first states _ (first_text plan.first) plan.task front.plan.task told c.front_of-front.ensures
+    c.plan_of.ensures)
+    (runs_told _ _ c.args.input.now (front_is_memory states _ (first_text plan.first) plan.task front.plan.task told
+    c.front_of-front.ensures c.plan_of.ensures) c.args.windows.now _ _ _ ran.1)
+    c.hand_out.ensures.out (rw ran.2 at c.hand_out.ensures.err) c.hand_out.ensures.status

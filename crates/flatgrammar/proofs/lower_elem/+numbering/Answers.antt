@@ -21,52 +21,63 @@ use Rattle.flatgrammar.proofs.lower_elem.+numbering.Goals.{number-in-Name+in_ok-
 pub number-returns : goal.number-returns
 number-returns t c = elim c.match-e.branch [
   | number-in-Text+in_ok-text_sets-in-Text w ↦ rw (w.in-Text.is, w.node-is, element-Text)
-      (o.leaf_numbers _ _ (rw (w.nodes-is, w.node-is) at c.in_ok-n.ensures.nodes)
-      (rw w.nodes-is at c.in_ok-n.ensures.number) (o.as_many _ _ _
+      (o.leaf_numbers _ _ (rw (w.numbered-is, w.node-is) at c.in_ok-n.ensures.nodes)
+      (rw w.numbered-is at c.in_ok-n.ensures.number)
+      (rw (w.numbered-is, w.node-is) at c.in_ok-n.ensures.nulls) (o.as_many _ _ _
       (rw w.deref.ensures.value at w.in_ok-text_sets-in-Text.ensures))
       (shows_text (rw w.deref.ensures.value at w.in_ok-text_sets-in-Text.ensures))
       (r.text_marked _ _ _ _ (rw w.deref-in-Text.ensures.value at w.no_bytes.ensures)))
   | number-in-Values+in_ok-value_sets-in-Values w ↦ rw (w.in-Values.is, w.node-is, element-Values)
-      (o.leaf_numbers _ _ (rw (w.nodes-is, w.node-is) at c.in_ok-n.ensures.nodes)
-      (rw w.nodes-is at c.in_ok-n.ensures.number) (o.as_many _ _ _
+      (o.leaf_numbers _ _ (rw (w.numbered-is, w.node-is) at c.in_ok-n.ensures.nodes)
+      (rw w.numbered-is at c.in_ok-n.ensures.number)
+      (rw (w.numbered-is, w.node-is) at c.in_ok-n.ensures.nulls) (o.as_many _ _ _
       (rw w.deref-in-Values.ensures.value at w.in_ok-value_sets-in-Values.ensures))
       (shows_values (rw w.deref-in-Values.ensures.value at w.in_ok-value_sets-in-Values.ensures))
       (r.values_marked _ _ _ (rw w.deref-in-Values-2.ensures.value at w.no_values.ensures)))
   | number-in-Range+in_ok-range_set-in-Range w ↦ rw (w.in-Range.is, w.node-is, element-Range)
-      (o.leaf_numbers _ _ (rw (w.nodes-is, w.node-is) at c.in_ok-n.ensures.nodes)
-      (rw w.nodes-is at c.in_ok-n.ensures.number) (rw (w.in_ok-range_set-in-Range.ensures) refl)
+      (o.leaf_numbers _ _ (rw (w.numbered-is, w.node-is) at c.in_ok-n.ensures.nodes)
+      (rw w.numbered-is at c.in_ok-n.ensures.number)
+      (rw (w.numbered-is, w.node-is) at c.in_ok-n.ensures.nulls) (rw (w.in_ok-range_set-in-Range.ensures) refl)
       (rw (w.in_ok-range_set-in-Range.ensures) shows_range) (m.range_tells _ _ _))
   | number-in-Concat+in_ok-made-in-Concat w ↦ rw (w.in-Concat.is, w.node-is, element-Concat)
-      (o.over_all _ _ (rw (w.nodes-is, w.node-is) at c.in_ok-n.ensures.nodes)
-      (rw w.nodes-is at c.in_ok-n.ensures.number)
+      (o.over_all _ _ (rw (w.numbered-is, w.node-is) at c.in_ok-n.ensures.nodes)
+      (rw w.numbered-is at c.in_ok-n.ensures.number)
+      (rw (w.numbered-is, w.node-is) at c.in_ok-n.ensures.nulls)
       (rw w.deref-in-Concat.ensures.value at w.in_ok-made-in-Concat.ensures) (λ many. omega (arith, many)) shows_concat
       (λ all some. m.concat_tells _ _ _ all))
   | number-in-Alt+in_ok-made-in-Alt w ↦ rw (w.in-Alt.is, w.node-is, element-Alt)
-      (o.over_all _ _ (rw (w.nodes-is, w.node-is) at c.in_ok-n.ensures.nodes)
-      (rw w.nodes-is at c.in_ok-n.ensures.number)
+      (o.over_all _ _ (rw (w.numbered-is, w.node-is) at c.in_ok-n.ensures.nodes)
+      (rw w.numbered-is at c.in_ok-n.ensures.number)
+      (rw (w.numbered-is, w.node-is) at c.in_ok-n.ensures.nulls)
       (rw w.deref-in-Alt.ensures.value at w.in_ok-made-in-Alt.ensures) (λ many. omega (arith, many)) shows_alt
       (λ all some. m.alt_tells _ _ _ some))
   | number-in-Rep+in_ok-made-in-Rep w ↦ rw (w.in-Rep.is, w.node-is, element-Rep)
-      (o.numbers_over _ _ (rw (w.nodes-is, w.node-is) at c.in_ok-n.ensures.nodes)
-      (rw w.nodes-is at c.in_ok-n.ensures.number) (rw w.deref-in-Rep.ensures at w.in_ok-made-in-Rep.ensures)
+      (o.numbers_over _ _ (rw (w.numbered-is, w.node-is) at c.in_ok-n.ensures.nodes)
+      (rw w.numbered-is at c.in_ok-n.ensures.number)
+      (rw (w.numbered-is, w.node-is) at c.in_ok-n.ensures.nulls)
+      (rw w.deref-in-Rep.ensures at w.in_ok-made-in-Rep.ensures)
       (let wide = w.repeat.ensures.width in omega (arith, wide)) (λ told sp. w.repeat.ensures.shows _ _ _ told sp)
       (λ t. w.is_empty_repeat.ensures _ _ t))
   | number-in-Opt+in_ok-number-in-Opt w ↦ rw (w.in-Opt.is, w.node-is, element-Opt)
-      (o.numbers_over _ _ (rw (w.nodes-is, w.node-is) at c.in_ok-n.ensures.nodes)
-      (rw w.nodes-is at c.in_ok-n.ensures.number) (rw w.deref-in-Opt.ensures at w.in_ok-number-in-Opt.ensures)
+      (o.numbers_over _ _ (rw (w.numbered-is, w.node-is) at c.in_ok-n.ensures.nodes)
+      (rw w.numbered-is at c.in_ok-n.ensures.number)
+      (rw (w.numbered-is, w.node-is) at c.in_ok-n.ensures.nulls)
+      (rw w.deref-in-Opt.ensures at w.in_ok-number-in-Opt.ensures)
       (omega arith) (λ told sp. shows_opt sp) (λ t. m.opt_tells _ _))
   | number-in-Name+in_ok-id-in-Name w ↦ let id = w.in_ok-id-in-Name.ensures
       ∙ ap (λ v. id_of (rules_of c.args.rules.now) v) w.deref-in-Name.ensures.value in
       rw (w.in-Name.is, w.node-is, element-Name) (o.leaf_numbers _ _
-      (rw (w.nodes-is, w.node-is) at c.in_ok-n.ensures.nodes) (rw w.nodes-is at c.in_ok-n.ensures.number) refl
+      (rw (w.numbered-is, w.node-is) at c.in_ok-n.ensures.nodes) (rw w.numbered-is at c.in_ok-n.ensures.number)
+      (rw (w.numbered-is, w.node-is) at c.in_ok-n.ensures.nulls) refl
       (shows_name id) (rw (w.mark.ensures, id) (c.requires.marks _)))
   | number-in-Prose w ↦ rw (w.in-Prose.is, w.node-is, element-Prose)
-      (o.leaf_numbers _ _ (rw (w.nodes-is, w.node-is) at c.in_ok-n.ensures.nodes)
-      (rw w.nodes-is at c.in_ok-n.ensures.number) refl shows_prose (m.prose_tells _ _))
+      (o.leaf_numbers _ _ (rw (w.numbered-is, w.node-is) at c.in_ok-n.ensures.nodes)
+      (rw w.numbered-is at c.in_ok-n.ensures.number)
+      (rw (w.numbered-is, w.node-is) at c.in_ok-n.ensures.nulls) refl shows_prose (m.prose_tells _ _))
 ]
 
 pub number_all-loop-member-init : goal.number_all-loop-member-init
-number_all-loop-member-init t c = o.no_members _ _ _ _ c.new-numbers.ensures.items
+number_all-loop-member-init t c = o.no_members _ _ _ _ _ c.new-numbers.ensures.items
 
 pub number_all-loop-member-preserved : goal.number_all-loop-member-preserved
 number_all-loop-member-preserved t c = rw (c.in_ok-push.ensures.items)

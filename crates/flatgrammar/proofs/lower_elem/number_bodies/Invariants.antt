@@ -4,4 +4,5 @@ use Rattle.flatgrammar.specs.Numbers.{AreCut}
 use Rattle.flatgrammar.proofs.lower_elem.number_bodies.Given as goal
 
 abbrev pub invariant-loop-id : goal.invariant-loop-id
-invariant-loop-id l = AreCut (rules_of l.rules) l.limit l.id (nodes_of l.nodes.items) l.bodies.items
+invariant-loop-id l = AreCut (rules_of l.rules) l.limit l.id (nodes_of l.numbered.nodes.items) l.numbered.nulls.items
+    l.bodies.items

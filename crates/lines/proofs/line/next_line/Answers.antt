@@ -1,7 +1,8 @@
 -- What was found in the window, or was not.
-use Rattle.std.proofs.Common.{◌≤◌, length, arith}
+use Rattle.std.proofs.Common.{◌≤◌, length, refl, arith}
 use Rattle.feed.specs.Feed.{bytes_of, capacity_of}
-use Rattle.lines.proofs.NextLineLemmas.{held_within, line_found, not_found, without_fits, without_short}
+use Rattle.lines.proofs.NextLineLemmas.{found_has_end, held_taken, held_within, line_found, not_found}
+use Rattle.lines.proofs.NextLineLemmas.{without_fits, without_short}
 use Rattle.lines.proofs.line.next_line.Goals as goal
 
 pub returns-in-Some-clause-follows : goal.returns-in-Some-clause-follows
@@ -12,6 +13,20 @@ returns-in-Some-clause-follows g c = λ limit before input room a.
       line_found c.args.feed.now c.args.end limit before input room within a c.in-Some.k c.in-Some.ensures,
       held_within c.args.feed.now c.args.end limit before input room within a,
     )
+
+pub returns-in-Some-clause-still : goal.returns-in-Some-clause-still
+returns-in-Some-clause-still g c = λ some. record {
+  bytes = refl;
+  capacity = refl;
+  flow = refl;
+  allowance = refl;
+  reader = refl;
+  loan = refl;
+}
+
+pub returns-in-Some-clause-filled : goal.returns-in-Some-clause-filled
+returns-in-Some-clause-filled g c = λ none limit before input room a.
+    absurd (found_has_end c.args.end c.in-Some.k (bytes_of c.args.feed.now) c.in-Some.ensures none)
 
 pub returns-in-Some-clause-fits : goal.returns-in-Some-clause-fits
 returns-in-Some-clause-fits g c = let is = c.in-Some.ensures in let high = is.0.high in omega (arith, high)
@@ -31,6 +46,11 @@ returns-in-Some-find-clause-follows g c = λ limit before input room a.
           c.in-Some-find.ensures,
       held_within feed c.args.end limit before input room c.fill-held.ensures.within a,
     )
+
+pub returns-in-Some-find-clause-filled : goal.returns-in-Some-find-clause-filled
+returns-in-Some-find-clause-filled g c = λ none limit before input room a.
+    held_taken c.fill-held.new.self c.args.end limit before input room c.fill-held.ensures.within a
+    c.fill-held.result c.fill-held.ensures.held
 
 pub returns-in-Some-find-clause-fits : goal.returns-in-Some-find-clause-fits
 returns-in-Some-find-clause-fits g c =
@@ -52,6 +72,11 @@ returns-in-None-clause-follows g c = λ limit before input room a.
           c.fill-held.result c.fill-held.ensures.held),
       held_within feed c.args.end limit before input room c.fill-held.ensures.within a,
     )
+
+pub returns-in-None-clause-filled : goal.returns-in-None-clause-filled
+returns-in-None-clause-filled g c = λ none limit before input room a.
+    held_taken c.fill-held.new.self c.args.end limit before input room c.fill-held.ensures.within a
+    c.fill-held.result c.fill-held.ensures.held
 
 pub returns-in-None-clause-fits : goal.returns-in-None-clause-fits
 returns-in-None-clause-fits g c = rw (c.without_end.ensures, c.len-len.ensures.len)

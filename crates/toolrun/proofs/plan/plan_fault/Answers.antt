@@ -1,5 +1,5 @@
 -- The fault is told alone.
-use Rattle.std.proofs.Common.{◌≡◌, true, false, rules}
+use Rattle.std.proofs.Common.{◌≡◌, false, rules}
 use Rattle.ruletable.specs.declared.fault.ReadFault.TheVariants.{Memory}
 use Rattle.toolrun.proofs.IsPlanLemmas.{plan_unread, plan_without_memory}
 use Rattle.toolrun.proofs.plan.plan_fault.Goals as goal

@@ -17,6 +17,6 @@ returns-then-is_empty g c =
 pub returns-else-is_empty : goal.returns-else-is_empty
 returns-else-is_empty g c =
     plan_again c.follows.ensures c.args.text.now c.args.settings.now c.in-Ok.field-0.grammar
-    (map said_of c.in-Ok.field-0.again.items) c.requires
+    (map said_of c.in-Ok.field-0.again.items) _ _ c.requires
     (some_said c.in-Ok.field-0.again.items (grind (arith, nat_tests, c.in-Ok.field-0.again.ok, c.if-is_empty.ensures)))
-    c.in-Ok.ensures.read
+    c.in-Ok.ensures.read c.plan_noted.ensures

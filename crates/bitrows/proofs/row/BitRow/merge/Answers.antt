@@ -1,20 +1,13 @@
 -- Both rows hold the words of the third, and each word gets its bits.
 use Rattle.std.proofs.Common.{◌≡◌, ◌↔◌, ◌⊎◌, ℕ, ◌+◌, ◌-◌, ◌<◌, ◌^◌, ap, sym, ◌∙◌, subst, Contains}
-use Rattle.std.proofs.Common.{length, slice_index_or, inl, ⊎_elim, bit_and, bit_or}
-use Rattle.std.proofs.Common.{Bool, true, ◌==◌, Result, Ok, Err, OnErr, Vec}
+use Rattle.std.proofs.Common.{slice_index_or, inl, ⊎_elim, bit_and, bit_or}
+use Rattle.std.proofs.Common.{Result, Ok, Err, OnErr}
 use Rattle.std.specs.Int.{bit_not, w64}
-use Rattle.std.specs.Vec.{vec_len}
-use Rattle.std.proofs.lemmas.Bool.Decides.{Decides-eqb}
 use Rattle.std.proofs.lemmas.List.{with_items_is}
 use Rattle.bitrows.specs.RowMembers.{word_in, members}
 use Rattle.bitrows.proofs.WordInLemmas.{or_in, missing_in, small_words}
-use Rattle.bitrows.proofs.RowMembersLemmas.{members_or, members_missing, members_same, none_found}
+use Rattle.bitrows.proofs.RowMembersLemmas.{members_or, members_missing, members_same, none_found, no_length}
 use Rattle.bitrows.proofs.row.BitRow.merge.Goals as goal
-
-no_length : {Z : Type 0} (words : Vec ℕ Z) (r : Bool) → r ≡ true → r ≡ (vec_len words == 0) → length words.items ≡ 0
-no_length words r held is =
-    let size : vec_len words ≡ 0 = (Decides-eqb (vec_len words) 0).0 (sym is ∙ held) in
-    sym words.ok.0 ∙ size
 
 any_err : {T E : Type 0} (P : Type 0) → P → (r : Result T E) → OnErr r P
 any_err P p (Ok v) = tt

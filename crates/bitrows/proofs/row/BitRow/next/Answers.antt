@@ -21,7 +21,7 @@ use Rattle.std.proofs.Common.{refl, nat_le}
 use Rattle.std.specs.Int.{bit_at}
 use Rattle.std.proofs.lemmas.Bool.Decides.{nat_tests}
 use Rattle.bitrows.specs.RowMembers.{word_in}
-use Rattle.bitrows.proofs.RowMembersLemmas.{lowest_first, none_lowest, lowest_is, members_within}
+use Rattle.bitrows.proofs.RowMembersLemmas.{lowest_first, none_lowest, lowest_is, members_from, members_within}
 use Rattle.bitrows.proofs.row.BitRow.next.Goals as goal
 
 pub returns-in-Some-clause-found : goal.returns-in-Some-clause-found
@@ -45,11 +45,14 @@ returns-in-Some-clause-first c x h le =
 pub loop-i-init : goal.loop-i-init
 loop-i-init c =
     let same = c.word.ensures ∙ ap (λ v. word_in c.self.inside.first v (c.args.from / 64)) c.deref.ensures.value in
+    let most = c.max-i.ensures in
     record {
-      beyond = omega arith;
-      later = λ x h le. none_lowest c.self.inside.first c.self.inside.words.items (c.args.from / 64)
-          (c.args.from % 64) x (λ i low. sym (ap (λ w. bit_at w i) same) ∙ c.in_default.ensures.none i low)
-          (subst (λ v. Contains v x) (sym c.self.view_is) h) (omega (arith, le));
+      beyond = omega (arith, most);
+      later = λ x h le. let there = subst (λ v. Contains v x) (sym c.self.view_is) h in
+          let past = none_lowest c.self.inside.first c.self.inside.words.items (c.args.from / 64) (c.args.from % 64) x
+          (λ i low. sym (ap (λ w. bit_at w i) same) ∙ c.in_default.ensures.none i low) there (omega (arith, le)) in
+          let low = members_from c.self.inside.first c.self.inside.words.items x there in
+          omega (arith, most, past, low);
     }
 
 pub loop-i-preserved : goal.loop-i-preserved

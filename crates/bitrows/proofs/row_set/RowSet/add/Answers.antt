@@ -1,8 +1,8 @@
 -- The place gets the numbers, and stands in the queue.
 use Rattle.std.proofs.Common.{◌≡◌, ◌↔◌, ◌⊎◌, ℕ, ◌<◌, [], length, slice_index_or, subst, sym, ◌∙◌, arith, Contains, set}
-use Rattle.bitrows.specs.RowSets.{HasSome, AddsAt}
+use Rattle.bitrows.specs.RowSets.{HasAt, HasSome, AddsAt}
 use Rattle.bitrows.proofs.WordInLemmas.{default_same}
-use Rattle.bitrows.proofs.RowSetsLemmas.{queued_more, queued_set, adds_at}
+use Rattle.bitrows.proofs.RowSetsLemmas.{queued_more, queued_set, adds_at, adds_none}
 use Rattle.bitrows.proofs.row_set.RowSet.add.Goals as goal
 
 pub invariant_of-self : goal.invariant_of-self
@@ -26,6 +26,17 @@ invariant_of-self-2 c =
     c.args.place lt c.enqueue.new.queue.items c.merge.new.self c.merge.new.pending c.enqueue.ensures.kept
     c.enqueue.ensures.only (subst (λ v. Contains c.enqueue.new.queue.items c.args.place ⊎ HasSome v c.args.place)
     c.deref.ensures.value c.in_ok-enqueue.ensures.there)
+
+pub returns-then-covers : goal.returns-then-covers
+returns-then-covers c =
+    let all = c.self.inside.rows.items in
+    let p = c.args.place in
+    let lt : p < length all = subst (λ v. p < length v.all) (sym c.self.view_is) c.requires in
+    let row : c.index.result.now ≡ slice_index_or all p [] = c.index.ensures
+    ∙ default_same all p c.index.result.now [] lt in
+    adds_none p (λ k. Contains c.args.found.now k) c.args.self.now
+    (λ k h. subst (λ v. HasAt v.all p k) c.self.view_is
+    (subst (λ r. Contains r k) row (c.covers.ensures c.if-covers.true k h)))
 
 pub returns : goal.returns
 returns c =

@@ -1,10 +1,15 @@
-use Rattle.std.proofs.Common.{◌≡◌, length, sym, subst}
-use Rattle.earley.specs.ChartSets.{set_at}
-use Rattle.flatgrammar.proofs.CallOfLemmas.{below_get}
-use Rattle.earley.proofs.ChartSetsLemmas.{size_past}
+use Rattle.std.proofs.Common.{length, sym, ap, ◌∙◌}
+use Rattle.itemsets.specs.ChartSets.{set_at}
+use Rattle.earley.specs.RowCharts.{chart_by}
+use Rattle.earley.proofs.RowChartLemmas.{row_size}
+use Rattle.earley.proofs.RowStepLemmas.{found_at}
 use Rattle.earley.proofs.chart.Chart.items.Goals as goal
 
-pub returns-in-None : goal.returns-in-None
-returns-in-None c = sym (subst (λ v. length (set_at v c.args.j) ≡ 0) c.self.view_is
-    (size_past c.self.inside.tables c.self.inside.sets c.args.j
-    (below_get c.self.inside.sets c.args.j (sym c.in-None.ensures))))
+pub returns-in-Some-get : goal.returns-in-Some-get
+returns-in-Some-get c =
+    let look = rw c.deref.ensures.value at c.in-Some-get.ensures.lookup in
+    let is = found_at c.in-Some.rows.sets.items c.args.j c.in-Some-get.set.now look.0 look.1 in
+    row_size c.in-Some.rows c.args.j c.in-Some-get.set.now is
+    (c.self.invariant.size c.in-Some.rows c.in-Some.is c.args.j c.in-Some-get.set.now is)
+    ∙ ap (λ v. length (set_at v c.args.j))
+    (sym (ap (λ o. chart_by o c.self.inside.items) c.in-Some.is) ∙ c.self.view_is)

@@ -1,5 +1,5 @@
 -- What was read so far.
-use Rattle.std.proofs.Common.{◌≡◌, ◌-◌, ◌+◌, length}
+use Rattle.std.proofs.Common.{◌-◌, ◌+◌, length}
 use Rattle.feed.specs.Feed.{Grows, IsTrueOfReader, SameLoan}
 use Rattle.feed.proofs.GrowsLemmas.{open_count}
 use Rattle.feed.proofs.feed.Feed.fill.Given as goal

@@ -2,7 +2,7 @@ use Rattle.std.proofs.Common.{subst}
 use Rattle.flatgrammar.specs.NodeSteps.{flat_of}
 use Rattle.stacks.specs.Stacks.{AreUncounted}
 use Rattle.lazydfa.specs.RunVerdicts.{IsOne}
-use Rattle.lazydfa.specs.ClassBounds.{AreClasses}
+use Rattle.letterclasses.specs.ClassBounds.{AreClasses}
 use Rattle.lazydfa.proofs.AreHopsLemmas.{memo_none}
 use Rattle.lazydfa.proofs.automaton.Automaton.with_room.Goals as goal
 

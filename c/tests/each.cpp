@@ -1,0 +1,45 @@
+// each: run_each of fanquber.hpp gives what run gives for each input, and a judge tells what run tells of its grammar.
+#include "../examples/fanquber.hpp"
+
+#include <iostream>
+
+static int wrong = 0;
+
+#define CHECK(holds) \
+    do { \
+        if (!(holds)) { \
+            std::cout << __FILE__ << ":" << __LINE__ << ": not so: " << #holds << "\n"; \
+            wrong = 1; \
+        } \
+    } while (0)
+
+static void each_is_a_run(const std::string &text, bool explain) {
+    fanquber::grammar of(fanquber::tool::peg, text);
+    of.settings().explain = explain;
+    const std::vector<std::string_view> inputs = {"tea", "", "milk2", std::string_view(), "tea"};
+    const std::vector<fanquber::reply> got = of.run_each(inputs);
+    CHECK(got.size() == inputs.size());
+    for (std::size_t at = 0; at < got.size(); at++) {
+        const fanquber::reply want = of.run(inputs[at]);
+        CHECK(got[at].out == want.out && got[at].err == want.err && got[at].status == want.status);
+    }
+    CHECK(of.run_each({}).empty());
+}
+
+int main() {
+    const std::string words = "S <- < [a-z]+ > { yytext }\n";
+    for (const std::string &text : {words, words + "T <- 'x'\n", std::string("S <- T\n"), std::string("S <- )\n")}) {
+        each_is_a_run(text, false);
+        each_is_a_run(text, true);
+    }
+    const std::string long_action = "S <- . { " + std::string(900, 'x') + " }\n";
+    const fanquber::grammar of(fanquber::tool::peg, long_action);
+    const std::vector<fanquber::reply> got = of.run_each({"a", "bcdefgh"});
+    CHECK(got[0].out.size() == 901 && got[1].out.size() == 7 * 901);
+    const fanquber::grammar two(fanquber::tool::abnf, "a = \"x\"\nb = \"y\"\n");
+    fanquber::grammar explained = two;
+    explained.settings().explain = true;
+    CHECK(fanquber::judge(two).notes() == two.run("").err);
+    CHECK(fanquber::judge(explained).notes() == explained.run("").err);
+    return wrong;
+}

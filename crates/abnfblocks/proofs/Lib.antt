@@ -1,0 +1,4 @@
+pub mod BlockTextLemmas
+pub mod FrontLinesLemmas
+pub mod PieceLemmas
+pub mod OneFoundLemmas

@@ -1,0 +1,3 @@
+pub mod FoundBlocks
+pub mod RuleLines
+pub mod TextBlocks

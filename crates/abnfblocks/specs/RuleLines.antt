@@ -1,0 +1,42 @@
+-- What a line begins with.
+use Prim.Native.Char.{code}
+use Rattle.std.specs.Prelude.{ℕ, ◌==◌, ◌||◌, ◌&&◌, Bool, false, List, [], ◌∷◌, drop}
+use Rattle.std.specs.Char.{is_ascii_alphabetic}
+use Rattle.std.specs.List.{prefix_len}
+use Rattle.abnfread.specs.AbnfSlices.{continues_name}
+
+-- a space or a tab
+abbrev pub is_margin : ℕ → Bool
+is_margin b = (b == code " ") || (b == code "\t")
+
+-- how many spaces and tabs begin the line
+abbrev pub margin_of : List ℕ → ℕ
+margin_of line = prefix_len is_margin line
+
+abbrev pub behind_margin : List ℕ → List ℕ
+behind_margin line = drop (margin_of line) line
+
+-- what stands behind the bytes of a name
+abbrev pub behind_name : List ℕ → List ℕ
+behind_name text = drop (prefix_len continues_name text) text
+
+abbrev pub begins_by : ℕ → List ℕ → Bool
+begins_by byte [] = false
+begins_by byte (b ∷ bytes) = b == byte
+
+abbrev pub begins_letter : List ℕ → Bool
+begins_letter [] = false
+begins_letter (b ∷ bytes) = is_ascii_alphabetic b
+
+-- behind its margin the line is a comment
+abbrev pub begins_comment : List ℕ → Bool
+begins_comment line = begins_by (code ";") (behind_margin line)
+
+-- behind its margin stand a rule's name and `=`, perhaps with spaces between
+abbrev pub begins_rule_line : List ℕ → Bool
+begins_rule_line line =
+    begins_letter (behind_margin line) && begins_by (code "=") (behind_margin (behind_name (behind_margin line)))
+
+-- of a line that begins so, `/` stands right behind `=`
+abbrev pub adds_rule : List ℕ → Bool
+adds_rule line = begins_by (code "/") (drop 1 (behind_margin (behind_name (behind_margin line))))

@@ -1,0 +1,123 @@
+//! What a line begins with.
+ghost use Rattle.std.specs.Prelude.{◌≡◌, ◌≤◌, length, drop};
+ghost use Rattle.std.specs.List.{prefix_len};
+ghost use Rattle.abnfread.specs.AbnfSlices.{continues_name};
+ghost use Rattle.abnfblocks.specs.RuleLines.{is_margin, margin_of, behind_margin, begins_rule_line, begins_comment};
+ghost use Rattle.abnfblocks.specs.RuleLines.{begins_by as begins, begins_letter as letter_begins, behind_name};
+ghost use Rattle.abnfblocks.specs.RuleLines.{adds_rule};
+
+// Whether the byte belongs to a margin: a space or a tab.
+fn is_space(b: u8) -> bool
+    ensures { result ≡ is_margin b }
+{
+    b == b' ' || b == b'\t'
+}
+
+// Whether the byte goes on with a rule's name.
+fn is_inner(b: u8) -> bool
+    ensures { result ≡ continues_name b }
+{
+    b.is_ascii_alphanumeric() || b == b'-'
+}
+
+/// Returns the margin of a line: how many spaces and tabs begin it.
+pub fn margin(line: &[u8]) -> usize
+    ensures margin { result ≡ margin_of line.now }
+    ensures within { result ≤ length line.now }
+{
+    let mut size = 0;
+    let mut rest = line;
+    while let Some((first, tail)) = rest.split_first() {
+        if !is_space(*first) {
+            break;
+        }
+        rest = tail;
+        size += 1;
+    }
+    size
+}
+
+// How many bytes of a name begin the text.
+fn name_size(text: &[u8]) -> usize
+    ensures size { result ≡ prefix_len continues_name text.now }
+    ensures within { result ≤ length text.now }
+{
+    let mut size = 0;
+    let mut rest = text;
+    while let Some((first, tail)) = rest.split_first() {
+        if !is_inner(*first) {
+            break;
+        }
+        rest = tail;
+        size += 1;
+    }
+    size
+}
+
+// What stands behind the margin.
+fn after_margin(line: &[u8]) -> &[u8]
+    ensures { result.now ≡ behind_margin line.now }
+{
+    &line[margin(line)..]
+}
+
+// What stands behind the bytes of a name.
+fn after_name(text: &[u8]) -> &[u8]
+    ensures { result.now ≡ behind_name text.now }
+{
+    &text[name_size(text)..]
+}
+
+// Whether the byte begins the text.
+fn begins_by(text: &[u8], byte: u8) -> bool
+    ensures { result ≡ begins byte text.now }
+{
+    match text.first() {
+        Some(b) => *b == byte,
+        None => false,
+    }
+}
+
+// Whether a letter begins the text.
+fn begins_letter(text: &[u8]) -> bool
+    ensures { result ≡ letter_begins text.now }
+{
+    match text.first() {
+        Some(b) => b.is_ascii_alphabetic(),
+        None => false,
+    }
+}
+
+// Whether the line begins with a comment, behind its margin.
+pub(crate) fn is_comment(line: &[u8]) -> bool
+    ensures { result ≡ begins_comment line.now }
+{
+    begins_by(after_margin(line), b';')
+}
+
+// Whether the line begins with a rule's name and `=`, behind its margin.
+pub(crate) fn is_rule_line(line: &[u8]) -> bool
+    ensures { result ≡ begins_rule_line line.now }
+{
+    let text = after_margin(line);
+    begins_letter(text) && begins_by(after_margin(after_name(text)), b'=')
+}
+
+// The text without its first byte.
+fn after_first(text: &[u8]) -> &[u8]
+    ensures { result.now ≡ drop 1 text.now }
+{
+    match text.split_first() {
+        Some((_, rest)) => rest,
+        None => text,
+    }
+}
+
+/// Returns whether `/` stands right behind the `=` of a line that begins, behind its margin, with a rule's name and
+/// `=`.
+pub fn adds_to_rule(line: &[u8]) -> bool
+    ensures { result ≡ adds_rule line.now }
+{
+    let sign = after_margin(after_name(after_margin(line)));
+    begins_by(after_first(sign), b'/')
+}

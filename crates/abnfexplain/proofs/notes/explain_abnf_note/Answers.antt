@@ -1,0 +1,13 @@
+use Rattle.std.proofs.Common.{option_copied}
+use Rattle.noteplaces.proofs.ExplainedNoteLemmas.{places-explain}
+use Rattle.abnfread.specs.AbnfKinds.{ends_list}
+use Rattle.abnfread.specs.AbnfSlices.{White, First}
+use Rattle.ruletable.specs.Notes.{said_of}
+use Rattle.ruletable.specs.declared.lines.LineRule.TheVariants.{Lf}
+use Rattle.ruletable.specs.declared.table.NameCase.TheVariants.{Fold}
+use Rattle.abnfexplain.specs.AbnfNoteLines.{sign_of}
+use Rattle.abnfexplain.proofs.notes.explain_abnf_note.Goals as goal
+
+pub returns : goal.returns
+returns c = λ text are. places-explain White First ends_list sign_of Lf Fold text c.args.places.now
+    (option_copied c.args.start) (said_of c.args.note.now) c.in_ok-why.why.items are c.in_ok-why.ensures

@@ -1,0 +1,11 @@
+use Rattle.noteplaces.proofs.ExplainedNoteLemmas.{explained-one}
+use Rattle.abnfread.specs.AbnfKinds.{ends_list}
+use Rattle.abnfread.specs.AbnfSlices.{White, First}
+use Rattle.ruletable.specs.declared.lines.LineRule.TheVariants.{Lf}
+use Rattle.ruletable.specs.declared.table.NameCase.TheVariants.{Fold}
+use Rattle.abnfexplain.specs.AbnfNoteLines.{sign_of}
+use Rattle.abnfexplain.proofs.notes.one_note_explanation_of_abnf.Goals as goal
+
+pub returns : goal.returns
+returns c = λ text start note a b. explained-one White First ends_list sign_of Lf Fold text (c.one_list.ensures text)
+    start note a b

@@ -1,0 +1,29 @@
+-- What explains a note on the grammar of a text.
+use Rattle.std.specs.Prelude.{ℕ, List, Option}
+use Rattle.abnfread.specs.AbnfKinds.{ends_list}
+use Rattle.abnfread.specs.AbnfSlices.{White, First}
+use Rattle.abnfread.specs.declared.kind.AbnfKind.{AbnfKind}
+use Rattle.abnfread.specs.declared.kind.AbnfKind.TheVariants.{Name, Is, Adds, Prose}
+use Rattle.noteplaces.specs.ExplainedNotes.{ArePlaces, IsNoteExplained}
+use Rattle.noteplaces.specs.declared.places.Places.{Places}
+use Rattle.noteplaces.specs.declared.sign.Sign.{Sign}
+use Rattle.noteplaces.specs.declared.sign.Sign.TheVariants as signs
+use Rattle.ruletable.specs.Notes.{Said}
+use Rattle.ruletable.specs.declared.lines.LineRule.TheVariants.{Lf}
+use Rattle.ruletable.specs.declared.table.NameCase.TheVariants.{Fold}
+
+-- what a token is to the definitions of a grammar: a name right before `=` or `=/` is defined, and any other is used
+abbrev pub sign_of : AbnfKind → Sign
+sign_of Name = signs.Name
+sign_of Is = signs.Defines
+sign_of Adds = signs.Adds
+sign_of Prose = signs.Prose
+sign_of _ = signs.Other
+
+-- the places of a text's definitions
+abbrev pub AreAbnfPlaces : List ℕ → Places → Type 0
+AreAbnfPlaces text = ArePlaces White First ends_list sign_of Lf Fold text
+
+-- the lines behind a note, where that name is given for the judged rule
+abbrev pub ExplainsNote : List ℕ → Option (List ℕ) → Said → List ℕ → Type 0
+ExplainsNote text = IsNoteExplained White First ends_list sign_of Lf Fold text

@@ -1,0 +1,33 @@
+-- The line that tells by which rules a name is reached.
+use Rattle.std.specs.Prelude.{ℕ, zero, suc, ◌-◌, List, [], ◌∷◌, ◌++◌, Option, Some, None, length, drop, codes, decimal}
+use Rattle.std.specs.List.{flat_map}
+use Rattle.picture.specs.ShownBytes.{cut}
+use Rattle.abnfexplain.specs.declared.chain_lines.TheConstants.{MAX_LAST}
+
+-- a name as it is told
+abbrev pub in_quotes : List ℕ → List ℕ
+in_quotes name = codes "'" ++ (cut name ++ codes "'")
+
+-- how many are left out, if there are any
+abbrev pub left_out : ℕ → List ℕ
+left_out zero = []
+left_out (suc n) = codes " > " ++ (decimal (suc n) ++ codes " more")
+
+-- names behind the first one
+abbrev pub names_behind : List (List ℕ) → List ℕ
+names_behind names = flat_map (λ name. codes " > " ++ in_quotes name) names
+
+-- how many are left out, and the last ones
+abbrev pub last_told : List (List ℕ) → List ℕ
+last_told names = left_out (length names - MAX_LAST) ++ names_behind (drop (length names - MAX_LAST) names)
+
+-- a chain of at least two names
+abbrev pub chain_line : List (List ℕ) → List ℕ
+chain_line [] = []
+chain_line (name ∷ []) = []
+chain_line (name ∷ next ∷ names) = codes "  reached by " ++ (in_quotes name ++ (last_told (next ∷ names) ++ codes "\n"))
+
+-- the line of a chain, if there is one
+abbrev pub chain_told : Option (List (List ℕ)) → List ℕ
+chain_told None = []
+chain_told (Some names) = chain_line names

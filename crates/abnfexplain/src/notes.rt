@@ -1,0 +1,64 @@
+//! What explains notes.
+ghost use Rattle.std.specs.Prelude.{◌≡◌, ℕ, List, Option, IfOk, option_copied};
+ghost use Rattle.ruletable.specs.Notes.{Said, said_of};
+ghost use Rattle.abnfexplain.specs.AbnfNoteLines.{AreAbnfPlaces, ExplainsNote, sign_of as the_sign};
+
+use abnfread::AbnfKind;
+use lexer::one_list;
+use noteplaces::{Places, Sign, Signs, explain_note, places_of};
+use ruletable::{LineRule, Memory, NameCase, Note};
+use std::alloc::Global;
+
+/// What the tokens of ABNF are to the definitions of a grammar.
+pub struct AbnfSigns;
+
+impl Signs<AbnfKind> for AbnfSigns {
+    ghost sign_of = { the_sign };
+
+    fn sign(kind: AbnfKind) -> Sign {
+        match kind {
+            AbnfKind::Name => Sign::Name,
+            AbnfKind::Is => Sign::Defines,
+            AbnfKind::Adds => Sign::Adds,
+            AbnfKind::Prose => Sign::Prose,
+            _ => Sign::Other,
+        }
+    }
+}
+
+/// Returns where a grammar's text defines its rules.
+///
+/// # Errors
+/// `Memory` if an allocation fails.
+pub fn abnf_places(alloc: Global, text: &[u8]) -> Result<Places, Memory>
+    ensures { IfOk result (λ places. AreAbnfPlaces text.now places) }
+{
+    places_of::<AbnfKind, AbnfSigns>(alloc, text, LineRule::Lf, NameCase::Fold)
+}
+
+/// Returns the lines that explain a note on a grammar, where a name may be given for the start rule: where the note's
+/// rule is first defined, and where it is defined again; the use by which a name is noted that no rule has;
+/// the first prose of a rule. There are none for notes of other kinds.
+///
+/// # Errors
+/// `Memory` if an allocation fails.
+pub fn explain_abnf_note(
+    alloc: Global,
+    places: &Places,
+    start: Option<&str>,
+    note: &Note,
+) -> Result<Vec<u8>, Memory>
+    ensures { IfOk result (λ why. (text : List ℕ) → AreAbnfPlaces text places.now
+        → ExplainsNote text (option_copied start.entry) (said_of note.now) why.items) }
+{
+    let why = explain_note(alloc, places, start, note)?;
+    Ok(why)
+}
+
+/// Says that at most one text explains a note on the grammar of a text.
+pub fn one_note_explanation_of_abnf()
+    ensures { (text : List ℕ) (start : Option (List ℕ)) (note : Said) (a b : List ℕ) → ExplainsNote text start note a
+        → ExplainsNote text start note b → a ≡ b }
+{
+    one_list::<AbnfKind>();
+}

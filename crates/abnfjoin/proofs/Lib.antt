@@ -1,0 +1,3 @@
+pub mod AllSameLemmas
+pub mod FatesLemmas
+pub mod JoinedLemmas

@@ -1,0 +1,4 @@
+pub mod GivenRules
+pub mod JoinedRules
+pub mod OnlyProse
+pub mod SameElements

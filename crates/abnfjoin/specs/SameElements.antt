@@ -1,0 +1,42 @@
+-- Elements that are the same but for case: names compare without case (RFC 5234, section 2.1), and so do the letters of
+-- a text that folds (RFC 7405, section 2.1). White space between elements is nothing that an element has.
+use Rattle.std.specs.Prelude.{ℕ, ◌==◌, ◌&&◌, bytes_eq, Bool, true, false, List, Option, None, Some, not, if◌then◌else◌}
+use Rattle.std.specs.Str.{str_to_ascii_lowercase}
+use Rattle.abnfread.specs.Element.{Element, Elements, Text, Values, Range, Concat, Alt, Rep, Opt, Name, Prose, none}
+use Rattle.abnfread.specs.Element.{more}
+
+abbrev pub same_bound : Option ℕ → Option ℕ → Bool
+same_bound None None = true
+same_bound (Some n) (Some m) = n == m
+same_bound None (Some m) = false
+same_bound (Some n) None = false
+
+abbrev pub same_folded : List ℕ → List ℕ → Bool
+same_folded a b = bytes_eq (str_to_ascii_lowercase a) (str_to_ascii_lowercase b)
+
+abbrev pub same_spelling : Bool → List ℕ → List ℕ → Bool
+same_spelling folds a b = if folds then same_folded a b else bytes_eq a b
+
+abbrev pub same_flag : Bool → Bool → Bool
+same_flag true b = b
+same_flag false b = not b
+
+abbrev mutual
+  pub same_as : Element → Element → Bool
+  same_as (Text f a) (Text g b) = same_flag f g && same_spelling f a b
+  same_as (Values a) (Values b) = bytes_eq a b
+  same_as (Range l h) (Range m k) = (l == m) && (h == k)
+  same_as (Concat xs) (Concat ys) = all_same xs ys
+  same_as (Alt xs) (Alt ys) = all_same xs ys
+  same_as (Rep a b x) (Rep c d y) = (a == c) && (same_bound b d && same_as x y)
+  same_as (Opt x) (Opt y) = same_as x y
+  same_as (Name a) (Name b) = same_folded a b
+  same_as (Prose a) (Prose b) = bytes_eq a b
+  same_as _ _ = false
+
+  -- the same elements, in the same order
+  pub all_same : Elements → Elements → Bool
+  all_same none none = true
+  all_same (more x xs) (more y ys) = same_as x y && all_same xs ys
+  all_same none (more y ys) = false
+  all_same (more x xs) none = false

@@ -1,0 +1,52 @@
+-- What explains a note on the grammar of a text: its lines, and by which rules the judged one reaches its name.
+use Rattle.std.specs.Prelude.{◌≡◌, ℕ, List, [], ◌++◌, Option}
+use Rattle.ruletable.specs.Notes.{Said}
+use Rattle.ruletable.specs.Rules as table
+use Rattle.ruletable.specs.declared.note.NoteKind.{NoteKind}
+use Rattle.ruletable.specs.declared.note.NoteKind.TheVariants.{Undefined, Prose}
+use Rattle.ruletable.specs.declared.table.NameCase.TheVariants.{Fold}
+use Rattle.abnfread.specs.AbnfReading.{Reads}
+use Rattle.abnfread.specs.AbnfViews.{rules_of}
+use Rattle.abnfread.specs.Element.{Definition}
+use Rattle.abnfread.specs.declared.elem.Elem.{Elem}
+use Rattle.abnfcheck.specs.NameChains.{AreNameChains, IsNameChain}
+use Rattle.abnfexplain.specs.AbnfNoteLines.{AreAbnfPlaces, ExplainsNote}
+use Rattle.abnfexplain.specs.ChainLines.{chain_told}
+use Rattle.abnfrun.specs.AbnfNoted.{all_rules}
+use Rattle.abnfrun.specs.declared.note_places.AbnfPlaces.{AbnfPlaces}
+
+-- the line of the chain to a name, where that name is given for the judged rule
+pub record IsReachLine (text : List ℕ) (start : Option (List ℕ)) (name line : List ℕ) : Type 0 where
+  pub definitions : List Definition
+  pub reads : Reads text definitions
+  pub chain : Option (List (List ℕ))
+  pub is_chain : IsNameChain (all_rules definitions) start name chain
+  pub is : line ≡ chain_told chain
+
+-- it stands behind notes on names that no rule has, and on rules that hold prose
+abbrev pub IsReachBehind : List ℕ → Option (List ℕ) → NoteKind → List ℕ → List ℕ → Type 0
+IsReachBehind text start Undefined name line = IsReachLine text start name line
+IsReachBehind text start Prose name line = IsReachLine text start name line
+IsReachBehind text start _ name line = line ≡ []
+
+-- the lines explain the note
+pub record ExplainsAbnfNote (text : List ℕ) (start : Option (List ℕ)) (note : Said) (why : List ℕ) : Type 0 where
+  pub lines : List ℕ
+  pub line : List ℕ
+  pub explains : ExplainsNote text start note lines
+  pub behind : IsReachBehind text start note.kind note.name line
+  pub is : why ≡ lines ++ line
+
+-- the code's rules are those of a text, and behind them the core rules that it leaves alone
+pub record AreAllRules (text : List ℕ) (rules : table.Rules Elem) : Type 0 where
+  pub definitions : List Definition
+  pub reads : Reads text definitions
+  pub folds : rules.names ≡ Fold
+  pub all : rules_of rules ≡ all_rules definitions
+
+-- the code's places are those of a text, with the chains from its judged rule
+pub record AreNotePlaces (text : List ℕ) (start : Option (List ℕ)) (found : AbnfPlaces) : Type 0 where
+  pub definitions : List Definition
+  pub reads : Reads text definitions
+  pub places : AreAbnfPlaces text found.places
+  pub chains : AreNameChains (all_rules definitions) start found.chains

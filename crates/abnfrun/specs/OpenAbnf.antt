@@ -1,0 +1,45 @@
+-- What opening a grammar's text gives.
+use Rattle.std.specs.Prelude.{◌≡◌, ℕ, true, false, List, [], ◌∷◌, ◌++◌, length, Option, MatchOption, min, ◌+◌}
+use Rattle.abnfcheck.specs.AbnfGrammar.{Grammar}
+use Rattle.abnfread.specs.AbnfReading.{Reads}
+use Rattle.abnfread.specs.AbnfViews.{rules_of}
+use Rattle.abnfread.specs.Element.{Definition}
+use Rattle.abnfrun.specs.AbnfNoted.{all_rules, judged_of, AreNotesOn, IsRefusedFor, rule_given}
+use Rattle.abnfrun.specs.AbnfReply.{form_of}
+use Rattle.abnfrun.specs.OpenJudge.{OpenJudge}
+use Rattle.lines.specs.InputLines.{answer_text, says_yes, status_after, taken_at}
+use Rattle.lines.specs.declared.answers.Answer.{Answer}
+use Rattle.ruletable.specs.Notes.{Said}
+use Rattle.toolrun.specs.Input.{Input}
+use Rattle.toolrun.specs.Reply.{Reply}
+use Rattle.toolrun.specs.Status.{code_of}
+use Rattle.toolrun.specs.declared.settings.Settings.{Settings}
+
+-- lines are judged by the rules of these definitions, the core rules behind them, as settings ask
+pub record IsJudgeOf (definitions : List Definition) (settings : Settings) (judge : OpenJudge) : Type 0 where
+  pub rules : rules_of judge.grammar.rules ≡ all_rules definitions
+  pub judged : judge.grammar.judged ≡ judged_of definitions (rule_given settings)
+  pub letters : judge.letters ≡ settings.letters
+  pub viable : judge.viable ≡ settings.viable
+  pub limit : judge.limit ≡ settings.limit
+
+-- The text is a grammar with these notes, which is refused; or lines are judged by it.
+pub record IsOpened (text : List ℕ) (settings : Settings) (notes : List Said) (judge : Option OpenJudge) : Type 0 where
+  pub definitions : List Definition
+  pub reads : Reads text definitions
+  pub are_notes : AreNotesOn definitions (rule_given settings) notes
+  pub ready : MatchOption judge (IsRefusedFor definitions (rule_given settings))
+      (λ j. (IsRefusedFor definitions (rule_given settings) → ⊥) × IsJudgeOf definitions settings j)
+
+-- the input that is one line with its end
+abbrev pub line_alone : Settings → List ℕ → Input
+line_alone settings line = record { bytes = line ++ (form_of settings).end ∷ []; fault = false }
+
+-- the reply to the input that is one line: its answer
+abbrev pub answer_alone : Settings → List ℕ → Answer → Reply
+answer_alone settings line said = record {
+  out = answer_text said;
+  err = [];
+  status = code_of (status_after (says_yes said));
+  taken = length line + 1;
+}

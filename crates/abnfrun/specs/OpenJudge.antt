@@ -1,0 +1,23 @@
+-- A grammar that judges lines, and what it judges them by.
+use Rattle.std.specs.Prelude.{◌≡◌, ℕ, Bool, true, false, Option, IfSome}
+use Rattle.abnfread.specs.AbnfViews.{rules_of}
+use Rattle.abnfcheck.specs.AbnfGrammar.{Grammar}
+use Rattle.flatgrammar.specs.Flat.{Flat}
+use Rattle.flatgrammar.specs.Lowered.{IsLowered}
+use Rattle.flatgrammar.specs.ToldBeginnings.{TellsBeginnings}
+use Rattle.letters.specs.Letters.{has}
+use Rattle.letters.specs.declared.alphabet.Alphabet.{Alphabet}
+
+-- a grammar, what the letters of a line are, whether viable beginnings are told, and how many bytes a line may have
+pub record OpenJudge : Type 0 where
+  pub grammar : Grammar
+  pub letters : Alphabet
+  pub viable : Bool
+  pub limit : ℕ
+
+-- The flat grammar is that of the grammar, for what is told of lines; the automaton, if there is one, is of it.
+pub record IsReadyFor (grammar : Grammar) (letters : Alphabet) (viable : Bool) (flat : Flat) (automaton : Option Flat)
+    : Type 0 where
+  pub lowered : viable ≡ false → IsLowered (rules_of grammar.rules) grammar.judged flat
+  pub tells : viable ≡ true → TellsBeginnings (has letters) (rules_of grammar.rules) grammar.judged flat
+  pub same : IfSome automaton (λ a. a ≡ flat)

@@ -1,0 +1,25 @@
+//! The law of a grammar that was read once: what it answers is what a run tells.
+ghost use Rattle.std.specs.Prelude.{◌≡◌, ◌≤◌, ℕ, List, Some, length};
+ghost use Rattle.abnfrun.specs.AbnfExplainedNotes.{ExplainsAbnfNote};
+ghost use Rattle.abnfread.specs.AbnfViews.{rules_of};
+ghost use Rattle.abnfrun.specs.AbnfAnswers.{AbnfStates};
+ghost use Rattle.abnfrun.specs.AbnfReply.{IsAnswerTo, form_of};
+ghost use Rattle.abnfrun.specs.OpenAbnf.{IsOpened, answer_alone, line_alone};
+ghost use Rattle.abnfrun.specs.OpenJudge.{OpenJudge};
+ghost use Rattle.lines.specs.InputLines.{HasNoEnd};
+ghost use Rattle.lines.specs.declared.answers.Answer.{Answer};
+ghost use Rattle.ruletable.specs.Notes.{Said};
+ghost use Rattle.toolrun.specs.ToldNotes.{ToldNotes};
+ghost use Rattle.toolrun.specs.declared.settings.Mode.TheVariants.{Run};
+ghost use Rattle.toolrun.specs.declared.settings.Settings.{Settings};
+
+/// Says that the answer of an open grammar to a line is what a run of its text states for that line alone, behind its
+/// notes. It does nothing.
+pub fn answers_as_a_run()
+    ensures { (text line : List ℕ) (settings : Settings) (notes : List Said) (told : List ℕ) (judge : OpenJudge)
+        (said : Answer) → settings.mode ≡ Run → IsOpened text settings notes (Some judge) →
+        ToldNotes settings (ExplainsAbnfNote text) notes told → HasNoEnd (form_of settings).end line →
+        length line ≤ judge.limit →
+        IsAnswerTo judge.letters judge.viable (rules_of judge.grammar.rules) judge.grammar.judged line said →
+        AbnfStates text settings (line_alone settings line) told (answer_alone settings line said) }
+{}

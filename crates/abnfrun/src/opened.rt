@@ -1,0 +1,139 @@
+//! A grammar in ABNF that is read once, and judges lines as often as asked.
+ghost use Rattle.std.specs.Prelude.{◌≡◌, ◌≤◌, length, map, option_copied, IfErr, IfOk};
+ghost use Rattle.abnfread.specs.AbnfReading.{IsFaultOf};
+ghost use Rattle.abnfread.specs.AbnfViews.{rules_of};
+ghost use Rattle.abnfrun.specs.AbnfLanguage.{IsChecked};
+ghost use Rattle.abnfrun.specs.AbnfReply.{IsAnswerTo};
+ghost use Rattle.abnfrun.specs.OpenAbnf.{IsOpened};
+ghost use Rattle.ruletable.specs.Notes.{said_of};
+
+use crate::abnf_language::AbnfLanguage;
+use crate::line_judge::{LineJudge, Work, lowered};
+use abnfcheck::SoundAbnf;
+use abnfread::read_abnf;
+use flatgrammar::Flat;
+use letters::Alphabet;
+use lines::{Answer, Judge};
+use ruletable::{Memory, Note, ReadFault};
+use std::alloc::Global;
+use std::marker::Model;
+use toolrun::{Checked, Language, Settings};
+
+/// A grammar that judges lines, with what settings ask of it. It keeps what it found out of the lines before.
+#[derive(Drop)]
+pub struct AbnfJudge {
+    grammar: SoundAbnf,
+    letters: Alphabet,
+    viable: bool,
+    flat: Flat,
+    work: Work,
+}
+
+impl Model for AbnfJudge {
+    ghost use Rattle.std.specs.Coded.{codes};
+    ghost use Rattle.abnfread.specs.contracts.elem.Elem as e;
+    ghost use Rattle.abnfrun.specs.OpenJudge.{OpenJudge, IsReadyFor};
+
+    ghost Value = { OpenJudge };
+
+    ghost coded = { Prim.hlevel (codes, e.the_row.coded) };
+
+    ghost view = { λ j. record { grammar = j.grammar; letters = j.letters; viable = j.viable; limit = j.flat.limit } };
+
+    ghost invariant = { λ j. IsReadyFor j.grammar j.letters j.viable j.flat j.work.engines.automaton };
+}
+
+impl AbnfJudge {
+    /// Returns how many bytes a line may have.
+    pub fn limit(&self) -> usize
+        ensures { result ≡ self.now.limit }
+    {
+        self.flat.limit()
+    }
+
+    /// Returns the answer to a line, as a run of the grammar tells it. `Memory` if an allocation fails.
+    pub fn judge(&mut self, line: &[u8]) -> Result<Answer, Memory>
+        requires within { length line.now ≤ self.old.limit }
+        ensures same { self.new ≡ self.old }
+        ensures answer { IfOk result (IsAnswerTo self.old.letters self.old.viable (rules_of self.old.grammar.rules)
+            self.old.grammar.judged line.now) }
+    {
+        let judge = LineJudge {
+            grammar: &self.grammar,
+            letters: self.letters,
+            viable: self.viable,
+            flat: &self.flat,
+        };
+        judge.judge(&mut self.work, line)
+    }
+}
+
+/// What opening a grammar gave.
+#[derive(Drop)]
+pub struct OpenedAbnf {
+    /// What there is to say of the grammar, in order.
+    pub notes: Vec<Note>,
+    /// What judges lines by it, unless it is refused.
+    pub judge: Option<AbnfJudge>,
+}
+
+/// Reads a grammar's text, and checks it.
+fn checked_text(
+    alloc: Global,
+    text: &[u8],
+    start: Option<&str>,
+) -> Result<Checked<SoundAbnf>, ReadFault>
+    ensures checked { IfOk result (λ c. IsChecked text.now (option_copied start.entry) (map said_of c.notes.items)
+        c.sound) }
+    ensures fault { IfErr result (λ f. IsFaultOf text.now f) }
+{
+    let grammar = read_abnf(alloc, text)?;
+    match AbnfLanguage::check(alloc, grammar, start) {
+        Ok(checked) => Ok(checked),
+        Err(Memory) => Err(ReadFault::Memory),
+    }
+}
+
+/// Returns what judges lines by a grammar as settings ask. `Memory` if an allocation fails.
+fn judge_by(alloc: Global, grammar: SoundAbnf, settings: &Settings<'_>) -> Result<AbnfJudge, Memory>
+    ensures { IfOk result (λ j. j ≡ record {
+      grammar = grammar;
+      letters = settings.now.letters;
+      viable = settings.now.viable;
+      limit = settings.now.limit;
+    }) }
+{
+    let flat = lowered(alloc, &grammar, settings)?;
+    let work = Work::new(alloc, &flat);
+    Ok(AbnfJudge {
+        grammar,
+        letters: settings.letters,
+        viable: settings.viable,
+        flat,
+        work,
+    })
+}
+
+/// Reads and checks a grammar's text, and returns the notes on it and what judges lines by it as settings ask: by the
+/// rule that they name, within their limit. They say what letters are, and whether viable beginnings are told; all else
+/// of them is not looked at. The text's fault if it is not a grammar, or if an allocation fails.
+pub fn open_abnf(
+    alloc: Global,
+    text: &[u8],
+    settings: &Settings<'_>,
+) -> Result<OpenedAbnf, ReadFault>
+    ensures opened { IfOk result (λ o. IsOpened text.now settings.now (map said_of o.notes.items) o.judge) }
+    ensures fault { IfErr result (λ f. IsFaultOf text.now f) }
+{
+    let Checked { notes, sound } = checked_text(alloc, text, settings.start)?;
+    let Some(grammar) = sound else {
+        return Ok(OpenedAbnf { notes, judge: None });
+    };
+    match judge_by(alloc, grammar, settings) {
+        Ok(judge) => Ok(OpenedAbnf {
+            notes,
+            judge: Some(judge),
+        }),
+        Err(Memory) => Err(ReadFault::Memory),
+    }
+}

@@ -1,0 +1,162 @@
+-- What a run writes, and how it stops.
+-- Serves: run_join
+use Rattle.std.proofs.Common.{◌≡◌, ℕ, Bool, true, Option, List, [], ◌∷◌, length, refl, sym, ap, subst, arith}
+use Rattle.std.specs.Prelude.{Result, Ok, Err}
+use Rattle.std.specs.Io.KnownBytes.{Appends}
+use Rattle.ruletable.proofs.AppendsLemmas.{Appends-same}
+use Rattle.ruletable.specs.Writing.{AppendsPart}
+use Rattle.ruletable.specs.declared.fault.ReadFault.{ReadFault}
+use Rattle.ruletable.specs.declared.fault.ReadFault.TheVariants.{Syntax, Depth, CodePredicate, TooLong, Memory}
+use Rattle.ruletable.specs.declared.fault.ReadFault.TheVariants.{NumberTooLarge}
+use Rattle.ruletable.specs.declared.sink.WriteFault.{WriteFault}
+use Rattle.abnfread.specs.AbnfReading.{IsFaultOf, Reads}
+use Rattle.abnfread.specs.AbnfTable.{firsts}
+use Rattle.abnfread.specs.CoreRules.{core_list}
+use Rattle.abnfread.specs.Element.{Definition, Rule, body_of}
+use Rattle.abnfprint.specs.CanonicalAbnf.{grammar_text}
+use Rattle.toolrun.specs.Input.{Input}
+use Rattle.toolrun.specs.Plan.{IsPlan, stopped}
+use Rattle.toolrun.specs.Reply.{Reply}
+use Rattle.toolrun.specs.Status.{code_of}
+use Rattle.toolrun.specs.Stop.{unread}
+use Rattle.toolrun.specs.Stopped.{Performs}
+use Rattle.toolrun.specs.declared.status.Status.{Status}
+use Rattle.toolrun.specs.declared.stop.Stop.{Stop}
+use Rattle.toolrun.specs.declared.stop.Stop.TheVariants.{NoMemory, Quiet}
+use Rattle.abnftexts.specs.JoinRun.{IsWrittenAs, JoinStates, JoinedReply, joined_status, no_input, text_written, writes}
+use Rattle.abnftexts.specs.JoinRun.{as_it_is, canonical, joins, no_room, nothing, refused}
+use Rattle.abnftexts.specs.JoinRun as run
+use Rattle.abnftexts.specs.JoinedGrammar.{AreTextsJoined, GrammarJoined}
+use Rattle.abnftexts.specs.RulesGathered.{NamedText}
+use Rattle.abnftexts.specs.declared.run.JoinForm.{JoinForm}
+use Rattle.abnftexts.specs.declared.run.JoinForm.TheVariants.{Plain, Canonical}
+
+-- it is not want of memory
+abbrev pub IsTextFault : ReadFault → Type 0
+IsTextFault (Syntax line) = Unit {0}
+IsTextFault (Depth line) = Unit {0}
+IsTextFault (CodePredicate line) = Unit {0}
+IsTextFault TooLong = Unit {0}
+IsTextFault Memory = ⊥
+IsTextFault (NumberTooLarge line) = Unit {0}
+
+no_memory-told : (fault : ReadFault) → IsTextFault fault → fault ≡ Memory → ⊥
+no_memory-told fault is e = subst IsTextFault e is
+
+module _ (form : JoinForm) (j : GrammarJoined) where
+  abbrev pub DoesJoin : Input → Reply → Type 0
+  DoesJoin input reply = JoinedReply form j reply
+
+  pub all-written : (text : List ℕ) (status : Status) (s0 s1 : Option (List ℕ)) (was failed : Bool)
+      → IsWrittenAs j form text → status ≡ joined_status j → Appends s0 s1 text → failed ≡ was →
+      let r : Result Stop WriteFault = Ok (Quiet status) in
+      Performs DoesJoin no_input (record { old = s0; new = s1; was = was; failed = failed }) r
+  all-written text status s0 s1 was failed is same more flag = record {
+    stopped = (
+      [],
+      text,
+      refl,
+      more,
+      record {
+        stated = text_written text (joined_status j);
+        states = writes is;
+        written = (refl, refl, ap code_of (sym same));
+        within = omega arith;
+        exact = λ other. refl;
+      },
+    );
+    flag = flag;
+  }
+
+  pub part-written : (text : List ℕ) (fault : WriteFault) (s0 s1 : Option (List ℕ)) (was failed : Bool)
+      → IsWrittenAs j form text → AppendsPart s0 s1 text → failed ≡ true →
+      let r : Result Stop WriteFault = Err fault in
+      Performs DoesJoin no_input (record { old = s0; new = s1; was = was; failed = failed }) r
+  part-written text fault s0 s1 was failed is part flag = record {
+    stopped = (
+      [],
+      part.0,
+      refl,
+      part.2,
+      record {
+        stated = text_written text (joined_status j);
+        states = writes is;
+        written = part.1;
+        within = omega arith;
+        exact = tt;
+      },
+    );
+    flag = flag;
+  }
+
+  pub stop-stated : (stop : Stop) (s : Option (List ℕ)) (was : Bool) → JoinedReply form j (stopped stop) →
+      let r : Result Stop WriteFault = Ok stop in
+      Performs DoesJoin no_input (record { old = s; new = s; was = was; failed = was }) r
+  stop-stated stop s was is = record {
+    stopped = (
+      [],
+      [],
+      refl,
+      Appends-same s,
+      record {
+        stated = stopped stop;
+        states = is;
+        written = (refl, refl, refl);
+        within = omega arith;
+        exact = λ other. refl;
+      },
+    );
+    flag = refl;
+  }
+
+  pub fault-stated : (fault : ReadFault) → IsFaultOf j.grammar fault → JoinedReply form j (stopped (unread fault))
+  fault-stated (Syntax line) is = refused {fault = Syntax line} is (no_memory-told (Syntax line) tt)
+  fault-stated (Depth line) is = refused {fault = Depth line} is (no_memory-told (Depth line) tt)
+  fault-stated (CodePredicate line) is = absurd is
+  fault-stated TooLong is = refused {fault = TooLong} is (no_memory-told TooLong tt)
+  fault-stated Memory is = run.no_memory
+  fault-stated (NumberTooLarge line) is =
+      refused {fault = NumberTooLarge line} is (no_memory-told (NumberTooLarge line) tt)
+
+  pub fault-stops : (text : List ℕ) (fault : ReadFault) (stop : Stop) (s : Option (List ℕ)) (was : Bool)
+      → text ≡ j.grammar → IsFaultOf text fault → stop ≡ unread fault →
+      let r : Result Stop WriteFault = Ok stop in
+      Performs DoesJoin no_input (record { old = s; new = s; was = was; failed = was }) r
+  fault-stops text fault stop s was same is e =
+      stop-stated stop s was (subst (λ (x : Stop). JoinedReply form j (stopped x)) (sym e)
+      (fault-stated fault (subst (λ (t : List ℕ). IsFaultOf t fault) same is)))
+
+  pub nothing-written : (text : List ℕ) → text ≡ j.grammar → length j.grammar ≡ 0 → IsWrittenAs j form text
+  nothing-written [] same e = nothing (sym same)
+  nothing-written (b ∷ text) same e = absurd (let n = ap length same in omega (arith, n, e))
+
+module _ (j : GrammarJoined) where
+  pub plain-written : (read text : List ℕ) (definitions : List Definition) → read ≡ j.grammar
+      → Reads read definitions → text ≡ j.grammar → IsWrittenAs j Plain text
+  plain-written read text definitions same reads is =
+      subst (λ (t : List ℕ). IsWrittenAs j Plain t) (sym is)
+      (as_it_is (subst (λ (t : List ℕ). Reads t definitions) same reads))
+
+  pub canonical-written : (read : List ℕ) (definitions : List Definition) (rules : List Rule) → read ≡ j.grammar
+      → Reads read definitions → rules ≡ firsts (body_of core_list) [] definitions
+      → IsWrittenAs j Canonical (grammar_text rules)
+  canonical-written read definitions rules same reads is =
+      subst (λ (rs : List Rule). IsWrittenAs j Canonical (grammar_text rs)) (sym is)
+      (canonical (subst (λ (t : List ℕ). Reads t definitions) same reads))
+
+module _ (texts : List NamedText) (form : JoinForm) where
+  pub joined-planned : (j : GrammarJoined) → AreTextsJoined texts j
+      → IsPlan (JoinStates texts form) j.told (DoesJoin form j)
+  joined-planned j are = record {
+    stated = λ input reply is. joins are is;
+    some = λ input. (stopped NoMemory, run.no_memory);
+  }
+
+  abbrev pub StopsEarly : Input → Reply → Type 0
+  StopsEarly input reply = reply ≡ stopped NoMemory
+
+  pub early-planned : IsPlan (JoinStates texts form) [] StopsEarly
+  early-planned = record {
+    stated = λ input reply is. rw is no_room;
+    some = λ input. (stopped NoMemory, refl);
+  }

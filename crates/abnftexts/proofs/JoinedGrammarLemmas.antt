@@ -1,0 +1,94 @@
+-- What stands, and how it is printed, one by one.
+-- Serves: join_texts
+use Rattle.std.proofs.Common.{◌≡◌, ℕ, ◌+◌, ◌<◌, List, [], ◌∷◌, ◌++◌, length, get_or, map, drop, refl, sym, ap}
+use Rattle.std.proofs.Common.{◌∙◌, append_assoc, arith, Option, Some, None, inl, inr, true, false, option_map}
+use Rattle.std.proofs.Math.Dec.{ltb}
+use Rattle.std.proofs.lemmas.Bool.{cases_Bool, ltb-true}
+use Rattle.std.proofs.lemmas.Option.{slice_get-get_or, slice_get-map, slice_get_past}
+use Rattle.std.specs.Prelude.{slice_get}
+use Rattle.abnfjoin.specs.GivenRules.{RuleGiven, fates_of, text_rule}
+use Rattle.abnfjoin.specs.declared.fate.Fate.{Fate}
+use Rattle.abnfjoin.specs.declared.given.GivenRule.{GivenRule}
+use Rattle.abnftexts.specs.JoinedGrammar.{gathered_joined, has_stayed, joined_of, listed_from, printed_behind}
+use Rattle.abnftexts.specs.JoinedGrammar.{rule_printed, standing}
+use Rattle.abnftexts.specs.RulesGathered.{RuleLines, lines_placed}
+use Rattle.abnftexts.specs.declared.gathered.RulePlace.{RulePlace}
+use Rattle.abnftexts.proofs.RulesTakenLemmas.{one-behind}
+
+-- what stands of rows that are seen otherwise
+pub standing-seen : {A B : Type 0} (f : A → B) (fates : List Fate) (xs : List A)
+    → map f (standing fates xs) ≡ standing fates (map f xs)
+standing-seen f fates [] = refl
+standing-seen f [] (x ∷ xs) = refl
+standing-seen f (fate ∷ fates) (x ∷ xs) = elim (cases_Bool (has_stayed fate)) [
+  | inl e ↦ rw e (ap (λ zs. f x ∷ zs) (standing-seen f fates xs))
+  | inr e ↦ rw e (standing-seen f fates xs)
+]
+
+-- the row at a place, seen otherwise
+pub place-there : (places : List RulePlace) (n : ℕ) (place : RulePlace) → true ≡ ltb n (length places)
+    → place ≡ get_or places n place → slice_get (map lines_placed places) n ≡ Some (lines_placed place)
+place-there places n place low is =
+    slice_get-map lines_placed places n
+    ∙ ap (λ (o : Option RulePlace). option_map lines_placed o)
+    (slice_get-get_or places n place (ltb-true n (length places) (sym low)) ∙ ap Some (sym is))
+
+pub no_place-there : (places : List RulePlace) (n : ℕ) → false ≡ ltb n (length places)
+    → slice_get (map lines_placed places) n ≡ None
+no_place-there places n high =
+    slice_get-map lines_placed places n
+    ∙ ap (λ (o : Option RulePlace). option_map lines_placed o)
+    (slice_get_past places n (grind (arith, high)))
+
+module _ (places : List RuleLines) (order : List ℕ) (i : ℕ) where
+  pub place-printed : (before after : Option RuleLines) (place : RuleLines) (old new all : List ℕ) → i < length order
+      → slice_get places (get_or order i 0) ≡ Some place → after ≡ Some place
+      → new ≡ old ++ rule_printed before place
+      → old ++ printed_behind places before (drop i order) ≡ all
+      → new ++ printed_behind places after (drop (i + 1) order) ≡ all
+  place-printed before after place old new all lt is last more h =
+      let rest = printed_behind places (Some place) (drop (i + 1) order) in
+      let here : printed_behind places before (drop i order)
+      ≡ printed_behind places before (get_or order i 0 ∷ drop (i + 1) order) =
+      ap (λ (ns : List ℕ). printed_behind places before ns) (one-behind order i 0 lt) in
+      let step : printed_behind places before (get_or order i 0 ∷ drop (i + 1) order)
+      ≡ rule_printed before place ++ rest = rw (is, printed_behind) refl in
+      ap (λ (o : Option RuleLines). new ++ printed_behind places o (drop (i + 1) order)) last
+      ∙ ap (λ (z : List ℕ). z ++ rest) more ∙ append_assoc old (rule_printed before place) rest
+      ∙ ap (λ (z : List ℕ). old ++ z) (sym (here ∙ step)) ∙ h
+
+  pub no_place-printed : (before after : Option RuleLines) (old new all : List ℕ) → i < length order
+      → slice_get places (get_or order i 0) ≡ None → after ≡ before → new ≡ old
+      → old ++ printed_behind places before (drop i order) ≡ all
+      → new ++ printed_behind places after (drop (i + 1) order) ≡ all
+  no_place-printed before after old new all lt is last same h =
+      let here : printed_behind places before (drop i order)
+      ≡ printed_behind places before (get_or order i 0 ∷ drop (i + 1) order) =
+      ap (λ (ns : List ℕ). printed_behind places before ns) (one-behind order i 0 lt) in
+      let step : printed_behind places before (get_or order i 0 ∷ drop (i + 1) order)
+      ≡ printed_behind places before (drop (i + 1) order) = rw (is, printed_behind) refl in
+      ap (λ (o : Option RuleLines). new ++ printed_behind places o (drop (i + 1) order)) last
+      ∙ ap (λ (z : List ℕ). z ++ printed_behind places before (drop (i + 1) order)) same
+      ∙ ap (λ (z : List ℕ). old ++ z) (sym (here ∙ step)) ∙ h
+
+-- what stands of what was gathered is joined
+pub gathered-all : (places sp : List RulePlace) (rules sr : List GivenRule) (told listed : List ℕ) (fates : List Fate)
+    → fates ≡ fates_of (map text_rule rules)
+    → listed ≡ listed_from (map lines_placed places) (map text_rule rules) 0 fates
+    → sp ≡ standing fates places → sr ≡ standing fates rules
+    → joined_of (map lines_placed sp) (map text_rule sr) told listed
+    ≡ gathered_joined (record { places = map lines_placed places; rules = map text_rule rules; told = told })
+gathered-all places sp rules sr told listed fates are list stand_places stand_rules =
+    let rows : List RuleLines = map lines_placed places in
+    let given : List RuleGiven = map text_rule rules in
+    let a : map lines_placed sp ≡ standing (fates_of given) rows =
+    ap (λ (xs : List RulePlace). map lines_placed xs) stand_places ∙ standing-seen lines_placed fates places
+    ∙ ap (λ (fs : List Fate). standing fs rows) are in
+    let b : map text_rule sr ≡ standing (fates_of given) given =
+    ap (λ (xs : List GivenRule). map text_rule xs) stand_rules ∙ standing-seen text_rule fates rules
+    ∙ ap (λ (fs : List Fate). standing fs given) are in
+    let c : listed ≡ listed_from rows given 0 (fates_of given) =
+    list ∙ ap (λ (fs : List Fate). listed_from rows given 0 fs) are in
+    ap (λ (ps : List RuleLines). joined_of ps (map text_rule sr) told listed) a
+    ∙ ap (λ (rs : List RuleGiven). joined_of (standing (fates_of given) rows) rs told listed) b
+    ∙ ap (λ (l : List ℕ). joined_of (standing (fates_of given) rows) (standing (fates_of given) given) told l) c

@@ -1,0 +1,4 @@
+pub mod JoinRunLemmas
+pub mod JoinedGrammarLemmas
+pub mod OwnRuleLemmas
+pub mod RulesTakenLemmas

@@ -1,0 +1,60 @@
+-- What is told of the texts, the grammar and the end, together.
+use Rattle.std.proofs.Common.{◌≡◌, [], sym, true, false, ap, map, refl, Ok, Some}
+use Rattle.std.specs.Result.{is_err}
+use Rattle.ruletable.proofs.AppendsLemmas.{Appends-same}
+use Rattle.toolrun.specs.Status.{code_of}
+use Rattle.toolrun.specs.Stream.{passed}
+use Rattle.toolrun.specs.declared.stop.Stop.TheVariants.{NoMemory}
+use Rattle.toolrun.proofs.IsRightLemmas.{run_is_right, cut_short, stops_at_once, wrote-all, wrote-part}
+use Rattle.abnftexts.specs.JoinRun.{JoinStates, no_input}
+use Rattle.abnftexts.specs.JoinedViews.{grammar_joined}
+use Rattle.abnftexts.specs.RulesGathered.{named_text}
+use Rattle.abnftexts.proofs.JoinRunLemmas.{DoesJoin, StopsEarly, early-planned, joined-planned}
+use Rattle.abnftexts.proofs.run.run_join.Goals as goal
+
+pub returns-in-Err : goal.returns-in-Err
+returns-in-Err g c = record {
+  right =
+      let texts = map named_text c.args.texts.now in
+      run_is_right (JoinStates texts c.args.form) [] (StopsEarly texts c.args.form) (early-planned texts c.args.form)
+      no_input (passed g.O.Sink.contents g.O.Sink.failed c.args.out.now c.args.out.now)
+      (passed g.O.Sink.contents g.O.Sink.failed c.args.out.now c.finish.new.out)
+      (passed g.E.Sink.contents g.E.Sink.failed c.args.err.now c.finish.new.err)
+      (g.E.Sink.contents c.args.err.now) (Ok NoMemory) (code_of c.finish.result)
+      (stops_at_once NoMemory (Some []) (g.O.Sink.contents c.args.out.now) false false
+      (g.O.Sink.failed c.args.out.now))
+      c.requires.out_is_fresh refl (Appends-same (g.E.Sink.contents c.args.err.now)) c.finish.ensures.kept
+      c.finish.ensures.stays c.finish.ensures.told;
+}
+
+pub returns-then-is_err : goal.returns-then-is_err
+returns-then-is_err g c = record {
+  right =
+      let failed : is_err c.write_whole.result ≡ true = sym c.if-is_err.ensures.value in
+      let texts = map named_text c.args.texts.now in
+      let joined = grammar_joined c.in-Ok.joined in
+      let bytes = rw c.deref.ensures.value at c.write_whole.ensures.bytes in
+      cut_short (JoinStates texts c.args.form) joined.told (DoesJoin c.args.form joined)
+      (joined-planned texts c.args.form joined c.in-Ok.ensures) no_input
+      (passed g.O.Sink.contents g.O.Sink.failed c.args.out.now c.close.new.out)
+      (passed g.E.Sink.contents g.E.Sink.failed c.args.err.now c.close.new.err)
+      _ (code_of c.close.result) refl (wrote-part _ _ _ c.write_whole.result failed bytes) c.close.ensures.out
+      c.close.ensures.err c.close.ensures.stays (ap code_of c.close.ensures.status);
+}
+
+pub returns : goal.returns
+returns g c = record {
+  right =
+      let fine : is_err c.write_whole.result ≡ false = sym c.if-is_err.ensures.value in
+      let texts = map named_text c.args.texts.now in
+      let joined = grammar_joined c.in-Ok.joined in
+      let bytes = rw c.deref.ensures.value at c.write_whole.ensures.bytes in
+      run_is_right (JoinStates texts c.args.form) joined.told (DoesJoin c.args.form joined)
+      (joined-planned texts c.args.form joined c.in-Ok.ensures) no_input
+      (passed g.O.Sink.contents g.O.Sink.failed c.args.out.now c.write_joined-stop.new.out)
+      (passed g.O.Sink.contents g.O.Sink.failed c.args.out.now c.finish-2.new.out)
+      (passed g.E.Sink.contents g.E.Sink.failed c.args.err.now c.finish-2.new.err)
+      _ c.write_joined-stop.result (code_of c.finish-2.result) c.write_joined-stop.ensures c.requires.out_is_fresh refl
+      (wrote-all _ _ _ c.write_whole.result fine bytes)
+      c.finish-2.ensures.kept c.finish-2.ensures.stays c.finish-2.ensures.told;
+}

@@ -1,0 +1,61 @@
+-- What a run states that joins texts.
+use Rattle.std.specs.Prelude.{◌≡◌, ◌≢◌, ℕ, ◌==◌, Bool, false, List, [], length, Some, if◌then◌else◌}
+use Rattle.ruletable.specs.declared.fault.ReadFault.{ReadFault}
+use Rattle.ruletable.specs.declared.fault.ReadFault.TheVariants as faults
+use Rattle.abnfread.specs.AbnfReading.{Reads, IsFaultOf}
+use Rattle.abnfread.specs.AbnfTable.{firsts}
+use Rattle.abnfread.specs.CoreRules.{core_list}
+use Rattle.abnfread.specs.Element.{Definition, body_of}
+use Rattle.abnfprint.specs.CanonicalAbnf.{grammar_text}
+use Rattle.toolrun.specs.Input.{Input}
+use Rattle.toolrun.specs.Plan.{stopped}
+use Rattle.toolrun.specs.Reply.{Reply}
+use Rattle.toolrun.specs.Status.{code_of}
+use Rattle.toolrun.specs.Stream.{Stream}
+use Rattle.toolrun.specs.declared.status.Status.{Status}
+use Rattle.toolrun.specs.declared.status.Status.TheVariants as status
+use Rattle.toolrun.specs.declared.stop.Stop.TheVariants.{NoMemory, Refused}
+use Rattle.abnftexts.specs.JoinedGrammar.{AreTextsJoined, GrammarJoined}
+use Rattle.abnftexts.specs.RulesGathered.{NamedText}
+use Rattle.abnftexts.specs.declared.run.JoinForm.{JoinForm}
+use Rattle.abnftexts.specs.declared.run.JoinForm.TheVariants.{Plain, Canonical, Listed}
+
+-- the canonical text of a grammar's definitions
+abbrev pub canonical_of : List Definition → List ℕ
+canonical_of definitions = grammar_text (firsts (body_of core_list) [] definitions)
+
+-- What is written in that form. A grammar that is written reads; one without rules has no text.
+pub data IsWrittenAs (j : GrammarJoined) : JoinForm → List ℕ → Type 0 where
+  a_list : IsWrittenAs j Listed j.listed
+  nothing : {form : JoinForm} → j.grammar ≡ [] → IsWrittenAs j form []
+  as_it_is : {definitions : List Definition} → Reads j.grammar definitions → IsWrittenAs j Plain j.grammar
+  canonical : {definitions : List Definition} → Reads j.grammar definitions
+      → IsWrittenAs j Canonical (canonical_of definitions)
+
+-- the form of a grammar that is canonical, or not
+abbrev pub grammar_form : Bool → JoinForm
+grammar_form is_canonical = if is_canonical then Canonical else Plain
+
+-- Two definitions of a name are refused, and without a rule there is nothing to be had.
+abbrev pub joined_status : GrammarJoined → Status
+joined_status j = if j.clashes then status.Refused else if length j.grammar == 0 then status.NoMatch else status.Done
+
+abbrev pub text_written : List ℕ → Status → Reply
+text_written text status = record { out = text; err = []; status = code_of status; taken = 0 }
+
+-- Behind what is told of the texts: the text is written, or the grammar is refused, as one that is too long is.
+pub data JoinedReply (form : JoinForm) (j : GrammarJoined) : Reply → Type 0 where
+  writes : {text : List ℕ} → IsWrittenAs j form text → JoinedReply form j (text_written text (joined_status j))
+  refused : {fault : ReadFault} → IsFaultOf j.grammar fault → fault ≢ faults.Memory
+      → JoinedReply form j (stopped (Refused fault))
+  no_memory : JoinedReply form j (stopped NoMemory)
+
+-- What is stated for texts and a form: what is told of the texts first, and the reply. There is no input.
+pub data JoinStates (texts : List NamedText) (form : JoinForm) (input : Input) : List ℕ → Reply → Type 0 where
+  joins : {j : GrammarJoined} {reply : Reply} → AreTextsJoined texts j → JoinedReply form j reply
+      → JoinStates texts form input j.told reply
+  no_room : JoinStates texts form input [] (stopped NoMemory)
+
+-- a reader that has nothing, and is not asked
+abbrev pub no_input : Stream
+no_input = record { old = Some []; new = Some []; was = false; failed = false }

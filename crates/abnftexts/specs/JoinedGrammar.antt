@@ -1,0 +1,119 @@
+-- The grammar that texts make up, joined, and what is told of it.
+use Rattle.std.specs.Prelude.{◌≡◌, ℕ, ◌+◌, ◌-◌, ◌==◌, ◌&&◌, bytes_eq, nat_lt, Bool, true, false, List, [], ◌∷◌, ◌++◌}
+use Rattle.std.specs.Prelude.{length, Option, None, Some, codes, slice_get, if◌then◌else◌}
+use Rattle.std.specs.List.{flat_map}
+use Rattle.abnfblocks.specs.TextBlocks.{block_text}
+use Rattle.abnfjoin.specs.GivenRules.{RuleGiven, fates_of}
+use Rattle.abnfjoin.specs.JoinedRules.{clashes_of, joined_order}
+use Rattle.abnfjoin.specs.declared.fate.Fate.{Fate}
+use Rattle.abnfjoin.specs.declared.fate.Fate.TheVariants.{Stands, Again, Yields}
+use Rattle.abnfjoin.specs.declared.order.Clash.{Clash}
+use Rattle.abnftexts.specs.RulesGathered.{NamedText, RuleLines, RulesGathered, none_gathered}
+use Rattle.abnftexts.specs.RulesTaken.{TakesTexts}
+use Rattle.abnftexts.specs.TextPlaces.{number_at, place_shown}
+
+abbrev pub has_stayed : Fate → Bool
+has_stayed Stands = true
+has_stayed (Again n) = false
+has_stayed (Yields n) = false
+
+-- what stands beside those fates that say that a rule stands
+abbrev pub standing : {A : Type 0} → List Fate → List A → List A
+standing fates [] = []
+standing [] (x ∷ xs) = []
+standing (fate ∷ fates) (x ∷ xs) = if has_stayed fate then x ∷ standing fates xs else standing fates xs
+
+-- the number of a rule's first line, and of its last one
+abbrev pub first_number : RuleLines → ℕ
+first_number place = number_at place.lines 1
+
+abbrev pub last_number : RuleLines → ℕ
+last_number place = number_at place.lines (length place.lines)
+
+-- the rule stands in its text right behind the one before it
+abbrev pub goes_behind_it : Option RuleLines → RuleLines → Bool
+goes_behind_it None place = false
+goes_behind_it (Some before) place = bytes_eq before.name place.name
+    && (last_number before == first_number place - 1)
+
+-- a comment that names the place, unless the rule goes on with what stands before it
+abbrev pub comment_before : Option RuleLines → RuleLines → List ℕ
+comment_before before place = if goes_behind_it before place then [] else
+    codes "; " ++ (place_shown place.name (first_number place) ++ codes "\n")
+
+-- the rule as it is printed: its lines without the margin
+abbrev pub rule_printed : Option RuleLines → RuleLines → List ℕ
+rule_printed before place = comment_before before place ++ block_text place.margin place.lines
+
+-- the rules with these numbers, where that one is printed before them
+abbrev pub printed_behind : List RuleLines → Option RuleLines → List ℕ → List ℕ
+printed_behind places before [] = []
+printed_behind places before (n ∷ ns) = elim (slice_get places n) [
+  | None ↦ printed_behind places before ns
+  | Some place ↦ rule_printed before place ++ printed_behind places (Some place) ns
+]
+
+-- the place of the rule with that number
+abbrev pub numbered_place : List RuleLines → ℕ → List ℕ
+numbered_place places n = elim (slice_get places n) [
+  | None ↦ []
+  | Some place ↦ place_shown place.name (first_number place)
+]
+
+-- and its name
+abbrev pub numbered_name : List RuleGiven → ℕ → List ℕ
+numbered_name rules n = elim (slice_get rules n) [ None ↦ [] | Some rule ↦ rule.name ]
+
+-- what is told of two definitions of one name
+abbrev pub clash_told : List RuleLines → List RuleGiven → Clash → List ℕ
+clash_told places rules clash = numbered_place places clash.second ++ (codes ": '"
+    ++ (numbered_name rules clash.second ++ (codes "' is defined otherwise at "
+    ++ (numbered_place places clash.first ++ codes "\n"))))
+
+-- what becomes of a rule
+abbrev pub fate_told : List RuleLines → Fate → List ℕ
+fate_told places Stands = codes "stands"
+fate_told places (Again n) = codes "is given at " ++ numbered_place places n
+fate_told places (Yields n) = codes "yields to " ++ numbered_place places n
+
+-- the line of the rule with that number
+abbrev pub rule_listed : List RuleLines → List RuleGiven → ℕ → Fate → List ℕ
+rule_listed places rules n fate = numbered_place places n ++ (codes ": '" ++ (numbered_name rules n
+    ++ (codes "' " ++ (fate_told places fate ++ codes "\n"))))
+
+-- the lines of the rules from that number on, where these are their fates
+abbrev pub listed_from : List RuleLines → List RuleGiven → ℕ → List Fate → List ℕ
+listed_from places rules n [] = []
+listed_from places rules n (fate ∷ fates) = rule_listed places rules n fate ++ listed_from places rules (n + 1) fates
+
+-- what is told where there is no rule
+abbrev pub none_told : List RuleGiven → List ℕ
+none_told [] = codes "no rules found\n"
+none_told (rule ∷ rules) = []
+
+-- the grammar, what is told, a line for each rule that is given, and whether a name has two definitions
+pub record GrammarJoined : Type 0 where
+  pub grammar : List ℕ
+  pub told : List ℕ
+  pub listed : List ℕ
+  pub clashes : Bool
+
+-- of the rules that stand, where these are their lines
+abbrev pub joined_of : List RuleLines → List RuleGiven → List ℕ → List ℕ → GrammarJoined
+joined_of places rules told listed = record {
+  grammar = printed_behind places None (joined_order rules);
+  told = told ++ flat_map (clash_told places rules) (clashes_of rules) ++ none_told rules;
+  listed = listed;
+  clashes = nat_lt 0 (length (clashes_of rules));
+}
+
+-- of what was gathered: the rules are joined that stand
+abbrev pub gathered_joined : RulesGathered → GrammarJoined
+gathered_joined g = joined_of (standing (fates_of g.rules) g.places) (standing (fates_of g.rules) g.rules) g.told
+    (listed_from g.places g.rules 0 (fates_of g.rules))
+
+-- that of all texts
+pub record AreTextsJoined (texts : List NamedText) (joined : GrammarJoined) : Type 0 where
+  pub gathered : RulesGathered
+  pub takes : TakesTexts texts none_gathered gathered
+  pub is : joined ≡ gathered_joined gathered

@@ -1,0 +1,50 @@
+-- What texts give: rules with their places, and what is told.
+use Rattle.std.specs.Prelude.{ℕ, List, [], ◌∷◌, ◌++◌, map}
+use Rattle.abnfjoin.specs.GivenRules.{RuleGiven, text_rule}
+use Rattle.rfctext.specs.TextLines.{NumberedLine, numbered}
+use Rattle.abnftexts.specs.declared.gathered.Gathered.{Gathered}
+use Rattle.abnftexts.specs.declared.gathered.RulePlace.{RulePlace}
+use Rattle.abnftexts.specs.declared.gathered.SourceText.{SourceText}
+
+-- a text: its name, and its bytes
+pub record NamedText : Type 0 where
+  pub name : List ℕ
+  pub bytes : List ℕ
+
+-- where a rule stands: the name of its text, its lines, and the margin that is cut from them
+pub record RuleLines : Type 0 where
+  pub name : List ℕ
+  pub margin : ℕ
+  pub lines : List NumberedLine
+
+-- the rules of texts in order, the lines of each, and what is told on the error output
+pub record RulesGathered : Type 0 where
+  pub places : List RuleLines
+  pub rules : List RuleGiven
+  pub told : List ℕ
+
+-- what the code's values stand for
+abbrev pub named_text : SourceText → NamedText
+named_text text = record { name = text.name.now; bytes = text.bytes.now }
+
+abbrev pub lines_placed : RulePlace → RuleLines
+lines_placed place = record { name = place.name.now; margin = place.margin; lines = map numbered place.lines.items }
+
+abbrev pub rules_gathered : Gathered → RulesGathered
+rules_gathered gathered = record {
+  places = map lines_placed gathered.places.items;
+  rules = map text_rule gathered.rules.items;
+  told = gathered.told.items;
+}
+
+-- no text gives anything
+abbrev pub none_gathered : RulesGathered
+none_gathered = record { places = []; rules = []; told = [] }
+
+-- one rule more
+abbrev pub with_rule : RulesGathered → RuleLines → RuleGiven → RulesGathered
+with_rule g place rule = record { places = g.places ++ place ∷ []; rules = g.rules ++ rule ∷ []; told = g.told }
+
+-- something more is told
+abbrev pub with_told : RulesGathered → List ℕ → RulesGathered
+with_told g more = record { places = g.places; rules = g.rules; told = g.told ++ more }

@@ -1,0 +1,30 @@
+-- Places in texts, as they are told.
+use Rattle.std.specs.Prelude.{ℕ, ◌-◌, min, List, ◌++◌, length, map, codes, decimal, slice_index}
+use Rattle.picture.specs.ShownBytes.{shown}
+use Rattle.rfctext.specs.TextLines.{NumberedLine}
+use Rattle.ruletable.specs.Faults.{fault_text}
+use Rattle.ruletable.specs.declared.fault.ReadFault.{ReadFault}
+use Rattle.ruletable.specs.declared.fault.ReadFault.TheVariants.{Syntax, Depth, CodePredicate, TooLong, Memory}
+use Rattle.ruletable.specs.declared.fault.ReadFault.TheVariants.{NumberTooLarge}
+
+-- the number in its text of the n-th of these lines, from 1, or of the last one if there are fewer
+abbrev pub number_at : List NumberedLine → ℕ → ℕ
+number_at lines n = slice_index (map (λ line. line.number) lines) (min (n - 1) (length lines - 1))
+
+-- a text's name and a line of it
+abbrev pub place_shown : List ℕ → ℕ → List ℕ
+place_shown name line = shown name ++ (codes ":" ++ decimal line)
+
+-- the fault of these lines, with the number that the line has in the text
+abbrev pub fault_in : List NumberedLine → ReadFault → ReadFault
+fault_in lines (Syntax line) = Syntax (number_at lines line)
+fault_in lines (Depth line) = Depth (number_at lines line)
+fault_in lines (CodePredicate line) = CodePredicate (number_at lines line)
+fault_in lines TooLong = TooLong
+fault_in lines Memory = Memory
+fault_in lines (NumberTooLarge line) = NumberTooLarge (number_at lines line)
+
+-- what is told of a line that looks like a rule and is none, where these lines begin with it and have that fault
+abbrev pub not_abnf_told : List ℕ → List NumberedLine → ReadFault → List ℕ
+not_abnf_told name lines fault = place_shown name (number_at lines 1) ++ (codes ": not ABNF: "
+    ++ fault_text (fault_in lines fault))

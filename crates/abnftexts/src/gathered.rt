@@ -1,0 +1,27 @@
+//! What texts give.
+
+use abnfjoin::GivenRule;
+use rfctext::TextLine;
+
+/// A text: what it is called where places in it are told, and its bytes.
+#[derive(Clone, Copy)]
+pub struct SourceText<'a> {
+    pub name: &'a [u8],
+    pub bytes: &'a [u8],
+}
+
+/// Where a rule stands: the name of its text, the margin that is cut, and its lines.
+#[derive(Drop)]
+pub(crate) struct RulePlace<'a> {
+    pub(crate) name: &'a [u8],
+    pub(crate) margin: usize,
+    pub(crate) lines: Vec<TextLine<'a>>,
+}
+
+/// The rules of texts in order, the lines of each, and what is told on the error output.
+#[derive(Drop)]
+pub(crate) struct Gathered<'a> {
+    pub(crate) places: Vec<RulePlace<'a>>,
+    pub(crate) rules: Vec<GivenRule>,
+    pub(crate) told: Vec<u8>,
+}

@@ -1,0 +1,88 @@
+//! The grammar of several texts.
+ghost use Rattle.std.specs.Prelude.{◌≡◌, map, IfOk};
+ghost use Rattle.abnfjoin.specs.GivenRules.{text_rule};
+ghost use Rattle.abnftexts.specs.JoinedGrammar.{AreTextsJoined, gathered_joined, joined_of};
+ghost use Rattle.abnftexts.specs.JoinedViews.{grammar_joined};
+ghost use Rattle.abnftexts.specs.RulesGathered.{lines_placed, named_text, rules_gathered};
+
+use crate::gathered::{Gathered, RulePlace, SourceText};
+use crate::listed::listed_text;
+use crate::printed::{printed_text, push_clashes, push_none};
+use crate::stands::kept_standing;
+use crate::taken::take_texts;
+use abnfjoin::{GivenRule, find_clashes, find_fates, find_order};
+use ruletable::Memory;
+use std::alloc::Global;
+
+/// The grammar that several texts make up.
+#[derive(Drop)]
+pub struct JoinedTexts {
+    /// The rules that stand, as their texts have them, in the order in which they are printed.
+    pub grammar: Vec<u8>,
+    /// What is told of the texts on the error output.
+    pub told: Vec<u8>,
+    /// A line for each rule that the texts give, with what becomes of it.
+    pub listed: Vec<u8>,
+    /// Whether a name has two definitions.
+    pub clashes: bool,
+}
+
+// Joins rules that stand, where these are their lines.
+fn join_standing(
+    alloc: Global,
+    places: &[RulePlace<'_>],
+    rules: &[GivenRule],
+    told: Vec<u8>,
+    listed: Vec<u8>,
+) -> Result<JoinedTexts, Memory>
+    ensures { IfOk result (λ joined. grammar_joined joined
+        ≡ joined_of (map lines_placed places.now) (map text_rule rules.now) told.items listed.items) }
+{
+    let mut told = told;
+    let order = find_order(alloc, rules)?;
+    let grammar = printed_text(alloc, places, &order)?;
+    let clashes = find_clashes(alloc, rules)?;
+    push_clashes(&mut told, places, rules, &clashes)?;
+    push_none(&mut told, rules)?;
+    Ok(JoinedTexts {
+        grammar,
+        told,
+        listed,
+        clashes: !clashes.is_empty(),
+    })
+}
+
+// Joins the rules that stand of what texts give.
+fn join_gathered(alloc: Global, gathered: Gathered<'_>) -> Result<JoinedTexts, Memory>
+    ensures { IfOk result (λ joined. grammar_joined joined ≡ gathered_joined (rules_gathered gathered.entry)) }
+{
+    let Gathered {
+        places,
+        rules,
+        told,
+    } = gathered;
+    let fates = find_fates(alloc, &rules)?;
+    let listed = listed_text(alloc, &places, &rules, &fates)?;
+    let standing_places = kept_standing(alloc, &fates, places)?;
+    let standing_rules = kept_standing(alloc, &fates, rules)?;
+    join_standing(alloc, &standing_places, &standing_rules, told, listed)
+}
+
+/// Returns the grammar that texts make up, one after another, and what is told of them.
+///
+/// Each piece of ABNF in them is cut into rules. A rule that is the same as one before it is left out, and so is one of
+/// prose alone where a definition of that name has elements. What adds to a name stands behind its definition. The
+/// rules are printed as their texts have them, without the margin. A comment names the place where lines begin that
+/// stand together: `; NAME:LINE`.
+///
+/// A line that looks like a rule and is none is told, and so are two different definitions of a name, which both
+/// stand, and that there is no rule.
+///
+/// # Errors
+/// `Memory` if an allocation fails.
+pub fn join_texts(alloc: Global, texts: &[SourceText<'_>]) -> Result<JoinedTexts, Memory>
+    ensures { IfOk result (λ joined. AreTextsJoined (map named_text texts.now) (grammar_joined joined)) }
+{
+    let gathered = take_texts(alloc, texts)?;
+    join_gathered(alloc, gathered)
+}

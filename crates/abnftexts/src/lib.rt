@@ -1,0 +1,16 @@
+//! The rules that texts of RFCs give, joined in one grammar.
+#![tactic(auto)]
+
+mod gathered;
+mod joined;
+mod listed;
+mod own;
+mod printed;
+mod run;
+mod stands;
+mod taken;
+mod told;
+
+pub use gathered::SourceText;
+pub use joined::{JoinedTexts, join_texts};
+pub use run::{JoinForm, run_join};

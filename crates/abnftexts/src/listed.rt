@@ -1,0 +1,77 @@
+//! The list of the rules that texts give.
+ghost use Rattle.std.specs.Prelude.{◌≡◌, ◌++◌, map, IfOk, OnOk};
+ghost use Rattle.abnfjoin.specs.GivenRules.{text_rule};
+ghost use Rattle.abnftexts.specs.JoinedGrammar.{fate_told, listed_from, numbered_place, rule_listed};
+ghost use Rattle.abnftexts.specs.RulesGathered.{lines_placed};
+
+use crate::gathered::RulePlace;
+use crate::printed::{push_rule_name, push_rule_place};
+use abnfjoin::{Fate, GivenRule};
+use ruletable::Memory;
+use std::alloc::Global;
+
+// Adds a word and the place of the rule with that number.
+fn push_told_place(
+    out: &mut Vec<u8>,
+    told: &[u8],
+    places: &[RulePlace<'_>],
+    number: usize,
+) -> Result<(), Memory>
+    ensures { OnOk result (out.new.items
+        ≡ out.old.items ++ (told.now ++ numbered_place (map lines_placed places.now) number)) }
+{
+    out.extend_from_slice(told)?;
+    push_rule_place(out, places, number)?;
+    Ok(())
+}
+
+// Adds what becomes of a rule.
+fn push_fate(out: &mut Vec<u8>, places: &[RulePlace<'_>], fate: Fate) -> Result<(), Memory>
+    ensures { OnOk result (out.new.items ≡ out.old.items ++ fate_told (map lines_placed places.now) fate) }
+{
+    match fate {
+        Fate::Stands => Ok(out.extend_from_slice(b"stands")?),
+        Fate::Again(number) => push_told_place(out, b"is given at ", places, number),
+        Fate::Yields(number) => push_told_place(out, b"yields to ", places, number),
+    }
+}
+
+// Adds the line of the rule with that number.
+fn push_listed(
+    out: &mut Vec<u8>,
+    places: &[RulePlace<'_>],
+    rules: &[GivenRule],
+    number: usize,
+    fate: Fate,
+) -> Result<(), Memory>
+    ensures { OnOk result (out.new.items ≡ out.old.items
+        ++ rule_listed (map lines_placed places.now) (map text_rule rules.now) number fate) }
+{
+    push_rule_place(out, places, number)?;
+    out.extend_from_slice(b": '")?;
+    push_rule_name(out, rules, number)?;
+    out.extend_from_slice(b"' ")?;
+    push_fate(out, places, fate)?;
+    out.extend_from_slice(b"\n")?;
+    Ok(())
+}
+
+/// Returns a line for each rule, where these are their fates.
+///
+/// # Errors
+/// `Memory` if an allocation fails.
+pub(crate) fn listed_text(
+    alloc: Global,
+    places: &[RulePlace<'_>],
+    rules: &[GivenRule],
+    fates: &[Fate],
+) -> Result<Vec<u8>, Memory>
+    ensures { IfOk result (λ text. text.items
+        ≡ listed_from (map lines_placed places.now) (map text_rule rules.now) 0 fates.now) }
+{
+    let mut out = Vec::new(alloc);
+    for number in 0..fates.len() {
+        push_listed(&mut out, places, rules, number, fates[number])?;
+    }
+    Ok(out)
+}

@@ -1,0 +1,170 @@
+//! The grammar as it is printed, and what is told of it.
+ghost use Rattle.std.specs.Prelude.{◌≡◌, ◌++◌, None, map, option_map, IfOk, OnOk};
+ghost use Rattle.std.specs.List.{flat_map};
+ghost use Rattle.abnfjoin.specs.GivenRules.{text_rule};
+ghost use Rattle.abnftexts.specs.JoinedGrammar.{clash_told, comment_before, first_number as first_in, goes_behind_it};
+ghost use Rattle.abnftexts.specs.JoinedGrammar.{last_number as last_in, numbered_name, numbered_place, printed_behind};
+ghost use Rattle.abnftexts.specs.JoinedGrammar.{none_told, rule_printed};
+ghost use Rattle.abnftexts.specs.RulesGathered.{lines_placed};
+
+use crate::gathered::RulePlace;
+use crate::told::{number_at, push_place};
+use abnfblocks::joined_text;
+use abnfjoin::{Clash, GivenRule};
+use ruletable::Memory;
+use std::alloc::Global;
+
+// The number of a rule's first line.
+fn first_number(place: &RulePlace<'_>) -> usize
+    ensures { result ≡ first_in (lines_placed place.now) }
+{
+    number_at(&place.lines, 1)
+}
+
+// The number of a rule's last line.
+fn last_number(place: &RulePlace<'_>) -> usize
+    ensures { result ≡ last_in (lines_placed place.now) }
+{
+    number_at(&place.lines, place.lines.len())
+}
+
+// Whether the rule stands in its text right behind the one before it.
+fn goes_behind(before: Option<&RulePlace<'_>>, place: &RulePlace<'_>) -> bool
+    ensures { result ≡ goes_behind_it (option_map (λ p. lines_placed p.now) before.entry) (lines_placed place.now) }
+{
+    match before {
+        Some(before) => {
+            before.name == place.name
+                && last_number(before) == first_number(place).saturating_sub(1)
+        }
+        None => false,
+    }
+}
+
+// Adds a comment that names the place, unless the rule goes on with what stands before it.
+fn push_comment(
+    out: &mut Vec<u8>,
+    before: Option<&RulePlace<'_>>,
+    place: &RulePlace<'_>,
+) -> Result<(), Memory>
+    ensures { OnOk result (out.new.items ≡ out.old.items
+        ++ comment_before (option_map (λ p. lines_placed p.now) before.entry) (lines_placed place.now)) }
+{
+    if !goes_behind(before, place) {
+        out.extend_from_slice(b"; ")?;
+        push_place(out, place.name, first_number(place))?;
+        out.extend_from_slice(b"\n")?;
+    }
+    Ok(())
+}
+
+// Adds a rule as it is printed.
+fn push_printed(
+    alloc: Global,
+    out: &mut Vec<u8>,
+    before: Option<&RulePlace<'_>>,
+    place: &RulePlace<'_>,
+) -> Result<(), Memory>
+    ensures { OnOk result (out.new.items ≡ out.old.items
+        ++ rule_printed (option_map (λ p. lines_placed p.now) before.entry) (lines_placed place.now)) }
+{
+    push_comment(out, before, place)?;
+    let text = joined_text(alloc, place.margin, &place.lines)?;
+    out.extend_from_slice(&text)?;
+    Ok(())
+}
+
+/// Returns the rules with these numbers as they are printed.
+///
+/// # Errors
+/// `Memory` if an allocation fails.
+pub(crate) fn printed_text(
+    alloc: Global,
+    places: &[RulePlace<'_>],
+    order: &[usize],
+) -> Result<Vec<u8>, Memory>
+    ensures { IfOk result (λ text. text.items ≡ printed_behind (map lines_placed places.now) None order.now) }
+{
+    let mut out = Vec::new(alloc);
+    let mut before: Option<&RulePlace<'_>> = None;
+    for number in order {
+        if let Some(place) = places.get(*number) {
+            push_printed(alloc, &mut out, before, place)?;
+            before = Some(place);
+        }
+    }
+    Ok(out)
+}
+
+/// Adds the place of the rule with that number.
+pub(crate) fn push_rule_place(
+    out: &mut Vec<u8>,
+    places: &[RulePlace<'_>],
+    number: usize,
+) -> Result<(), Memory>
+    ensures { OnOk result (out.new.items ≡ out.old.items ++ numbered_place (map lines_placed places.now) number) }
+{
+    match places.get(number) {
+        Some(place) => push_place(out, place.name, first_number(place)),
+        None => Ok(()),
+    }
+}
+
+/// Adds its name.
+pub(crate) fn push_rule_name(
+    out: &mut Vec<u8>,
+    rules: &[GivenRule],
+    number: usize,
+) -> Result<(), Memory>
+    ensures { OnOk result (out.new.items ≡ out.old.items ++ numbered_name (map text_rule rules.now) number) }
+{
+    match rules.get(number) {
+        Some(rule) => Ok(out.extend_from_slice(&rule.name)?),
+        None => Ok(()),
+    }
+}
+
+// Adds what is told of two definitions of one name.
+fn push_clash(
+    out: &mut Vec<u8>,
+    places: &[RulePlace<'_>],
+    rules: &[GivenRule],
+    clash: Clash,
+) -> Result<(), Memory>
+    ensures { OnOk result (out.new.items ≡ out.old.items
+        ++ clash_told (map lines_placed places.now) (map text_rule rules.now) clash) }
+{
+    push_rule_place(out, places, clash.second)?;
+    out.extend_from_slice(b": '")?;
+    push_rule_name(out, rules, clash.second)?;
+    out.extend_from_slice(b"' is defined otherwise at ")?;
+    push_rule_place(out, places, clash.first)?;
+    out.extend_from_slice(b"\n")?;
+    Ok(())
+}
+
+/// Adds what is told of definitions of one name.
+pub(crate) fn push_clashes(
+    out: &mut Vec<u8>,
+    places: &[RulePlace<'_>],
+    rules: &[GivenRule],
+    clashes: &[Clash],
+) -> Result<(), Memory>
+    ensures { OnOk result (out.new.items ≡ out.old.items
+        ++ flat_map (clash_told (map lines_placed places.now) (map text_rule rules.now)) clashes.now) }
+{
+    for clash in clashes {
+        push_clash(out, places, rules, *clash)?;
+    }
+    Ok(())
+}
+
+/// Adds what is told where there is no rule.
+pub(crate) fn push_none(out: &mut Vec<u8>, rules: &[GivenRule]) -> Result<(), Memory>
+    ensures { OnOk result (out.new.items ≡ out.old.items ++ none_told (map text_rule rules.now)) }
+{
+    if rules.is_empty() {
+        out.extend_from_slice(b"no rules found\n")?;
+    }
+    Ok(())
+}

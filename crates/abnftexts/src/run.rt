@@ -1,0 +1,194 @@
+//! A run that joins texts.
+ghost use Rattle.std.specs.Prelude.{◌≡◌, false, map};
+ghost use Rattle.abnfread.specs.AbnfViews.{rules_of};
+ghost use Rattle.abnfprint.specs.CanonicalAbnf.{grammar_text};
+ghost use Rattle.abnftexts.specs.JoinRun.{IsWrittenAs, JoinStates, JoinedReply, grammar_form, joined_status, no_input};
+ghost use Rattle.abnftexts.specs.JoinedViews.{grammar_joined};
+ghost use Rattle.abnftexts.specs.RulesGathered.{named_text};
+ghost use Rattle.toolrun.specs.Right.{Comes};
+ghost use Rattle.toolrun.specs.Status.{code_of};
+ghost use Rattle.toolrun.specs.Stop.{unread};
+ghost use Rattle.toolrun.specs.Stopped.{Performs};
+ghost use Rattle.toolrun.specs.Stream.{passed};
+
+use crate::gathered::SourceText;
+use crate::joined::{JoinedTexts, join_texts};
+use abnfprint::print_abnf;
+use abnfread::{Abnf, read_abnf};
+use ruletable::{ReadFault, Sink, WriteFault, write_whole};
+use std::alloc::Global;
+use toolrun::{Status, Stop, close_run, end_run};
+
+/// What is written of a joined grammar.
+#[derive(Clone, Copy, Debug, PartialEq, Eq)]
+pub enum JoinForm {
+    /// Its rules as their texts have them.
+    Plain,
+    /// Its canonical text.
+    Canonical,
+    /// A line for each rule that the texts give, with what becomes of it.
+    Listed,
+}
+
+// The status of a run whose text was written.
+fn status_of(joined: &JoinedTexts) -> Status
+    ensures { result ≡ joined_status (grammar_joined joined.now) }
+{
+    if joined.clashes {
+        return Status::Refused;
+    }
+    if joined.grammar.is_empty() {
+        Status::NoMatch
+    } else {
+        Status::Done
+    }
+}
+
+// Writes a text that such a run states.
+fn write_text<O: Sink>(
+    joined: &JoinedTexts,
+    form: JoinForm,
+    text: &[u8],
+    out: &mut O,
+) -> Result<Stop, WriteFault>
+    requires text { IsWrittenAs (grammar_joined joined.now) form text.now }
+    requires fresh { O.failed out.old ≡ false }
+    ensures { Performs (λ input reply. JoinedReply form (grammar_joined joined.now) reply) no_input
+        (passed O.contents O.failed out.old out.new) result }
+{
+    match write_whole(out, text) {
+        Ok(()) => Ok(Stop::Quiet(status_of(joined))),
+        Err(fault) => Err(fault),
+    }
+}
+
+// Writes the canonical text of a grammar.
+fn write_canonical<O: Sink>(
+    joined: &JoinedTexts,
+    abnf: &Abnf,
+    out: &mut O,
+) -> Result<Stop, WriteFault>
+    requires text { IsWrittenAs (grammar_joined joined.now) JoinForm.Canonical
+        (grammar_text (rules_of abnf.now.rules)) }
+    requires fresh { O.failed out.old ≡ false }
+    ensures { Performs (λ input reply. JoinedReply JoinForm.Canonical (grammar_joined joined.now) reply) no_input
+        (passed O.contents O.failed out.old out.new) result }
+{
+    match print_abnf(abnf, out) {
+        Ok(()) => Ok(Stop::Quiet(status_of(joined))),
+        Err(fault) => Err(fault),
+    }
+}
+
+// How a run stops whose grammar has that fault.
+fn stop_at(fault: ReadFault) -> Stop
+    ensures { result ≡ unread fault }
+{
+    match fault {
+        ReadFault::Memory => Stop::NoMemory,
+        _ => Stop::Refused(fault),
+    }
+}
+
+// The form of a grammar that is canonical, or not.
+fn form_of(is_canonical: bool) -> JoinForm
+    ensures { result ≡ grammar_form is_canonical }
+{
+    if is_canonical {
+        JoinForm::Canonical
+    } else {
+        JoinForm::Plain
+    }
+}
+
+// Writes a grammar, if it reads.
+fn write_grammar<O: Sink>(
+    alloc: Global,
+    joined: &JoinedTexts,
+    is_canonical: bool,
+    out: &mut O,
+) -> Result<Stop, WriteFault>
+    requires { O.failed out.old ≡ false }
+    ensures { Performs (λ input reply. JoinedReply (grammar_form is_canonical) (grammar_joined joined.now) reply)
+        no_input (passed O.contents O.failed out.old out.new) result }
+{
+    match read_abnf(alloc, &joined.grammar) {
+        Ok(abnf) => {
+            if is_canonical {
+                write_canonical(joined, &abnf, out)
+            } else {
+                write_text(joined, JoinForm::Plain, &joined.grammar, out)
+            }
+        }
+        Err(fault) => Ok(stop_at(fault)),
+    }
+}
+
+// Writes a grammar, if it has some rule.
+fn write_rules<O: Sink>(
+    alloc: Global,
+    joined: &JoinedTexts,
+    is_canonical: bool,
+    out: &mut O,
+) -> Result<Stop, WriteFault>
+    requires { O.failed out.old ≡ false }
+    ensures { Performs (λ input reply. JoinedReply (grammar_form is_canonical) (grammar_joined joined.now) reply)
+        no_input (passed O.contents O.failed out.old out.new) result }
+{
+    if joined.grammar.is_empty() {
+        return write_text(joined, form_of(is_canonical), &joined.grammar, out);
+    }
+    write_grammar(alloc, joined, is_canonical, out)
+}
+
+// Writes what is asked for of the joined grammar.
+fn write_joined<O: Sink>(
+    alloc: Global,
+    joined: &JoinedTexts,
+    form: JoinForm,
+    out: &mut O,
+) -> Result<Stop, WriteFault>
+    requires { O.failed out.old ≡ false }
+    ensures { Performs (λ input reply. JoinedReply form (grammar_joined joined.now) reply) no_input
+        (passed O.contents O.failed out.old out.new) result }
+{
+    match form {
+        JoinForm::Listed => write_text(joined, JoinForm::Listed, &joined.listed, out),
+        JoinForm::Plain => write_rules(alloc, joined, false, out),
+        JoinForm::Canonical => write_rules(alloc, joined, true, out),
+    }
+}
+
+/// Joins texts: writes the grammar that they make up on `out`, in that form, and what is told of them on `err`. Neither
+/// may have failed before.
+///
+/// - What `join_texts` tells is written on `err` first.
+/// - The grammar is read by `read_abnf`, and written if it reads: `Done`; or where a name has two definitions,
+///   `Refused`. A grammar of more than `MAX_GRAMMAR` bytes is told, `Refused`, and not written.
+/// - Where no text gives a rule nothing is written, `NoMatch`.
+/// - A list of rules is written as it is, with the same status.
+/// - Where a writer fails, nothing more is written to it, and the status is at least `Fault`. Writers that have not
+///   failed are flushed once at the end, `out` first.
+/// - If an allocation fails: `out of memory`, `NoMemory`.
+pub fn run_join<O: Sink, E: Sink>(
+    alloc: Global,
+    texts: &[SourceText<'_>],
+    form: JoinForm,
+    out: &mut O,
+    err: &mut E,
+) -> Status
+    requires out_is_fresh { O.failed out.old ≡ false }
+    requires err_is_fresh { E.failed err.old ≡ false }
+    ensures right { Comes (JoinStates (map named_text texts.now) form) no_input
+        (passed O.contents O.failed out.old out.new) (passed E.contents E.failed err.old err.new) (code_of result) }
+{
+    let joined = match join_texts(alloc, texts) {
+        Ok(joined) => joined,
+        Err(_) => return end_run(Ok(Stop::NoMemory), out, err),
+    };
+    if write_whole(err, &joined.told).is_err() {
+        return close_run(out, err);
+    }
+    let stop = write_joined(alloc, &joined, form, out);
+    end_run(stop, out, err)
+}

@@ -1,0 +1,39 @@
+//! What stands.
+ghost use Rattle.std.specs.Prelude.{◌≡◌, IfOk};
+ghost use Rattle.abnftexts.specs.JoinedGrammar.{has_stayed, standing};
+
+use abnfjoin::Fate;
+use ruletable::Memory;
+use std::alloc::Global;
+
+// Whether a rule stands.
+fn stands(fate: Fate) -> bool
+    ensures { result ≡ has_stayed fate }
+{
+    matches!(fate, Fate::Stands)
+}
+
+/// Returns what stands beside those fates that say that a rule stands.
+///
+/// # Errors
+/// `Memory` if an allocation fails.
+pub(crate) fn kept_standing<T: Drop>(
+    alloc: Global,
+    fates: &[Fate],
+    all: Vec<T>,
+) -> Result<Vec<T>, Memory>
+    ensures { IfOk result (λ kept. kept.items ≡ standing fates.now all.items) }
+{
+    let mut kept = Vec::new(alloc);
+    let mut left = fates;
+    for it in all {
+        let Some((fate, behind)) = left.split_first() else {
+            break;
+        };
+        left = behind;
+        if stands(*fate) {
+            kept.push(it)?;
+        }
+    }
+    Ok(kept)
+}

@@ -1,0 +1,178 @@
+//! The rules that texts give.
+ghost use Rattle.std.specs.Prelude.{◌≡◌, take, drop, map, IfOk, OnOk};
+ghost use Rattle.abnfblocks.specs.TextBlocks.{margin_at};
+ghost use Rattle.abnfjoin.specs.GivenRules.{text_rule};
+ghost use Rattle.rfctext.specs.TextLines.{numbered};
+ghost use Rattle.abnftexts.specs.RulesGathered.{lines_placed, named_text, none_gathered, rules_gathered, with_rule};
+ghost use Rattle.abnftexts.specs.RulesTaken.{TakesFound, TakesPiece, TakesRule, TakesText, TakesTexts};
+
+use crate::gathered::{Gathered, RulePlace, SourceText};
+use crate::own::{OwnReading, own_reading};
+use crate::told::push_not_abnf;
+use abnfblocks::{Found, find_blocks, margin, rule_size};
+use abnfjoin::GivenRule;
+use rfctext::{TextLine, kept_lines};
+use ruletable::Memory;
+use std::alloc::Global;
+
+// Adds a rule.
+fn push_rule<'a>(
+    gathered: &mut Gathered<'a>,
+    place: RulePlace<'a>,
+    rule: GivenRule,
+) -> Result<(), Memory>
+    ensures { OnOk result (rules_gathered gathered.new
+        ≡ with_rule (rules_gathered gathered.old) (lines_placed place.entry) (text_rule rule)) }
+{
+    gathered.places.push(place)?;
+    gathered.rules.push(rule)?;
+    Ok(())
+}
+
+// Where a rule with these lines stands.
+fn place_of<'a>(
+    alloc: Global,
+    name: &'a [u8],
+    margin_size: usize,
+    lines: &[TextLine<'a>],
+) -> Result<RulePlace<'a>, Memory>
+    ensures { IfOk result (λ place. lines_placed place
+        ≡ record { name = name.now; margin = margin_size; lines = map numbered lines.now }) }
+{
+    let lines = Vec::from_slice(alloc, lines)?;
+    Ok(RulePlace {
+        name,
+        margin: margin_size,
+        lines,
+    })
+}
+
+// Takes the lines of a rule.
+fn take_rule<'a>(
+    alloc: Global,
+    gathered: &mut Gathered<'a>,
+    name: &'a [u8],
+    margin_size: usize,
+    lines: &[TextLine<'a>],
+) -> Result<(), Memory>
+    ensures { OnOk result (TakesRule name.now margin_size (map numbered lines.now)
+        (rules_gathered gathered.old) (rules_gathered gathered.new)) }
+{
+    match own_reading(alloc, margin_size, lines)? {
+        OwnReading::Rule(rule) => {
+            let place = place_of(alloc, name, margin_size, lines)?;
+            push_rule(gathered, place, rule)?;
+            Ok(())
+        }
+        OwnReading::Fault(fault) => {
+            push_not_abnf(&mut gathered.told, name, lines, fault)?;
+            Ok(())
+        }
+    }
+}
+
+// The margin of the first of these lines.
+fn margin_in(lines: &[TextLine<'_>]) -> usize
+    ensures { result ≡ margin_at (map numbered lines.now) }
+{
+    match lines.first() {
+        Some(line) => margin(line.bytes),
+        None => 0,
+    }
+}
+
+// Takes the lines of a piece, rule by rule.
+fn take_piece<'a>(
+    alloc: Global,
+    gathered: &mut Gathered<'a>,
+    name: &'a [u8],
+    lines: &[TextLine<'a>],
+) -> Result<(), Memory>
+    ensures { OnOk result (TakesPiece name.now (margin_at (map numbered lines.now)) (map numbered lines.now)
+        (rules_gathered gathered.old) (rules_gathered gathered.new)) }
+{
+    let margin_size = margin_in(lines);
+    let mut at = 0;
+    while at < lines.len() {
+        let rest = lines_behind(lines, at);
+        let size = rule_size(rest);
+        take_rule(alloc, gathered, name, margin_size, lines_before(rest, size))?;
+        at += size;
+    }
+    Ok(())
+}
+
+// The lines from that place on.
+fn lines_behind<'a, 'b>(lines: &'b [TextLine<'a>], place: usize) -> &'b [TextLine<'a>]
+    ensures { result.now ≡ drop place lines.now }
+{
+    &lines[place.min(lines.len())..]
+}
+
+// So many of the lines.
+fn lines_before<'a, 'b>(lines: &'b [TextLine<'a>], count: usize) -> &'b [TextLine<'a>]
+    ensures { result.now ≡ take count lines.now }
+{
+    &lines[..count.min(lines.len())]
+}
+
+// Takes what is found there among the lines that are kept of a text.
+fn take_found<'a>(
+    alloc: Global,
+    gathered: &mut Gathered<'a>,
+    name: &'a [u8],
+    kept: &[TextLine<'a>],
+    found: &[Found],
+) -> Result<(), Memory>
+    ensures { OnOk result (TakesFound name.now (map numbered kept.now) found.now
+        (rules_gathered gathered.old) (rules_gathered gathered.new)) }
+{
+    for it in found {
+        match *it {
+            Found::Piece { first, count } => {
+                let lines = lines_before(lines_behind(kept, first), count);
+                take_piece(alloc, gathered, name, lines)?;
+            }
+            Found::NotAbnf { first, fault } => {
+                push_not_abnf(&mut gathered.told, name, lines_behind(kept, first), fault)?;
+            }
+        }
+    }
+    Ok(())
+}
+
+// Takes a text.
+fn take_text<'a>(
+    alloc: Global,
+    gathered: &mut Gathered<'a>,
+    text: SourceText<'a>,
+) -> Result<(), Memory>
+    ensures { OnOk result (TakesText (named_text text.entry)
+        (rules_gathered gathered.old) (rules_gathered gathered.new)) }
+{
+    let kept = kept_lines(alloc, text.bytes)?;
+    let found = find_blocks(alloc, &kept)?;
+    take_found(alloc, gathered, text.name, &kept, &found)
+}
+
+/// Returns what texts give, one after another.
+///
+/// # Errors
+/// `Memory` if an allocation fails.
+pub(crate) fn take_texts<'a>(
+    alloc: Global,
+    texts: &[SourceText<'a>],
+) -> Result<Gathered<'a>, Memory>
+    ensures { IfOk result (λ gathered. TakesTexts (map named_text texts.now) none_gathered
+        (rules_gathered gathered)) }
+{
+    let mut gathered = Gathered {
+        places: Vec::new(alloc),
+        rules: Vec::new(alloc),
+        told: Vec::new(alloc),
+    };
+    for text in texts {
+        take_text(alloc, &mut gathered, *text)?;
+    }
+    Ok(gathered)
+}

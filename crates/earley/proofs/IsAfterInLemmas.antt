@@ -1,0 +1,202 @@
+-- What calls lead to in the sets of the numbers of a row.
+-- Serves: judge
+use Rattle.std.proofs.Common.{◌≡◌, ◌↔◌, ◌⊎◌, inl, inr, ⊎_elim, ℕ, zero, suc, ◌+◌, ◌<◌, ◌≤◌, List, [], ◌∷◌, length, take}
+use Rattle.std.proofs.Common.{slice_get, slice_index_or, Some, None, Contains, refl, sym, subst, arith}
+use Rattle.std.proofs.lemmas.Bool.{cases_lt}
+use Rattle.bitrows.specs.RowSets.{Rows, HasAt, AddsAt}
+use Rattle.itemsets.specs.ItemSets.{IsAdvanced, waiting_in}
+use Rattle.flatgrammar.specs.Blocks.{spot}
+use Rattle.flatgrammar.specs.Places.{In}
+use Rattle.flatgrammar.specs.declared.block.Spot.{Spot}
+use Rattle.flatgrammar.specs.declared.flat_item.Item.{Item}
+use Rattle.flatgrammar.specs.declared.tables.Tables as code_flat
+use Rattle.earley.specs.PlaceTables.{AreSteps, AreCallsTo}
+use Rattle.earley.specs.RowCharts.{row_views}
+use Rattle.earley.specs.RowIndexes.{rows_at, AreIndexed, IsAfterIn, IsAfterOwn, IsAfterSome}
+use Rattle.earley.specs.RowItems.{row_items, Gains, IsAfterCall, IsCompletedBy}
+use Rattle.earley.specs.declared.place_table.Call.{Call}
+use Rattle.earley.specs.declared.place_table.Step.{Step}
+use Rattle.earley.specs.declared.row_index.FilledSets.{FilledSets}
+use Rattle.earley.specs.declared.row_sets.KeptRows.{KeptRows}
+use Rattle.earley.proofs.GainsLemmas.{gains_none, gains_both, gains_as, gains_at}
+use Rattle.earley.proofs.RowItemsLemmas.{none_contains}
+use Rattle.earley.proofs.RowStepLemmas.{front_cases, front_old, front_new, get_index, get_no_index}
+use Rattle.earley.proofs.RowStepLemmas.{none_advanced, called_advanced, advanced_called}
+
+-- the place's own sets
+module _ (spots : List Spot) (call : Call) (own : List (List ℕ)) (row : List ℕ) (old new : Rows) where
+  pub own_added : (mine both : List ℕ) → slice_get own call.from ≡ Some mine
+      → ((k : ℕ) → Contains both k ↔ (Contains row k × Contains mine k))
+      → AddsAt call.after (λ k. Contains both k) old new → Gains spots (IsAfterOwn spots call own row) old new
+  own_added mine both is are adds =
+      let same = get_index own call.from mine is in
+      gains_as spots (λ a. (slice_get spots call.after ≡ Some (spot a.node a.step)) × Contains both a.origin)
+      (IsAfterOwn spots call own row) old new
+      (λ a h. let two = (are a.origin).0 h.1 in
+      record { after = h.0; has = two.0; own = subst (λ v. Contains v a.origin) (sym same) two.1 })
+      (λ a h. (h.after, (are a.origin).1 (h.has, subst (λ v. Contains v a.origin) same h.own)))
+      (gains_at spots call.after (λ k. Contains both k) old new adds)
+
+  pub own_none : slice_get own call.from ≡ None → Gains spots (IsAfterOwn spots call own row) old old
+  own_none is = gains_none spots (IsAfterOwn spots call own row) old
+      (λ a h. absurd (none_contains a.origin (subst (λ v. Contains v a.origin) (get_no_index own call.from is) h.own)))
+
+-- the sets of the numbers of a row, as far as a loop has come
+module _ (spots : List Spot) (call : Call) (sets : List KeptRows) (row : List ℕ) (old : Rows) where
+  pub each_none : Gains spots (IsAfterIn spots call sets row 0) old old
+  each_none = gains_none spots (IsAfterIn spots call sets row 0) old
+      (λ a h. let lt = h.under in absurd (omega (arith, lt)))
+
+  pub each_next : (from origin : ℕ) (mid new : Rows) → from ≤ origin → Contains row origin
+      → ((k : ℕ) → Contains row k → from ≤ k → origin ≤ k) → Gains spots (IsAfterIn spots call sets row from) old mid
+      → Gains spots (IsAfterCall spots call (rows_at sets origin)) mid new
+      → Gains spots (IsAfterIn spots call sets row (origin + 1)) old new
+  each_next from origin mid new le has least was gains =
+      gains_both spots (IsAfterIn spots call sets row from) (IsAfterCall spots call (rows_at sets origin))
+      (IsAfterIn spots call sets row (origin + 1)) old mid new was gains
+      (λ a h. ⊎_elim
+      (λ lt. inl (record { origin = h.origin; has = h.has; under = lt; after = h.after }))
+      (λ past. let one = least h.origin h.has past in let two = h.under in
+      let same : h.origin ≡ origin = omega (arith, one, two) in
+      inr (subst (λ v. IsAfterCall spots call (rows_at sets v) a) same h.after))
+      (cases_lt h.origin from))
+      (λ a h. let lt = h.under in
+      record { origin = h.origin; has = h.has; under = omega (arith, lt, le); after = h.after })
+      (λ a h. record { origin = origin; has = has; under = omega arith; after = h })
+
+  pub each_more : (from below : ℕ) (new : Rows) → ((k : ℕ) → Contains row k → k < below → k < from) → from ≤ below
+      → Gains spots (IsAfterIn spots call sets row from) old new
+      → Gains spots (IsAfterIn spots call sets row below) old new
+  each_more from below new none le gains = gains_as spots (IsAfterIn spots call sets row from)
+      (IsAfterIn spots call sets row below) old new
+      (λ a h. let lt = h.under in
+      record { origin = h.origin; has = h.has; under = omega (arith, lt, le); after = h.after })
+      (λ a h. record { origin = h.origin; has = h.has; under = none h.origin h.has h.under; after = h.after })
+      gains
+
+-- a number of a set that is there
+pub set_within : (sets : List KeptRows) (o p k : ℕ) → HasAt (rows_at sets o) p k → o < length sets
+set_within [] o p k h = absurd (none_contains k h)
+set_within (s ∷ sets) zero p k h = omega arith
+set_within (s ∷ sets) (suc o) p k h = let lt = set_within sets o p k h in omega (arith, lt)
+
+-- the place's own sets, and the rest
+module _ (spots : List Spot) (places : ℕ) (filled : FilledSets) (are : AreIndexed places filled) (call : Call)
+    (row : List ℕ) (old mid new : Rows)
+    (own : Gains spots (IsAfterOwn spots call filled.own.items row) old mid) where
+  abbrev count : ℕ
+  count = length filled.sets.items
+
+  of_own : (a : Item) → IsAfterOwn spots call filled.own.items row a
+      → IsAfterIn spots call filled.sets.items row count a
+  of_own a h =
+      let there = (are.own call.from a.origin a.origin h.own).1 refl in
+      record {
+        origin = a.origin;
+        has = h.has;
+        under = set_within filled.sets.items a.origin call.from a.origin there;
+        after = (h.after, there);
+      }
+
+  own_or : (a : Item) → (h : IsAfterIn spots call filled.sets.items row count a)
+      → IsAfterOwn spots call filled.own.items row a ⊎ HasAt filled.rest.items call.from h.origin
+  own_or a h = ⊎_elim
+      (λ g. let same : a.origin ≡ h.origin = (are.own call.from h.origin a.origin g).0 h.after.1 in
+      inl (record {
+        after = h.after.0;
+        has = subst (λ v. Contains row v) (sym same) h.has;
+        own = subst (λ v. HasAt filled.own.items call.from v) (sym same) g;
+      }))
+      (λ g. inr g) (are.there call.from h.origin a.origin h.after.1)
+
+  pub rest_added : (rest both : List ℕ) → slice_get filled.rest.items call.from ≡ Some rest
+      → ((k : ℕ) → Contains both k ↔ (Contains row k × Contains rest k))
+      → Gains spots (IsAfterIn spots call filled.sets.items both count) mid new
+      → Gains spots (IsAfterIn spots call filled.sets.items row count) old new
+  rest_added rest both is two gains =
+      let same = get_index filled.rest.items call.from rest is in
+      gains_both spots (IsAfterOwn spots call filled.own.items row) (IsAfterIn spots call filled.sets.items both count)
+      (IsAfterIn spots call filled.sets.items row count) old mid new own gains
+      (λ a h. ⊎_elim (λ g. inl g)
+      (λ g. inr (record {
+        origin = h.origin;
+        has = (two h.origin).1 (h.has, subst (λ v. Contains v h.origin) same g);
+        under = h.under;
+        after = h.after;
+      }))
+      (own_or a h))
+      (λ a h. of_own a h)
+      (λ a h. record { origin = h.origin; has = ((two h.origin).0 h.has).0; under = h.under; after = h.after })
+
+  pub no_rest : slice_get filled.rest.items call.from ≡ None
+      → Gains spots (IsAfterIn spots call filled.sets.items row count) old mid
+  no_rest is = gains_as spots (IsAfterOwn spots call filled.own.items row)
+      (IsAfterIn spots call filled.sets.items row count) old mid
+      (λ a h. of_own a h)
+      (λ a h. ⊎_elim (λ g. g)
+      (λ g. absurd (none_contains h.origin
+      (subst (λ v. Contains v h.origin) (get_no_index filled.rest.items call.from is) g)))
+      (own_or a h))
+      own
+
+-- the calls as far as a loop has come
+module _ (spots : List Spot) (calls : List Call) (sets : List KeptRows) (row : List ℕ) (below : ℕ) (old : Rows) where
+  pub some_none : Gains spots (IsAfterSome spots (take 0 calls) sets row below) old old
+  some_none = gains_none spots (IsAfterSome spots (take 0 calls) sets row below) old (λ a h. nothing a h.stands)
+    where
+      nothing : {A : Type 0} (a : Item) {c : Call} → In c (take 0 calls) → A
+      nothing a h = elim h [ ]
+
+  pub some_next : (i : ℕ) (d : Call) (mid new : Rows) → i < length calls
+      → Gains spots (IsAfterSome spots (take i calls) sets row below) old mid
+      → Gains spots (IsAfterIn spots (slice_index_or calls i d) sets row below) mid new
+      → Gains spots (IsAfterSome spots (take (i + 1) calls) sets row below) old new
+  some_next i d mid new lt was gains =
+      gains_both spots (IsAfterSome spots (take i calls) sets row below)
+      (IsAfterIn spots (slice_index_or calls i d) sets row below)
+      (IsAfterSome spots (take (i + 1) calls) sets row below) old mid new was gains
+      (λ a h. ⊎_elim (λ g. inl (record { call = h.call; stands = g; after = h.after }))
+      (λ same. inr (subst (λ v. IsAfterIn spots v sets row below a) same h.after))
+      (front_cases h.call calls i d lt h.stands))
+      (λ a h. record { call = h.call; stands = front_old h.call calls i d lt h.stands; after = h.after })
+      (λ a h. record { call = slice_index_or calls i d; stands = front_new calls i d lt; after = h })
+
+-- the set that waits for a completion
+no_row_items : (spots : List Spot) → row_items spots [] ≡ []
+no_row_items [] = refl
+no_row_items (s ∷ spots) = refl
+
+waits_at : (spots : List Spot) (sets : List KeptRows) (o : ℕ)
+    → waiting_in (row_views spots sets) [] o ≡ row_items spots (rows_at sets o)
+waits_at spots [] o = sym (no_row_items spots)
+waits_at spots (s ∷ sets) zero = refl
+waits_at spots (s ∷ sets) (suc o) = waits_at spots sets o
+
+-- the calls of a root complete it
+module _ (flat : code_flat.Tables) (spots : List Spot) (steps : List Step) (are : AreSteps flat spots steps) (root : ℕ)
+    (sets : List KeptRows) (row : List ℕ) (below : ℕ) (old : Rows) where
+  pub some_completed : (calls : List Call) → AreCallsTo steps root calls → (new : Rows)
+      → Gains spots (IsAfterSome spots calls sets row below) old new
+      → Gains spots (IsCompletedBy flat (row_views spots sets) root row below) old new
+  some_completed calls ones new gains = gains_as spots (IsAfterSome spots calls sets row below)
+      (IsCompletedBy flat (row_views spots sets) root row below) old new
+      (λ a h. let f = h.after in record {
+        origin = f.origin;
+        has = f.has;
+        under = f.under;
+        advanced = subst (λ v. IsAdvanced flat root v a) (sym (waits_at spots sets f.origin))
+            (called_advanced flat spots steps are root (rows_at sets f.origin) calls ones a h.call h.stands f.after);
+      })
+      (λ a h. let g = advanced_called flat spots steps are root (rows_at sets h.origin) calls ones a
+      (subst (λ v. IsAdvanced flat root v a) (waits_at spots sets h.origin) h.advanced) in record {
+        call = g.0;
+        stands = g.1;
+        after = record { origin = h.origin; has = h.has; under = h.under; after = g.2 };
+      })
+      gains
+
+  pub none_completed : length flat.nodes.items ≤ root
+      → Gains spots (IsCompletedBy flat (row_views spots sets) root row below) old old
+  none_completed le = gains_none spots (IsCompletedBy flat (row_views spots sets) root row below) old
+      (λ a h. absurd (none_advanced flat spots steps are root (rows_at sets h.origin) a le
+      (subst (λ v. IsAdvanced flat root v a) (waits_at spots sets h.origin) h.advanced)))

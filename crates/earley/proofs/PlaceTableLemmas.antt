@@ -1,0 +1,153 @@
+-- Tables of numbered places.
+-- Serves: judge
+use Rattle.std.proofs.Common.{◌≡◌, ◌⊎◌, inl, inr, ⊎_elim, ℕ, zero, suc, ◌+◌, ◌<◌, List, [], ◌∷◌, ◌++◌, length}
+use Rattle.std.proofs.Common.{Some}
+use Rattle.std.proofs.Common.{slice_get, slice_index_or, refl, sym, ap, subst, ◌∙◌, arith}
+use Rattle.std.proofs.lemmas.Bool.{cases_lt}
+use Rattle.flatgrammar.proofs.CallOfLemmas.{some_same}
+use Rattle.flatgrammar.proofs.FlatCutLemmas.{push_cases}
+use Rattle.flatgrammar.proofs.InLemmas.{in_left, at_end, before_end, different_end}
+use Rattle.flatgrammar.specs.Blocks.{spot}
+use Rattle.flatgrammar.specs.Places.{In, AreDifferent}
+use Rattle.flatgrammar.specs.declared.block.Spot.{Spot}
+use Rattle.flatgrammar.specs.declared.tables.Tables as code_flat
+use Rattle.earley.specs.PlaceTables.{AreBelow, AreFirstPlaces, IsCallTo, AreCallsBelow, IsStep, IsRootAt, AreStarts}
+use Rattle.earley.specs.PlaceTables.{AreStartsIf, IsReached}
+use Rattle.earley.specs.declared.place_table.Call.{Call}
+use Rattle.earley.specs.declared.place_table.Called.{Called}
+use Rattle.earley.specs.declared.place_table.RootPlaces.{RootPlaces}
+use Rattle.earley.specs.declared.place_table.Step.{Step}
+
+-- different places, below a step of a node
+pub record AreBelowStep (node step : ℕ) (spots : List Spot) : Type 0 where
+  pub below : (p : Spot) → In p spots → (p.node < node) ⊎ ((p.node ≡ node) × (p.step < step))
+  pub different : AreDifferent spots
+
+pub below_step : (node : ℕ) (spots : List Spot) → AreBelow node spots → AreBelowStep node 0 spots
+below_step node spots b = record { below = λ p h. inl (b.below p h); different = b.different }
+
+pub below_next : (node step : ℕ) (spots : List Spot) → AreBelowStep node step spots
+    → AreBelowStep node (step + 1) (spots ++ spot node step ∷ [])
+below_next node step spots b = record {
+  below = λ p h. ⊎_elim
+      (λ g. ⊎_elim (λ f. inl f) (λ f. inr (f.0, (let lt = f.1 in omega (arith, lt)))) (b.below p g))
+      (λ same. inr (ap (λ v. v.node) same, (let is : p.step ≡ step = ap (λ v. v.step) same in omega (arith, is))))
+      (before_end p (spot node step) spots h);
+  different = different_end (spot node step) spots
+      (λ h. ⊎_elim {C = ⊥} (λ f. omega (arith, f)) (λ f. let lt = f.1 in omega (arith, lt)) (b.below (spot node step)
+      h))
+      b.different;
+}
+
+pub below_done : (node step : ℕ) (spots : List Spot) → AreBelowStep node step spots → AreBelow (node + 1) spots
+below_done node step spots b = record {
+  below = λ p h. ⊎_elim (λ f. omega (arith, f)) (λ f. let is = f.0 in omega (arith, is)) (b.below p h);
+  different = b.different;
+}
+
+-- the places of one step more
+pub first_none : (spots : List Spot) (node : ℕ) → AreFirstPlaces spots node 0 []
+first_none spots node = record {
+  only = λ p h. nothing p h;
+  all = λ k lt. absurd (omega (arith, lt));
+}
+  where
+    nothing : {A : Type 0} (p : ℕ) → In p [] → A
+    nothing p h = elim h [ ]
+
+pub first_next : (spots : List Spot) (node k p : ℕ) (places : List ℕ) → AreFirstPlaces spots node k places
+    → slice_get spots p ≡ Some (spot node k) → AreFirstPlaces spots node (k + 1) (places ++ p ∷ [])
+first_next spots node k p places are is = record {
+  only = λ q h. ⊎_elim (λ g. let o = are.only q g in let lt = o.1 in (o.0, omega (arith, lt), o.2))
+      (λ same. (k, omega arith, ap (λ v. slice_get spots v) same ∙ is)) (before_end q p places h);
+  all = λ m lt. ⊎_elim (λ less. let o = are.all m less in (o.0, in_left (p ∷ []) o.1, o.2))
+      (λ past. let same : m ≡ k = omega (arith, lt, past) in
+      (p, at_end p places, is ∙ ap (λ v. Some (spot node v)) (sym same)))
+      (cases_lt m k);
+}
+
+-- one step more
+pub steps_next : (flat : code_flat.Tables) (spots : List Spot) (steps : List Step) (step : Step) (now : Spot)
+    → ((p : ℕ) (at : Spot) (s : Step) → slice_get spots p ≡ Some at → slice_get steps p ≡ Some s
+    → IsStep flat spots at s)
+    → slice_get spots (length steps) ≡ Some now → IsStep flat spots now step
+    → (p : ℕ) (at : Spot) (s : Step) → slice_get spots p ≡ Some at → slice_get (steps ++ step ∷ []) p ≡ Some s
+    → IsStep flat spots at s
+steps_next flat spots steps step now each now_is tells p at s at_is is =
+    ⊎_elim (λ was. each p at s at_is was)
+    (λ h. let same : now ≡ at = some_same (sym now_is ∙ (ap (λ v. slice_get spots v) (sym h.0) ∙ at_is)) in
+    subst (λ v. IsStep flat spots at v) h.1 (subst (λ v. IsStep flat spots v step) same tells))
+    (push_cases steps step p s is)
+
+-- one root more
+pub roots_next : (flat : code_flat.Tables) (spots : List Spot) (steps : List Step) (roots : List RootPlaces)
+    (root : RootPlaces)
+    → ((t : ℕ) (r : RootPlaces) → slice_get roots t ≡ Some r → IsRootAt flat spots steps t r)
+    → IsRootAt flat spots steps (length roots) root
+    → (t : ℕ) (r : RootPlaces) → slice_get (roots ++ root ∷ []) t ≡ Some r → IsRootAt flat spots steps t r
+roots_next flat spots steps roots root each tells t r is =
+    ⊎_elim (λ was. each t r was)
+    (λ h. subst (λ v. IsRootAt flat spots steps t v) h.1 (subst (λ v. IsRootAt flat spots steps v root) (sym h.0)
+    tells))
+    (push_cases roots root t r is)
+
+-- one place more that may call
+module _ (steps : List Step) (root from : ℕ) (step : Step) (is : slice_get steps from ≡ Some step) (calls : List Call)
+    (are : AreCallsBelow steps root from calls) where
+  pub calls_kept : (called : Called) → step.called ≡ Some called → called.root ≡ root
+      → AreCallsBelow steps root (from + 1) (calls ++ record { from = from; after = called.after } ∷ [])
+  calls_kept called called_is root_is = record {
+    only = λ c h. ⊎_elim (λ g. are.only c g)
+        (λ same. subst (λ v. IsCallTo steps root v) (sym same) (record {
+          step = step;
+          is = is;
+          called = called;
+          called_is = called_is;
+          root_is = root_is;
+          after = refl;
+        }))
+        (before_end c (record { from = from; after = called.after }) calls h);
+    all = λ p s d lt s_is d_is d_root. ⊎_elim
+        (λ less. let o = are.all p s d less s_is d_is d_root in (o.0, in_left _ o.1, o.2, o.3))
+        (λ past. let same : p ≡ from = omega (arith, lt, past) in
+        let one : s ≡ step = some_same (sym s_is ∙ (ap (λ v. slice_get steps v) same ∙ is)) in
+        let two : d ≡ called = some_same (sym d_is ∙ (ap (λ v. v.called) one ∙ called_is)) in
+        let c : Call = record { from = from; after = called.after } in
+        (c, at_end c calls, sym same, ap (λ v. v.after) (sym two)))
+        (cases_lt p from);
+  }
+
+  pub calls_left : ((called : Called) → step.called ≡ Some called → called.root ≡ root → ⊥)
+      → AreCallsBelow steps root (from + 1) calls
+  calls_left none = record {
+    only = are.only;
+    all = λ p s d lt s_is d_is d_root. ⊎_elim
+        (λ less. are.all p s d less s_is d_is d_root)
+        (λ past. let same : p ≡ from = omega (arith, lt, past) in
+        let one : s ≡ step = some_same (sym s_is ∙ (ap (λ v. slice_get steps v) same ∙ is)) in
+        absurd (none d (ap (λ v. v.called) (sym one) ∙ d_is) d_root))
+        (cases_lt p from);
+  }
+
+-- an element by its index
+pub get_or_index : {A : Type 0} (xs : List A) (i : ℕ) (d : A) → i < length xs
+    → slice_get xs i ≡ Some (slice_index_or xs i d)
+get_or_index [] i d lt = absurd (omega arith)
+get_or_index (x ∷ xs) zero d lt = refl
+get_or_index (x ∷ xs) (suc i) d lt = get_or_index xs i d (omega (arith, lt))
+
+pub below_calls_none : (steps : List Step) (root : ℕ) → AreCallsBelow steps root 0 []
+below_calls_none steps root = record {
+  only = λ c h. nothing c h;
+  all = λ p s d lt. absurd (omega (arith, lt));
+}
+  where
+    nothing : {A : Type 0} (c : Call) → In c [] → A
+    nothing c h = elim h [ ]
+
+-- the starts of a root that is reached
+pub reached_starts : (flat : code_flat.Tables) (spots : List Spot) (steps : List Step) (roots : List RootPlaces)
+    (root : ℕ) (r : RootPlaces) → IsRootAt flat spots steps root r → IsReached roots root
+    → slice_get roots root ≡ Some r → AreStarts flat spots root r.starts.items
+reached_starts flat spots steps roots root r tells reached is =
+    subst (λ b. AreStartsIf b flat spots root r.starts.items) (reached r is) tells.starts

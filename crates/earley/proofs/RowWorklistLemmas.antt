@@ -1,0 +1,187 @@
+-- Sets of rows on which the worklist is at work, and sets that are filled.
+-- Serves: judge
+use Rattle.std.proofs.Common.{◌≡◌, ◌⊎◌, inl, inr, ⊎_elim, ℕ, zero, suc, ◌<◌, Option, Some, None}
+use Rattle.std.proofs.Common.{List}
+use Rattle.std.proofs.Common.{[], ◌∷◌, ◌++◌, length, slice_get, slice_index_or, Contains, refl, sym, ◌∙◌, ap}
+use Rattle.std.proofs.Common.{subst}
+use Rattle.std.specs.List.Sorted.{IsStrictlyIncreasing}
+use Rattle.std.specs.Prelude.{replicate}
+use Rattle.bitrows.specs.RowSets.{Rows, HasAt, TakesAt, no_items}
+use Rattle.itemsets.proofs.IsBuiltLemmas.{built_more, after_holds, whole_holds}
+use Rattle.itemsets.proofs.IsWorkedLemmas.{passed_holds, none_hold, worked_closed}
+use Rattle.itemsets.proofs.ScanLastLemmas.{predicted_holds, completed_holds}
+use Rattle.itemsets.specs.Charts.{IsFirst, IsBuilt}
+use Rattle.itemsets.specs.Closed.{Hold, HoldAll}
+use Rattle.itemsets.specs.ItemSets.{waiting_or}
+use Rattle.itemsets.specs.Worklist.{IsWork, IsWorked}
+use Rattle.flatgrammar.proofs.CallOfLemmas.{equal_or, get_below}
+use Rattle.flatgrammar.proofs.FlatCutLemmas.{push_cases}
+use Rattle.flatgrammar.specs.Blocks.{spot}
+use Rattle.flatgrammar.specs.Flat.{at}
+use Rattle.flatgrammar.specs.Holds.{Holds}
+use Rattle.flatgrammar.specs.NodeSteps.{flat_of}
+use Rattle.flatgrammar.specs.Places.{In, AreDifferent}
+use Rattle.flatgrammar.specs.TableViews.{GiveRoots, AreNulls}
+use Rattle.flatgrammar.specs.declared.block.Spot.{Spot}
+use Rattle.flatgrammar.specs.declared.flat_item.Item.{Item}
+use Rattle.flatgrammar.specs.declared.tables.Tables as code_flat
+use Rattle.earley.specs.RowCharts.{row_views, AreSizedRows, IsRowWorklist}
+use Rattle.earley.specs.RowItems.{IsRowItem, row_items, Gains, IsFor}
+use Rattle.earley.specs.declared.row_sets.KeptRows.{KeptRows}
+use Rattle.earley.proofs.RowItemsLemmas.{row_item_in, in_row_item, row_items_different, no_number}
+
+module _ (flat : code_flat.Tables) (roots : GiveRoots (flat_of flat) flat.roots.items)
+    (nulls : AreNulls (flat_of flat) flat.nulls.items) (x : List ℕ) (sets : List (List Item))
+    (earlier : HoldAll (flat_of flat) x sets) where
+  abbrev HoldsHere : Item → Type 0
+  HoldsHere a = Holds (flat_of flat) x (length sets) (at a.node a.step) a.origin
+
+  waits_early : (o : ℕ) (found : Option (List Item)) {b : Item} → slice_get sets o ≡ found → In b (waiting_or [] found)
+      → o < length sets
+  waits_early o None is h = elim h [ ]
+  waits_early o (Some set) is h = get_below sets o is
+
+  work_holds : (by a : Item) → HoldsHere by → IsWork flat sets by a → HoldsHere a
+  work_holds by a h (inl (inl p)) =
+      predicted_holds flat roots x sets [] earlier (none_hold flat roots nulls x sets earlier) by a h p
+  work_holds by a h (inl (inr n)) = passed_holds flat roots nulls x sets earlier by a h n
+  work_holds by a h (inr c) = completed_holds flat roots x sets [] earlier (none_hold flat roots nulls x sets earlier)
+      by a h c (λ t. waits_early by.origin (slice_get sets by.origin) refl c.advanced.stands)
+
+  module _ (spots : List Spot) where
+    pub nothing_pending : (old : Rows) → IsRowWorklist flat spots x sets old → ((p k : ℕ) → HasAt old.pending p k → ⊥)
+        → (a : Item) → IsRowItem spots old.all a → (b : Item) → IsWork flat sets a b → IsRowItem spots old.all b
+    nothing_pending old work none a h b w =
+        ⊎_elim (λ p. absurd (none p.place a.origin p.has)) (λ done. done b w) (work.worked a h)
+
+    module _ (place : ℕ) (row : List ℕ) (old mid new : Rows) (work : IsRowWorklist flat spots x sets old)
+        (takes : TakesAt place row old mid) where
+      pub stands_mid : (a : Item) → IsRowItem spots old.all a → IsRowItem spots mid.all a
+      stands_mid a h = record {
+        place = h.place;
+        is = h.is;
+        has = subst (λ v. HasAt v h.place a.origin) (sym takes.all) h.has;
+      }
+
+      stood_old : (a : Item) → IsRowItem spots mid.all a → IsRowItem spots old.all a
+      stood_old a h = record {
+        place = h.place;
+        is = h.is;
+        has = subst (λ v. HasAt v h.place a.origin) takes.all h.has;
+      }
+
+      -- what was pending is taken, or pending still
+      taken_or : (a : Item) → IsRowItem spots old.pending a
+          → ((slice_get spots place ≡ Some (spot a.node a.step)) × Contains row a.origin) ⊎ IsRowItem spots
+          mid.pending a
+      taken_or a h = ⊎_elim
+          (λ same. inl (
+            subst (λ v. slice_get spots v ≡ Some (spot a.node a.step)) same h.is,
+            (takes.taken a.origin).1 (subst (λ v. HasAt old.pending v a.origin) same h.has),
+          ))
+          (λ other. inr (record {
+            place = h.place;
+            is = h.is;
+            has = (takes.rest h.place a.origin).1 (h.has, other);
+          }))
+          (equal_or h.place place)
+
+      was_pending : (a : Item) → IsRowItem spots mid.pending a → IsRowItem spots old.pending a
+      was_pending a h = record { place = h.place; is = h.is; has = ((takes.rest h.place a.origin).0 h.has).0 }
+
+      -- what is taken stands in the set
+      taken_stands : (a : Item) → slice_get spots place ≡ Some (spot a.node a.step) → Contains row a.origin
+          → IsRowItem spots old.all a
+      taken_stands a is has =
+          work.within a (record { place = place; is = is; has = (takes.taken a.origin).0 has })
+
+      pub worked_on : Gains spots (IsFor spots place row (IsWork flat sets)) mid new
+          → IsRowWorklist flat spots x sets new
+      worked_on gains = record {
+        count = gains.count ∙ (ap (λ v. length v) takes.all ∙ work.count);
+        held = λ a h. ⊎_elim (λ g. work.held a (stood_old a g))
+            (λ g. work_holds g.by a (work.held g.by (taken_stands g.by g.is g.has)) g.work) (gains.only a h);
+        within = λ a h. ⊎_elim
+            (λ g. gains.kept a (stands_mid a (work.within a (was_pending a g)))) (λ g. g) (gains.within a h);
+        worked = λ a h. ⊎_elim (λ g. of_old a (stood_old a g)) (λ g. inl g) (gains.fresh a h);
+      }
+        where
+          of_old : (a : Item) → IsRowItem spots old.all a → IsRowItem spots new.pending a
+              ⊎ ((b : Item) → IsWork flat sets a b → IsRowItem spots new.all b)
+          of_old a h = ⊎_elim
+              (λ p. ⊎_elim
+              (λ taken. inr (λ b w. gains.all b (record { by = a; is = taken.0; has = taken.1; work = w })))
+              (λ q. inl (gains.still a q)) (taken_or a p))
+              (λ done. inr (λ b w. gains.kept b (stands_mid b (done b w)))) (work.worked a h)
+
+      -- an empty row
+      pub worked_none : ((k : ℕ) → Contains row k → ⊥) → IsRowWorklist flat spots x sets mid
+      worked_none none = record {
+        count = ap (λ v. length v) takes.all ∙ work.count;
+        held = λ a h. work.held a (stood_old a h);
+        within = λ a h. stands_mid a (work.within a (was_pending a h));
+        worked = λ a h. ⊎_elim
+            (λ p. ⊎_elim (λ taken. absurd (none a.origin taken.1)) (λ q. inl q) (taken_or a p))
+            (λ done. inr (λ b w. stands_mid b (done b w))) (work.worked a (stood_old a h));
+      }
+
+    -- a set begins: all is pending
+    pub begun_rows : (old new : Rows) → old ≡ no_items (length spots) → length old.all ≡ length spots
+        → IsBuilt flat x sets → Gains spots (IsFirst flat x sets) old new → IsRowWorklist flat spots x sets new
+    begun_rows old new none count built gains = record {
+      count = gains.count ∙ count;
+      held = λ a h. ⊎_elim (λ g. absurd (nothing a g)) (λ g. first_item a g) (gains.only a h);
+      within = λ a h. ⊎_elim (λ g. absurd (nothing_waits a g)) (λ g. g) (gains.within a h);
+      worked = λ a h. ⊎_elim (λ g. absurd (nothing a g)) (λ g. inl g) (gains.fresh a h);
+    }
+      where
+        nothing : (a : Item) → IsRowItem spots old.all a → ⊥
+        nothing a h = no_number (length spots) h.place a.origin
+            (subst (λ v. HasAt v h.place a.origin) (ap (λ v. v.all) none) h.has)
+
+        nothing_waits : (a : Item) → IsRowItem spots old.pending a → ⊥
+        nothing_waits a h = no_number (length spots) h.place a.origin
+            (subst (λ v. HasAt v h.place a.origin) (ap (λ v. v.pending) none) h.has)
+
+        first_item : (a : Item) → IsFirst flat x sets a → HoldsHere a
+        first_item a (inl w) = subst (λ v. Holds (flat_of flat) x v (at a.node a.step) a.origin) (sym w.0)
+            (whole_holds flat roots x sets earlier a w.1)
+        first_item a (inr r) = after_holds flat roots x sets earlier a r
+
+  -- a set that is filled follows those before it
+  pub filled_rows : (spots : List Spot) (begun full : Rows) (rows : List (List ℕ)) → AreDifferent spots
+      → IsBuilt flat x sets → rows ≡ full.all → ((p : ℕ) → IsStrictlyIncreasing (slice_index_or rows p []))
+      → ((a : Item) → IsFirst flat x sets a → IsRowItem spots begun.all a)
+      → ((a : Item) → IsRowItem spots begun.all a → IsRowItem spots full.all a)
+      → IsRowWorklist flat spots x sets full → ((p k : ℕ) → HasAt full.pending p k → ⊥)
+      → IsBuilt flat x (sets ++ row_items spots rows ∷ [])
+  filled_rows spots begun full rows different built is up first keeps work none =
+      subst (λ v. IsBuilt flat x (sets ++ row_items spots v ∷ [])) (sym is)
+      (built_more flat roots x sets built (row_items spots full.all) held
+      (row_items_different spots full.all different (λ p. subst (λ v. IsStrictlyIncreasing (slice_index_or v p [])) is
+      (up p)))
+      (worked_closed flat roots nulls x sets earlier (row_items spots full.all) held worked)
+      (λ a h. row_item_in spots full.all a (keeps a (first a h))))
+    where
+      held : Hold (flat_of flat) x (length sets) (row_items spots full.all)
+      held a h = work.held a (in_row_item spots full.all a h)
+
+      worked : IsWorked flat sets (row_items spots full.all) (row_items spots full.all)
+      worked a h b w = row_item_in spots full.all b
+          (nothing_pending spots full work none a (in_row_item spots full.all a h) b w)
+
+-- rows of nothing
+pub length_no : (n : ℕ) → length {A = List ℕ} (replicate n []) ≡ n
+length_no zero = refl
+length_no (suc n) = ap suc (length_no n)
+
+-- one set more
+pub views_more : (spots : List Spot) (sets : List KeptRows) (kept : KeptRows)
+    → row_views spots (sets ++ kept ∷ []) ≡ row_views spots sets ++ row_items spots kept.rows.items ∷ []
+views_more spots [] kept = refl
+views_more spots (s ∷ sets) kept = ap (λ v. row_items spots s.rows.items ∷ v) (views_more spots sets kept)
+
+pub sized_more : (spots : List Spot) (sets : List KeptRows) (kept : KeptRows) → AreSizedRows spots sets
+    → kept.size ≡ length (row_items spots kept.rows.items) → AreSizedRows spots (sets ++ kept ∷ [])
+sized_more spots sets kept all last j s is = ⊎_elim (λ was. all j s was)
+    (λ h. subst (λ v. v.size ≡ length (row_items spots v.rows.items)) h.1 last) (push_cases sets kept j s is)

@@ -1,0 +1,18 @@
+use Rattle.std.proofs.Common.{sym, ap, ◌∙◌}
+use Rattle.flatgrammar.proofs.CallOfLemmas.{some_same}
+use Rattle.earley.proofs.PlaceTableLemmas.{calls_kept, calls_left}
+use Rattle.earley.proofs.place_table.keep_call.Goals as goal
+
+pub returns-in_ok-push-in-Some : goal.returns-in_ok-push-in-Some
+returns-in_ok-push-in-Some c steps is are = rw c.in_ok-push-in-Some.ensures.items
+    (calls_kept steps c.args.root c.args.from c.args.step is c.args.calls.now.items are c.in-Some.called c.in-Some.is
+    c.if-called-root.true)
+
+pub returns-in_default : goal.returns-in_default
+returns-in_default c steps is are = calls_left steps c.args.root c.args.from c.args.step is c.args.calls.now.items are
+    (λ d d_is d_root. c.if-called-root.false
+    (ap (λ v. v.root) (some_same (sym c.in-Some.is ∙ d_is)) ∙ d_root))
+
+pub returns-in_default-2 : goal.returns-in_default-2
+returns-in_default-2 c steps is are = calls_left steps c.args.root c.args.from c.args.step is c.args.calls.now.items are
+    (λ d d_is d_root. let none = c.in_default.is in absurd (cc (none, d_is)))

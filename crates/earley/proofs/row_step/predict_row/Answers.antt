@@ -1,0 +1,30 @@
+use Rattle.std.proofs.Common.{◌<◌, Some, length, ap, sym, ◌∙◌, arith}
+use Rattle.std.proofs.lemmas.Option.{slice_get-get_or}
+use Rattle.earley.proofs.RowStepLemmas.{nothing_predicted, call_predicts, step_here, call_here, no_call_here}
+use Rattle.earley.proofs.row_step.predict_row.Goals as goal
+
+pub returns-in-None : goal.returns-in-None
+returns-in-None c j one =
+    let h = step_here c.args.table.now.flat.value c.args.table.now.spots.items c.args.table.now.steps.items
+    c.requires.table.steps c.args.place c.index.result.now c.requires.place c.index.ensures in
+    nothing_predicted c.args.table.now.flat.value c.args.table.now.spots.items c.args.place c.args.row.now h.at h.is
+    c.args.set.now c.args.set.now j
+    (no_call_here c.args.table.now.flat.value c.args.table.now.spots.items h.at c.index.result.now h.tells c.in-None.is)
+
+pub returns-in_ok-predict_root-in-Some : goal.returns-in_ok-predict_root-in-Some
+returns-in_ok-predict_root-in-Some c j one =
+    let h = step_here c.args.table.now.flat.value c.args.table.now.spots.items c.args.table.now.steps.items
+    c.requires.table.steps c.args.place c.index.result.now c.requires.place c.index.ensures in
+    call_predicts c.args.table.now.flat.value c.args.table.now.spots.items c.args.place c.args.row.now h.at h.is
+    c.args.set.now c.predict_root.new.set c.in-Some.called
+    (call_here c.args.table.now.flat.value c.args.table.now.spots.items h.at c.index.result.now c.in-Some.called h.tells
+    c.in-Some.is) j c.requires.some.0 c.args.here.now c.requires.some.1 one c.in_ok-predict_root-in-Some.ensures
+
+pub predict_root-requires-clause-reached : goal.predict_root-requires-clause-reached
+predict_root-requires-clause-reached c =
+    let count = c.requires.table.steps.count in
+    let lt = c.requires.place in
+    let low : c.args.place < length c.args.table.now.steps.items = omega (arith, lt, count) in
+    c.requires.table.reached c.args.place c.index.result.now c.in-Some.called
+    (slice_get-get_or c.args.table.now.steps.items c.args.place c.index.result.now low
+    ∙ ap Some (sym c.index.ensures)) c.in-Some.is

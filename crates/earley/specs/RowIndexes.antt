@@ -1,0 +1,68 @@
+-- The filled sets of a line, told apart by the rows of a place.
+use Rattle.std.specs.Prelude.{◌≡◌, ◌↔◌, ◌⊎◌, ℕ, ◌<◌, List, [], length, Option, Some, None, slice_get, Contains}
+use Rattle.bitrows.specs.RowSets.{HasAt}
+use Rattle.flatgrammar.specs.Blocks.{spot}
+use Rattle.flatgrammar.specs.Places.{In}
+use Rattle.flatgrammar.specs.declared.block.Spot.{Spot}
+use Rattle.flatgrammar.specs.declared.flat_item.Item.{Item}
+use Rattle.earley.specs.RowItems.{IsAfterCall}
+use Rattle.earley.specs.declared.place_table.Call.{Call}
+use Rattle.earley.specs.declared.row_index.FilledSets.{FilledSets}
+use Rattle.earley.specs.declared.row_sets.KeptRows.{KeptRows}
+
+-- the rows of a set
+abbrev pub rows_or : Option KeptRows → List (List ℕ)
+rows_or None = []
+rows_or (Some s) = s.rows.items
+
+abbrev pub rows_at : List KeptRows → ℕ → List (List ℕ)
+rows_at sets o = rows_or (slice_get sets o)
+
+-- a row has one number alone
+abbrev pub HasAlone : List ℕ → ℕ → Type 0
+HasAlone row number = (k : ℕ) → Contains row k ↔ (k ≡ number)
+
+-- a set is told apart by its row at a place
+pub record Indexes (number place : ℕ) (row : List ℕ) (mine others mine' others' : List (List ℕ)) : Type 0 where
+  pub own : (p o : ℕ) → HasAt mine' p o → HasAt mine p o ⊎ ((p ≡ place) × (o ≡ number) × HasAlone row number)
+  pub own_kept : (p o : ℕ) → HasAt mine p o → HasAt mine' p o
+  pub rest_kept : (p o : ℕ) → HasAt others p o → HasAt others' p o
+  pub there : (k : ℕ) → Contains row k → HasAt mine' place number ⊎ HasAt others' place number
+
+-- a set is told apart by its rows at the places below one
+pub record AreIndexedBelow (number below : ℕ) (rows mine others mine' others' : List (List ℕ)) : Type 0 where
+  pub own : (p o : ℕ) → HasAt mine' p o
+      → HasAt mine p o ⊎ ((o ≡ number) × ((k : ℕ) → HasAt rows p k ↔ (k ≡ number)))
+  pub own_kept : (p o : ℕ) → HasAt mine p o → HasAt mine' p o
+  pub rest_kept : (p o : ℕ) → HasAt others p o → HasAt others' p o
+  pub there : (p k : ℕ) → p < below → HasAt rows p k → HasAt mine' p number ⊎ HasAt others' p number
+
+-- each set whose row at a place is not empty is told apart there
+pub record AreIndexed (places : ℕ) (filled : FilledSets) : Type 0 where
+  pub own_count : length filled.own.items ≡ places
+  pub rest_count : length filled.rest.items ≡ places
+  pub own : (p o k : ℕ) → HasAt filled.own.items p o → HasAt (rows_at filled.sets.items o) p k ↔ (k ≡ o)
+  pub there : (p o k : ℕ) → HasAt (rows_at filled.sets.items o) p k
+      → HasAt filled.own.items p o ⊎ HasAt filled.rest.items p o
+
+-- the place after a call, with the origins of the place that calls, in the set of each number of a row that is below
+-- one
+pub record IsAfterIn (spots : List Spot) (call : Call) (sets : List KeptRows) (row : List ℕ) (below : ℕ) (a : Item)
+    : Type 0 where
+  pub origin : ℕ
+  pub has : Contains row origin
+  pub under : origin < below
+  pub after : IsAfterCall spots call (rows_at sets origin) a
+
+-- the place after a call, with those numbers of a row that are in its own row too
+pub record IsAfterOwn (spots : List Spot) (call : Call) (mine : List (List ℕ)) (row : List ℕ) (a : Item) : Type 0 where
+  pub after : slice_get spots call.after ≡ Some (spot a.node a.step)
+  pub has : Contains row a.origin
+  pub own : HasAt mine call.from a.origin
+
+-- the places after these calls, likewise
+pub record IsAfterSome (spots : List Spot) (calls : List Call) (sets : List KeptRows) (row : List ℕ) (below : ℕ)
+    (a : Item) : Type 0 where
+  pub call : Call
+  pub stands : In call calls
+  pub after : IsAfterIn spots call sets row below a

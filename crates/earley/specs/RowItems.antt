@@ -1,0 +1,67 @@
+-- Item sets as rows: of each place, by number, its origins.
+use Rattle.std.specs.Prelude.{◌≡◌, ◌⊎◌, ℕ, ◌+◌, ◌<◌, List, [], ◌∷◌, ◌++◌, length, map, Some, slice_get, Contains}
+use Rattle.bitrows.specs.RowSets.{Rows, HasAt}
+use Rattle.itemsets.specs.ItemSets.{IsAdvanced, waiting_in}
+use Rattle.flatgrammar.specs.Blocks.{item_at, spot}
+use Rattle.flatgrammar.specs.NodeSteps.{IfSomeSet}
+use Rattle.flatgrammar.specs.TableViews.{read_of}
+use Rattle.flatgrammar.specs.declared.block.Spot.{Spot}
+use Rattle.flatgrammar.specs.declared.flat_item.Item.{Item}
+use Rattle.flatgrammar.specs.declared.tables.Tables as code_flat
+use Rattle.flatgrammar.specs.Places.{In}
+use Rattle.earley.specs.declared.place_table.Call.{Call}
+
+-- the row of the item's place has its origin
+pub record IsRowItem (spots : List Spot) (rows : List (List ℕ)) (a : Item) : Type 0 where
+  pub place : ℕ
+  pub is : slice_get spots place ≡ Some (spot a.node a.step)
+  pub has : HasAt rows place a.origin
+
+-- the items of rows: places in order, then their origins
+abbrev pub row_items : List Spot → List (List ℕ) → List Item
+row_items [] rows = []
+row_items (s ∷ spots) [] = []
+row_items (s ∷ spots) (row ∷ rows) = map (λ k. item_at k s) row ++ row_items spots rows
+
+-- the rows got the items of Q. What is new is pending, and what was pending still is
+pub record Gains (spots : List Spot) (Q : Item → Type 0) (old new : Rows) : Type 0 where
+  pub count : length new.all ≡ length old.all
+  pub all : (a : Item) → Q a → IsRowItem spots new.all a
+  pub only : (a : Item) → IsRowItem spots new.all a → IsRowItem spots old.all a ⊎ Q a
+  pub kept : (a : Item) → IsRowItem spots old.all a → IsRowItem spots new.all a
+  pub still : (a : Item) → IsRowItem spots old.pending a → IsRowItem spots new.pending a
+  pub fresh : (a : Item) → IsRowItem spots new.all a → IsRowItem spots old.all a ⊎ IsRowItem spots new.pending a
+  pub within : (a : Item) → IsRowItem spots new.pending a → IsRowItem spots old.pending a ⊎ IsRowItem spots new.all a
+
+-- the place after a call, with the origins of the place that calls
+abbrev pub IsAfterCall : List Spot → Call → List (List ℕ) → Item → Type 0
+IsAfterCall spots call rows a = (slice_get spots call.after ≡ Some (spot a.node a.step)) × HasAt rows call.from a.origin
+
+-- the places after these calls, with the origins of the places that call
+pub record IsCalledBy (spots : List Spot) (calls : List Call) (rows : List (List ℕ)) (a : Item) : Type 0 where
+  pub call : Call
+  pub stands : In call calls
+  pub after : slice_get spots call.after ≡ Some (spot a.node a.step)
+  pub has : HasAt rows call.from a.origin
+
+-- what a relation tells of the items of a place with the numbers of a row
+pub record IsFor (spots : List Spot) (place : ℕ) (row : List ℕ) (W : Item → Item → Type 0) (a : Item) : Type 0 where
+  pub by : Item
+  pub is : slice_get spots place ≡ Some (spot by.node by.step)
+  pub has : Contains row by.origin
+  pub work : W by a
+
+-- what the completion of a root adds, with each number of a row that is below one
+pub record IsCompletedBy (flat : code_flat.Tables) (sets : List (List Item)) (root : ℕ) (row : List ℕ) (below : ℕ)
+    (a : Item) : Type 0 where
+  pub origin : ℕ
+  pub has : Contains row origin
+  pub under : origin < below
+  pub advanced : IsAdvanced flat root (waiting_in sets [] origin) a
+
+-- what an item becomes by a letter
+pub record IsScannedFor (flat : code_flat.Tables) (c : ℕ) (by a : Item) : Type 0 where
+  pub reads : IfSomeSet (read_of flat by) c
+  pub node : a.node ≡ by.node
+  pub step : a.step ≡ by.step + 1
+  pub origin : a.origin ≡ by.origin

@@ -1,0 +1,413 @@
+//! The places of a flat grammar, numbered, with what each does.
+ghost use Rattle.std.specs.Prelude.{◌≡◌, ◌+◌, ℕ, List, Some, IfOk, IfSome, IsTrue, slice_get};
+ghost use Rattle.flatgrammar.specs.Blocks.{spot, item_at, call_at};
+ghost use Rattle.flatgrammar.specs.Places.{AreDifferent};
+ghost use Rattle.flatgrammar.specs.TableViews.{takes_of, whole_root};
+ghost use Rattle.earley.specs.PlaceTables.{AreBelow, IsStep, IsReadAt, IsCalledAt, AreSteps, AreStarts, AreCallsTo};
+ghost use Rattle.earley.specs.PlaceTables.{AreCallsBelow, AreStartsIf, IsReached, AreCallsReached};
+ghost use Rattle.earley.specs.declared.place_table.Called.{Called as code_called};
+ghost use Rattle.earley.specs.declared.place_table.Step.{Step as code_step};
+ghost use Rattle.earley.specs.PlaceTables.{AreRootPlaces, IsPlaceTable};
+
+use flatgrammar::{Deed, Item, Node, Spot, Tables, begin_steps, deed_of, null, whole_root};
+use ruletable::Memory;
+use std::alloc::Global;
+use std::rc::Rc;
+
+// A grammar of more places has no table.
+const MOST_PLACES: usize = 4096;
+
+/// What a place calls: a root, the place after the call, and whether the call can be passed without a letter.
+#[derive(Clone, Copy)]
+pub(crate) struct Called {
+    pub(crate) root: usize,
+    pub(crate) after: usize,
+    pub(crate) free: bool,
+}
+
+/// What a place does: what it calls, whether its node is done there, and the place after the letter that it reads.
+#[derive(Clone, Copy)]
+pub(crate) struct Step {
+    pub(crate) called: Option<Called>,
+    pub(crate) done: bool,
+    pub(crate) read: Option<usize>,
+}
+
+/// A place that calls a root, and the place after the call.
+#[derive(Clone, Copy)]
+pub(crate) struct Call {
+    pub(crate) from: usize,
+    pub(crate) after: usize,
+}
+
+/// Whether the whole can come to a root by calls. If so, the places where the root starts, and those that call it.
+#[derive(Drop)]
+pub(crate) struct RootPlaces {
+    pub(crate) reached: bool,
+    pub(crate) starts: Vec<usize>,
+    pub(crate) calls: Vec<Call>,
+}
+
+/// A grammar with its places by number, what each does, and of each root where it starts and what calls it. Only the
+/// places of nodes that the whole can come to by calls have a number.
+#[derive(Drop)]
+pub(crate) struct PlaceTable {
+    pub(crate) flat: Rc<Tables>,
+    pub(crate) spots: Vec<Spot>,
+    pub(crate) steps: Vec<Step>,
+    pub(crate) roots: Vec<RootPlaces>,
+}
+
+// The places by number, and of each node the number of its first place.
+#[derive(Drop)]
+struct Numbers {
+    spots: Vec<Spot>,
+    firsts: Vec<usize>,
+}
+
+// Returns how many places a node has.
+fn width(node: &Node) -> usize {
+    match node {
+        Node::Letters(sets) => sets.len().saturating_add(1),
+        Node::Concat(members) => members.len().saturating_add(1),
+        Node::Alt(members) => members.len().saturating_mul(2),
+        Node::Rep { least, most, .. } => match most {
+            None => (*least as usize).saturating_add(1),
+            Some(most) => (*most as usize).saturating_add(1),
+        },
+        Node::Turns { most, .. } => match most {
+            None => 1,
+            Some(most) => (*most as usize).saturating_add(1),
+        },
+        Node::Opt(_) => 3,
+        Node::Name(_) | Node::Nothing => 0,
+    }
+}
+
+// Marks a root, and keeps it to be looked at, unless it is marked.
+fn mark(root: usize, marks: &mut [bool], waiting: &mut Vec<usize>) -> Result<(), Memory> {
+    if root < marks.len() && !marks[root] {
+        marks[root] = true;
+        waiting.push(root)?;
+    }
+    Ok(())
+}
+
+// Marks what the places of a node call.
+fn mark_called(
+    flat: &Tables,
+    node: usize,
+    marks: &mut [bool],
+    waiting: &mut Vec<usize>,
+) -> Result<(), Memory> {
+    let Some(found) = flat.nodes.get(node) else {
+        return Ok(());
+    };
+    for step in 0..width(found).min(MOST_PLACES) {
+        let item = Item {
+            node,
+            step,
+            origin: 0,
+        };
+        match deed_of(flat, item).called {
+            Some((root, _next)) => mark(root, marks, waiting)?,
+            None => {}
+        }
+    }
+    Ok(())
+}
+
+// Marks the nodes that the whole can come to by calls. Each is looked at once.
+fn reached_nodes(alloc: Global, flat: &Tables) -> Result<Vec<bool>, Memory> {
+    let mut marks = Vec::new(alloc);
+    marks.resize(flat.nodes.len(), false)?;
+    let mut waiting = Vec::new(alloc);
+    match whole_root(flat) {
+        Some(root) => mark(root, &mut marks, &mut waiting)?,
+        None => {}
+    }
+    for _turn in 0..flat.nodes.len() {
+        let Some(node) = waiting.pop() else {
+            return Ok(marks);
+        };
+        mark_called(flat, node, &mut marks, &mut waiting)?;
+    }
+    Ok(marks)
+}
+
+// Tells whether a node is marked.
+fn is_marked(marks: &[bool], node: usize) -> bool {
+    match marks.get(node) {
+        Some(mark) => *mark,
+        None => false,
+    }
+}
+
+// Returns how many places of a node are to be numbered: all of them, or none.
+fn places_of(node: &Node, reached: bool) -> usize {
+    if reached { width(node) } else { 0 }
+}
+
+// Numbers the places of a node.
+fn number_node(node: usize, count: usize, spots: &mut Vec<Spot>) -> Result<(), Memory>
+    requires { AreBelow node spots.old.items }
+    ensures { IfOk result (λ done. AreBelow (node + 1) spots.new.items) }
+{
+    for step in 0..count {
+        spots.push(Spot { node, step })?;
+    }
+    Ok(())
+}
+
+// Numbers the places of the nodes that are marked. `None` if they are too many.
+fn number_all(alloc: Global, flat: &Tables, marks: &[bool]) -> Result<Option<Numbers>, Memory>
+    ensures { IfOk result (λ numbers. IfSome numbers (λ n. AreDifferent n.spots.items)) }
+{
+    let mut spots = Vec::new(alloc);
+    let mut firsts = Vec::new(alloc);
+    for node in 0..flat.nodes.len() {
+        let count = places_of(&flat.nodes[node], is_marked(marks, node));
+        if MOST_PLACES.saturating_sub(spots.len()) < count {
+            return Ok(None);
+        }
+        firsts.push(spots.len())?;
+        number_node(node, count, &mut spots)?;
+    }
+    Ok(Some(Numbers { spots, firsts }))
+}
+
+// Returns the number of a place, if it has one.
+fn number(numbers: &Numbers, node: usize, step: usize) -> Option<usize>
+    ensures { IfSome result (λ p. slice_get numbers.now.spots.items p ≡ Some (spot node step)) }
+{
+    let first = numbers.firsts.get(node)?;
+    let place = first.checked_add(step)?;
+    let found = numbers.spots.get(place)?;
+    if found.node == node && found.step == step {
+        Some(place)
+    } else {
+        None
+    }
+}
+
+// Returns what a place calls. `None` if the place after the call has no number.
+fn called_at(flat: &Tables, numbers: &Numbers, at: Spot, deed: Deed) -> Option<Option<Called>>
+    requires called { deed.called ≡ call_at flat.now at }
+    requires takes { deed.takes ≡ takes_of flat.now (item_at 0 at) }
+    ensures { IfSome result (IsCalledAt flat.now numbers.now.spots.items at) }
+{
+    let Some((root, next)) = deed.called else {
+        return Some(None);
+    };
+    if root >= flat.nodes.len() {
+        return None;
+    }
+    let after = number(numbers, at.node, next)?;
+    let free = null(flat, root) && !deed.takes;
+    Some(Some(Called { root, after, free }))
+}
+
+// Returns the place after the letter that a place reads, if it may read one. `None` if that place has no number.
+fn read_at(numbers: &Numbers, at: Spot, deed: Deed) -> Option<Option<usize>>
+    ensures { IfSome result (IsReadAt numbers.now.spots.items at deed.reads) }
+{
+    if !deed.reads {
+        return Some(None);
+    }
+    let next = at.step.checked_add(1)?;
+    let after = number(numbers, at.node, next)?;
+    Some(Some(after))
+}
+
+// Returns what a place does. `None` if a place behind it has no number.
+fn step_at(flat: &Tables, numbers: &Numbers, at: Spot) -> Option<Step>
+    ensures { IfSome result (IsStep flat.now numbers.now.spots.items at) }
+{
+    let item = Item {
+        node: at.node,
+        step: at.step,
+        origin: 0,
+    };
+    let deed = deed_of(flat, item);
+    let called = called_at(flat, numbers, at, deed)?;
+    let read = read_at(numbers, at, deed)?;
+    Some(Step {
+        called,
+        done: deed.done,
+        read,
+    })
+}
+
+// Returns what each place does. `None` if a place behind one has no number.
+fn all_steps(alloc: Global, flat: &Tables, numbers: &Numbers) -> Result<Option<Vec<Step>>, Memory>
+    ensures { IfOk result (λ steps. IfSome steps (λ s. AreSteps flat.now numbers.now.spots.items s.items)) }
+{
+    let mut steps = Vec::new(alloc);
+    for at in &numbers.spots {
+        let Some(step) = step_at(flat, numbers, *at) else {
+            return Ok(None);
+        };
+        steps.push(step)?;
+    }
+    Ok(Some(steps))
+}
+
+// Returns the places where a root starts. `None` if one has no number.
+fn starts_of(
+    alloc: Global,
+    flat: &Tables,
+    numbers: &Numbers,
+    root: usize,
+) -> Result<Option<Vec<usize>>, Memory>
+    ensures { IfOk result (λ starts. IfSome starts (λ s. AreStarts flat.now numbers.now.spots.items root s.items)) }
+{
+    let mut starts = Vec::new(alloc);
+    for step in 0..begin_steps(flat, root) {
+        let Some(place) = number(numbers, root, step) else {
+            return Ok(None);
+        };
+        starts.push(place)?;
+    }
+    Ok(Some(starts))
+}
+
+// Returns the places where a root starts, if the whole can come to it. `None` if one has no number.
+fn starts_if(
+    alloc: Global,
+    flat: &Tables,
+    numbers: &Numbers,
+    root: usize,
+    reached: bool,
+) -> Result<Option<Vec<usize>>, Memory>
+    ensures { IfOk result (λ starts. IfSome starts (λ s. AreStartsIf reached flat.now numbers.now.spots.items root
+        s.items)) }
+{
+    if !reached {
+        return Ok(Some(Vec::new(alloc)));
+    }
+    let starts = starts_of(alloc, flat, numbers, root)?;
+    Ok(starts)
+}
+
+// Adds the call of a place, if it calls that root. What the place does is given.
+fn keep_call(from: usize, step: Step, root: usize, calls: &mut Vec<Call>) -> Result<(), Memory>
+    ensures { IfOk result (λ done. (steps : List code_step) → slice_get steps from ≡ Some step
+        → AreCallsBelow steps root from calls.old.items → AreCallsBelow steps root (from + 1) calls.new.items) }
+{
+    match step.called {
+        Some(called) if called.root == root => {
+            calls.push(Call {
+                from,
+                after: called.after,
+            })?;
+            Ok(())
+        }
+        _ => Ok(()),
+    }
+}
+
+// Returns the places that call a root.
+fn calls_of(alloc: Global, steps: &[Step], root: usize) -> Result<Vec<Call>, Memory>
+    ensures { IfOk result (λ calls. AreCallsTo steps.now root calls.items) }
+{
+    let mut calls = Vec::new(alloc);
+    for from in 0..steps.len() {
+        keep_call(from, steps[from], root, &mut calls)?;
+    }
+    Ok(calls)
+}
+
+// Returns of each root where it starts and what calls it. `None` if a place has no number.
+fn all_roots(
+    alloc: Global,
+    flat: &Tables,
+    numbers: &Numbers,
+    marks: &[bool],
+    steps: &[Step],
+) -> Result<Option<Vec<RootPlaces>>, Memory>
+    ensures { IfOk result (λ roots. IfSome roots (λ r. AreRootPlaces flat.now numbers.now.spots.items steps.now
+        r.items)) }
+{
+    let mut roots = Vec::new(alloc);
+    for root in 0..flat.nodes.len() {
+        let reached = is_marked(marks, root);
+        let Some(starts) = starts_if(alloc, flat, numbers, root, reached)? else {
+            return Ok(None);
+        };
+        let calls = calls_of(alloc, steps, root)?;
+        roots.push(RootPlaces {
+            reached,
+            starts,
+            calls,
+        })?;
+    }
+    Ok(Some(roots))
+}
+
+// Tells whether a root is reached.
+fn is_root_reached(roots: &[RootPlaces], root: usize) -> bool
+    ensures { IsTrue result → IsReached roots.now root }
+{
+    match roots.get(root) {
+        Some(places) => places.reached,
+        None => true,
+    }
+}
+
+// Tells whether what a place calls is reached.
+fn is_call_reached(roots: &[RootPlaces], step: Step) -> bool
+    ensures { IsTrue result → (c : code_called) → step.called ≡ Some c → IsReached roots.now c.root }
+{
+    match step.called {
+        Some(called) => is_root_reached(roots, called.root),
+        None => true,
+    }
+}
+
+// Tells whether all that places call is reached.
+fn are_calls_reached(roots: &[RootPlaces], steps: &[Step]) -> bool
+    ensures { IsTrue result → AreCallsReached roots.now steps.now }
+{
+    for i in 0..steps.len() {
+        if !is_call_reached(roots, steps[i]) {
+            return false;
+        }
+    }
+    true
+}
+
+// Tells whether the whole is reached.
+fn is_whole_reached(flat: &Tables, roots: &[RootPlaces]) -> bool
+    ensures { IsTrue result → (root : ℕ) → whole_root flat.now ≡ Some root → IsReached roots.now root }
+{
+    match whole_root(flat) {
+        Some(root) => is_root_reached(roots, root),
+        None => true,
+    }
+}
+
+/// Returns the table of a grammar's places. `None` if it has too many. `Memory` if an allocation fails.
+pub(crate) fn place_table(alloc: Global, flat: Rc<Tables>) -> Result<Option<PlaceTable>, Memory>
+    ensures same { IfOk result (λ table. IfSome table (λ t. t.flat ≡ flat)) }
+    ensures table { IfOk result (λ table. IfSome table IsPlaceTable) }
+{
+    let marks = reached_nodes(alloc, &flat)?;
+    let Some(numbers) = number_all(alloc, &flat, &marks)? else {
+        return Ok(None);
+    };
+    let Some(steps) = all_steps(alloc, &flat, &numbers)? else {
+        return Ok(None);
+    };
+    let Some(roots) = all_roots(alloc, &flat, &numbers, &marks, &steps)? else {
+        return Ok(None);
+    };
+    if !are_calls_reached(&roots, &steps) || !is_whole_reached(&flat, &roots) {
+        return Ok(None);
+    }
+    Ok(Some(PlaceTable {
+        flat,
+        spots: numbers.spots,
+        steps,
+        roots,
+    }))
+}

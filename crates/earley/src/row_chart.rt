@@ -1,0 +1,263 @@
+//! Fills the sets of a line as rows.
+ghost use Rattle.std.specs.Prelude.{◌≡◌, ◌↔◌, ◌+◌, ◌<◌, ◌≤◌, ◌^◌, ◌++◌, ◌∷◌, ℕ, [], IsTrue, IfOk, IfSome, length, map};
+ghost use Rattle.std.specs.Prelude.{slice_get, slice_index_or, Contains, Some};
+ghost use Rattle.bitrows.specs.RowSets.{HasAt};
+ghost use Rattle.itemsets.specs.ChartSets.{set_at, IsSet};
+ghost use Rattle.itemsets.specs.Charts.{IsWhole, IsFirst, IsBuilt};
+ghost use Rattle.itemsets.specs.ScannedItems.{IsScannedItem};
+ghost use Rattle.flatgrammar.specs.Blocks.{AreExact, spot};
+ghost use Rattle.flatgrammar.specs.Flat.{Place};
+ghost use Rattle.flatgrammar.specs.Holds.{Holds};
+ghost use Rattle.flatgrammar.specs.NodeSteps.{flat_of};
+ghost use Rattle.earley.specs.PlaceTables.{IsPlaceTable};
+ghost use Rattle.earley.specs.RowCharts.{row_views, rows_chart, AreSizedRows};
+ghost use Rattle.earley.specs.RowIndexes.{AreIndexed};
+ghost use Rattle.earley.specs.RowItems.{Gains, IsFor, IsScannedFor, IsRowItem, row_items};
+
+use crate::place_table::{Call, PlaceTable, place_table};
+use crate::row_fill::{fill_rows, row_of};
+use crate::row_index::{FilledSets, keep_set, no_sets};
+use crate::row_sets::{KeptRows, RowChart, kept_rows};
+use crate::row_step::{advance_call, predict_root};
+use bitrows::{BitRow, RowSet};
+use flatgrammar::{Item, Spot, Tables, reads, whole_root};
+use letters::Letter;
+use ruletable::Memory;
+use std::alloc::Global;
+use std::rc::Rc;
+
+// A longer line is not judged by rows.
+const LONGEST: usize = 1 << 32;
+
+/// The sets of a line, and whether the last holds the whole's end with origin 0.
+#[derive(Drop)]
+pub(crate) struct JudgedRows {
+    pub(crate) chart: RowChart,
+    pub(crate) yes: bool,
+}
+
+// Scans a letter for the row of a place.
+fn scan_row(
+    table: &PlaceTable,
+    value: u32,
+    rows: &[BitRow],
+    place: usize,
+    set: &mut RowSet,
+) -> Result<(), Memory>
+    requires table { IsPlaceTable table.now }
+    requires count { length set.old.all ≡ length table.now.spots.items }
+    requires place { place < length table.now.spots.items }
+    ensures { IfOk result (λ done. Gains table.now.spots.items (IsFor table.now.spots.items place
+        (slice_index_or rows.now place []) (IsScannedFor table.now.flat.value value)) set.old set.new) }
+{
+    let at = table.spots[place];
+    let item = Item {
+        node: at.node,
+        step: at.step,
+        origin: 0,
+    };
+    let Some(after) = table.steps[place].read else {
+        return Ok(());
+    };
+    if reads(&table.flat, item, value) {
+        advance_call(rows, Call { from: place, after }, set)?;
+        return Ok(());
+    }
+    Ok(())
+}
+
+// Scans a letter for the rows of a set.
+fn scan_rows(
+    table: &PlaceTable,
+    value: u32,
+    rows: &[BitRow],
+    set: &mut RowSet,
+) -> Result<(), Memory>
+    requires table { IsPlaceTable table.now }
+    requires count { length set.old.all ≡ length table.now.spots.items }
+    ensures { IfOk result (λ done. Gains table.now.spots.items (IsScannedItem table.now.flat.value value
+        (row_items table.now.spots.items rows.now)) set.old set.new) }
+{
+    for place in 0..table.spots.len() {
+        scan_row(table, value, rows, place, set)?;
+    }
+    Ok(())
+}
+
+// Predicts the whole.
+fn start_rows(alloc: Global, table: &PlaceTable, set: &mut RowSet) -> Result<(), Memory>
+    requires table { IsPlaceTable table.now }
+    requires count { length set.old.all ≡ length table.now.spots.items }
+    ensures { IfOk result (λ done. Gains table.now.spots.items (IsWhole table.now.flat.value) set.old set.new) }
+{
+    let Some(root) = whole_root(&table.flat) else {
+        return Ok(());
+    };
+    let zero = row_of(alloc, 0)?;
+    predict_root(table, root, &zero, set)?;
+    Ok(())
+}
+
+// Adds what the next set begins with.
+fn begin_rows<L: Letter>(
+    alloc: Global,
+    table: &PlaceTable,
+    line: &[L],
+    sets: &[KeptRows],
+    set: &mut RowSet,
+) -> Result<(), Memory>
+    requires table { IsPlaceTable table.now }
+    requires count { length set.old.all ≡ length table.now.spots.items }
+    requires length { length sets.now ≤ length line.now }
+    ensures { IfOk result (λ done. Gains table.now.spots.items (IsFirst table.now.flat.value (map L.number line.now)
+        (row_views table.now.spots.items sets.now)) set.old set.new) }
+{
+    if sets.is_empty() {
+        start_rows(alloc, table, set)?;
+        return Ok(());
+    }
+    let last = sets.len() - 1;
+    scan_rows(table, line[last].value(), &sets[last].rows, set)?;
+    Ok(())
+}
+
+// Returns the next set. `Memory` if an allocation fails.
+fn next_set<L: Letter>(
+    alloc: Global,
+    table: &PlaceTable,
+    line: &[L],
+    filled: &FilledSets,
+) -> Result<KeptRows, Memory>
+    requires table { IsPlaceTable table.now }
+    requires exact { AreExact table.now.flat.value }
+    requires indexed { AreIndexed (length table.now.spots.items) filled.now }
+    requires length { length filled.now.sets.items ≤ length line.now }
+    requires short { length line.now < 2 ^ 63 }
+    requires built { IsBuilt table.now.flat.value (map L.number line.now)
+        (row_views table.now.spots.items filled.now.sets.items) }
+    ensures count { IfOk result (λ kept. length kept.rows.items ≡ length table.now.spots.items) }
+    ensures size { IfOk result (λ kept. kept.size ≡ length (row_items table.now.spots.items kept.rows.items)) }
+    ensures built { IfOk result (λ kept. IsBuilt table.now.flat.value (map L.number line.now)
+        (row_views table.now.spots.items filled.now.sets.items
+        ++ row_items table.now.spots.items kept.rows.items ∷ [])) }
+{
+    let mut set = RowSet::new(alloc, table.spots.len())?;
+    begin_rows(alloc, table, line, &filled.sets, &mut set)?;
+    fill_rows(alloc, table, line, filled, &mut set)?;
+    let kept = kept_rows(set)?;
+    Ok(kept)
+}
+
+// Returns the sets of a line. `Memory` if an allocation fails.
+fn row_sets<L: Letter>(
+    alloc: Global,
+    table: &PlaceTable,
+    line: &[L],
+) -> Result<Vec<KeptRows>, Memory>
+    requires table { IsPlaceTable table.now }
+    requires exact { AreExact table.now.flat.value }
+    requires short { length line.now < 2 ^ 63 }
+    ensures count { IfOk result (λ sets. length sets.items ≡ length line.now + 1) }
+    ensures sized { IfOk result (λ sets. AreSizedRows table.now.spots.items sets.items) }
+    ensures built { IfOk result (λ sets. IsBuilt table.now.flat.value (map L.number line.now)
+        (row_views table.now.spots.items sets.items)) }
+{
+    let places = table.spots.len();
+    let mut filled = no_sets(alloc, places)?;
+    while filled.sets.len() <= line.len() {
+        let kept = next_set(alloc, table, line, &filled)?;
+        keep_set(places, kept, &mut filled)?;
+    }
+    let FilledSets {
+        sets,
+        own: _,
+        rest: _,
+    } = filled;
+    Ok(sets)
+}
+
+// Tells whether a row has a number.
+fn has(row: &BitRow, number: usize) -> bool
+    ensures { IsTrue result ↔ Contains row.now number }
+{
+    let Some(least) = row.next(number) else {
+        return false;
+    };
+    if least == number {
+        return true;
+    }
+    false
+}
+
+// Tells whether the row of a place has a number.
+fn has_number(rows: &[BitRow], place: usize, number: usize) -> bool
+    ensures { IsTrue result ↔ HasAt rows.now place number }
+{
+    match rows.get(place) {
+        Some(row) => has(row, number),
+        None => false,
+    }
+}
+
+// Tells whether an item stands at a place.
+fn is_at(at: Spot, item: Item) -> bool
+    ensures { IsTrue result ↔ ((at.node ≡ item.node) × (at.step ≡ item.step)) }
+{
+    at.node == item.node && at.step == item.step
+}
+
+// Tells whether a place is that of an item, and its row has the item's origin.
+fn holds_at(spots: &[Spot], rows: &[BitRow], place: usize, item: Item) -> bool
+    requires { place < length spots.now }
+    ensures { IsTrue result ↔ ((slice_get spots.now place ≡ Some (spot item.node item.step))
+        × HasAt rows.now place item.origin) }
+{
+    let at = spots[place];
+    if is_at(at, item) {
+        return has_number(rows, place, item.origin);
+    }
+    false
+}
+
+// Tells whether rows hold an item.
+fn has_item(spots: &[Spot], rows: &[BitRow], item: Item) -> bool
+    ensures { IsTrue result ↔ IsRowItem spots.now rows.now item }
+{
+    for place in 0..spots.len() {
+        if holds_at(spots, rows, place, item) {
+            return true;
+        }
+    }
+    false
+}
+
+/// Judges a line by rows: returns its sets, and whether the last holds the whole's end with origin 0. `None` if the
+/// line is too long, or the grammar has too many places. `Memory` if an allocation fails.
+pub(crate) fn judge_rows<L: Letter>(
+    alloc: Global,
+    flat: Rc<Tables>,
+    line: &[L],
+) -> Result<Option<JudgedRows>, Memory>
+    requires { AreExact flat.value }
+    ensures sized { IfOk result (λ told. IfSome told (λ d. AreSizedRows d.chart.table.spots.items d.chart.sets.items)) }
+    ensures sets { IfOk result (λ told. IfSome told (λ d. (j : ℕ) → IsSet (flat_of flat.value) (map L.number line.now) j
+        (set_at (rows_chart d.chart) j))) }
+    ensures answer { IfOk result (λ told. IfSome told (λ d. IsTrue d.yes ↔ Holds (flat_of flat.value)
+        (map L.number line.now) (length line.now) (Place.at (flat_of flat.value).whole 1) 0)) }
+{
+    if line.len() >= LONGEST {
+        return Ok(None);
+    }
+    let Some(table) = place_table(alloc, flat)? else {
+        return Ok(None);
+    };
+    let sets = row_sets(alloc, &table, line)?;
+    let whole = Item {
+        node: table.flat.whole,
+        step: 1,
+        origin: 0,
+    };
+    let yes = has_item(&table.spots, &sets[line.len()].rows, whole);
+    let chart = RowChart { table, sets };
+    Ok(Some(JudgedRows { chart, yes }))
+}

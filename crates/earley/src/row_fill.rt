@@ -1,0 +1,95 @@
+//! Fills a set of rows.
+ghost use Rattle.std.specs.Prelude.{◌≡◌, ◌↔◌, ◌<◌, ◌^◌, ℕ, true, IfOk, length, map, Contains};
+ghost use Rattle.bitrows.specs.RowSets.{HasAt};
+ghost use Rattle.itemsets.specs.Closed.{HoldAll};
+ghost use Rattle.flatgrammar.specs.Blocks.{AreExact};
+ghost use Rattle.flatgrammar.specs.NodeSteps.{flat_of};
+ghost use Rattle.flatgrammar.specs.declared.flat_item.Item as code_item;
+ghost use Rattle.earley.specs.PlaceTables.{IsPlaceTable};
+ghost use Rattle.earley.specs.RowCharts.{row_views, IsRowWorklist};
+ghost use Rattle.earley.specs.RowIndexes.{AreIndexed};
+ghost use Rattle.earley.specs.RowItems.{IsRowItem};
+
+use crate::place_table::PlaceTable;
+use crate::row_index::FilledSets;
+use crate::row_step::work_row;
+use bitrows::{BitRow, RowSet};
+use letters::Letter;
+use ruletable::Memory;
+use std::alloc::Global;
+
+/// Returns the row of one number. `Memory` if an allocation fails.
+pub(crate) fn row_of(alloc: Global, number: usize) -> Result<BitRow, Memory>
+    requires { number < 2 ^ 63 }
+    ensures { IfOk result (λ row. (k : ℕ) → Contains row k ↔ (k ≡ number)) }
+{
+    let mut row = BitRow::new(alloc);
+    row.insert(number)?;
+    Ok(row)
+}
+
+/// Works on what is pending at one place. Tells whether nothing was.
+fn work_once<L: Letter>(
+    table: &PlaceTable,
+    line: &[L],
+    filled: &FilledSets,
+    here: &BitRow,
+    set: &mut RowSet,
+) -> Result<bool, Memory>
+    requires table { IsPlaceTable table.now }
+    requires exact { AreExact table.now.flat.value }
+    requires indexed { AreIndexed (length table.now.spots.items) filled.now }
+    requires here { (k : ℕ) → Contains here.now k ↔ (k ≡ length filled.now.sets.items) }
+    requires earlier { HoldAll (flat_of table.now.flat.value) (map L.number line.now)
+        (row_views table.now.spots.items filled.now.sets.items) }
+    requires begun { IsRowWorklist table.now.flat.value table.now.spots.items (map L.number line.now)
+        (row_views table.now.spots.items filled.now.sets.items) set.old }
+    ensures keeps { IfOk result (λ done. (a : code_item.Item) → IsRowItem table.now.spots.items set.old.all a
+        → IsRowItem table.now.spots.items set.new.all a) }
+    ensures worklist { IfOk result (λ done. IsRowWorklist table.now.flat.value table.now.spots.items
+        (map L.number line.now) (row_views table.now.spots.items filled.now.sets.items) set.new) }
+    ensures none { IfOk result (λ done. done ≡ true → (p k : ℕ) → HasAt set.new.pending p k → ⊥) }
+{
+    let Some((place, row)) = set.take() else {
+        return Ok(true);
+    };
+    let Some(_least) = row.next(0) else {
+        return Ok(false);
+    };
+    work_row(table, filled, place, &row, here, set)?;
+    Ok(false)
+}
+
+/// Predicts, advances and completes until nothing can be added; each item is worked on once. `Memory` if an allocation
+/// fails.
+pub(crate) fn fill_rows<L: Letter>(
+    alloc: Global,
+    table: &PlaceTable,
+    line: &[L],
+    filled: &FilledSets,
+    set: &mut RowSet,
+) -> Result<(), Memory>
+    requires table { IsPlaceTable table.now }
+    requires exact { AreExact table.now.flat.value }
+    requires indexed { AreIndexed (length table.now.spots.items) filled.now }
+    requires number { length filled.now.sets.items < 2 ^ 63 }
+    requires earlier { HoldAll (flat_of table.now.flat.value) (map L.number line.now)
+        (row_views table.now.spots.items filled.now.sets.items) }
+    requires begun { IsRowWorklist table.now.flat.value table.now.spots.items (map L.number line.now)
+        (row_views table.now.spots.items filled.now.sets.items) set.old }
+    ensures keeps { IfOk result (λ done. (a : code_item.Item) → IsRowItem table.now.spots.items set.old.all a
+        → IsRowItem table.now.spots.items set.new.all a) }
+    ensures worklist { IfOk result (λ done. IsRowWorklist table.now.flat.value table.now.spots.items
+        (map L.number line.now) (row_views table.now.spots.items filled.now.sets.items) set.new) }
+    ensures none { IfOk result (λ done. (p k : ℕ) → HasAt set.new.pending p k → ⊥) }
+{
+    let here = row_of(alloc, filled.sets.len())?;
+    // Each turn works on an item that is new, so there are far fewer.
+    for _turn in 0..u64::MAX {
+        let done = work_once(table, line, filled, &here, set)?;
+        if done {
+            return Ok(());
+        }
+    }
+    Err(Memory)
+}

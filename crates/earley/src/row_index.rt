@@ -1,0 +1,125 @@
+//! The filled sets of a line, told apart by the rows of a place.
+ghost use Rattle.std.specs.Prelude.{◌≡◌, ◌↔◌, ◌⊎◌, ◌+◌, ◌<◌, ◌≤◌, ◌^◌, ◌++◌, ◌∷◌, ℕ, [], length};
+ghost use Rattle.std.specs.Prelude.{IsTrue, IfOk, Contains};
+ghost use Rattle.bitrows.specs.RowSets.{HasAt};
+ghost use Rattle.earley.specs.RowIndexes.{Indexes, AreIndexedBelow, AreIndexed};
+
+use crate::row_sets::KeptRows;
+use bitrows::{BitRow, empty_rows};
+use ruletable::Memory;
+use std::alloc::Global;
+
+/// The filled sets of a line. Of each place, `own` has the sets whose row at that place has the set's number alone,
+/// and `rest` the other sets whose row is not empty.
+#[derive(Drop)]
+pub(crate) struct FilledSets {
+    pub(crate) sets: Vec<KeptRows>,
+    pub(crate) own: Vec<BitRow>,
+    pub(crate) rest: Vec<BitRow>,
+}
+
+/// Returns no sets, for so many places. `Memory` if an allocation fails.
+pub(crate) fn no_sets(alloc: Global, places: usize) -> Result<FilledSets, Memory>
+    ensures none { IfOk result (λ filled. filled.sets.items ≡ []) }
+    ensures indexed { IfOk result (λ filled. AreIndexed places filled) }
+{
+    let own = empty_rows(alloc, places)?;
+    let rest = empty_rows(alloc, places)?;
+    Ok(FilledSets {
+        sets: Vec::new(alloc),
+        own,
+        rest,
+    })
+}
+
+// Tells whether a row has one number alone.
+fn is_alone(row: &BitRow, number: usize) -> bool
+    requires { number < 2 ^ 63 }
+    ensures { IsTrue result → (k : ℕ) → Contains row.now k ↔ (k ≡ number) }
+{
+    let Some(least) = row.next(0) else {
+        return false;
+    };
+    if least != number {
+        return false;
+    }
+    match row.next(number + 1) {
+        Some(_) => false,
+        None => true,
+    }
+}
+
+// Makes a number a member of the row of a place.
+fn insert_at(rows: &mut [BitRow], place: usize, number: usize) -> Result<(), Memory>
+    requires place { place < length rows.old }
+    requires number { number < 2 ^ 63 }
+    ensures count { length rows.new ≡ length rows.old }
+    ensures members { IfOk result (λ done. (p x : ℕ) → HasAt rows.new p x
+        ↔ (HasAt rows.old p x ⊎ ((p ≡ place) × (x ≡ number)))) }
+{
+    rows[place].insert(number)?;
+    Ok(())
+}
+
+// Tells a set apart by its row at a place.
+fn index_row(
+    number: usize,
+    place: usize,
+    row: &BitRow,
+    own: &mut [BitRow],
+    rest: &mut [BitRow],
+) -> Result<(), Memory>
+    requires number { number < 2 ^ 63 }
+    requires own { place < length own.old }
+    requires rest { place < length rest.old }
+    ensures own { length own.new ≡ length own.old }
+    ensures rest { length rest.new ≡ length rest.old }
+    ensures indexes { IfOk result (λ done. Indexes number place row.now own.old rest.old own.new rest.new) }
+{
+    if is_alone(row, number) {
+        insert_at(own, place, number)?;
+        return Ok(());
+    }
+    match row.next(0) {
+        Some(_) => {
+            insert_at(rest, place, number)?;
+            Ok(())
+        }
+        None => Ok(()),
+    }
+}
+
+// Tells a set apart by its rows.
+fn index_rows(
+    number: usize,
+    rows: &[BitRow],
+    own: &mut [BitRow],
+    rest: &mut [BitRow],
+) -> Result<(), Memory>
+    requires number { number < 2 ^ 63 }
+    requires own { length rows.now ≤ length own.old }
+    requires rest { length rows.now ≤ length rest.old }
+    ensures own { length own.new ≡ length own.old }
+    ensures rest { length rest.new ≡ length rest.old }
+    ensures indexes { IfOk result (λ done. AreIndexedBelow number (length rows.now) rows.now own.old rest.old own.new
+        rest.new) }
+{
+    for place in 0..rows.len() {
+        index_row(number, place, &rows[place], own, rest)?;
+    }
+    Ok(())
+}
+
+/// Puts a set behind the others. `Memory` if an allocation fails.
+pub(crate) fn keep_set(places: usize, kept: KeptRows, filled: &mut FilledSets) -> Result<(), Memory>
+    requires indexed { AreIndexed places filled.old }
+    requires count { length kept.rows.items ≤ places }
+    requires number { length filled.old.sets.items < 2 ^ 63 }
+    ensures sets { IfOk result (λ done. filled.new.sets.items ≡ filled.old.sets.items ++ kept ∷ []) }
+    ensures indexed { IfOk result (λ done. AreIndexed places filled.new) }
+{
+    let number = filled.sets.len();
+    index_rows(number, &kept.rows, &mut filled.own, &mut filled.rest)?;
+    filled.sets.push(kept)?;
+    Ok(())
+}

@@ -1,0 +1,41 @@
+//! Filled sets as rows.
+ghost use Rattle.std.specs.Prelude.{◌≡◌, ℕ, List, [], IfOk, length, slice_index_or};
+ghost use Rattle.std.specs.List.Sorted.{IsStrictlyIncreasing};
+ghost use Rattle.flatgrammar.specs.declared.block.Spot.{Spot as code_spot};
+ghost use Rattle.earley.specs.RowItems.{row_items};
+
+use crate::place_table::PlaceTable;
+use bitrows::{BitRow, RowSet};
+use ruletable::Memory;
+
+/// A filled set: of each place its origins, and the number of its items.
+#[derive(Drop)]
+pub(crate) struct KeptRows {
+    pub(crate) rows: Vec<BitRow>,
+    pub(crate) size: usize,
+}
+
+/// The sets of a line, with the places that their rows are of.
+#[derive(Drop)]
+pub(crate) struct RowChart {
+    pub(crate) table: PlaceTable,
+    pub(crate) sets: Vec<KeptRows>,
+}
+
+/// Keeps a set that is filled. `Memory` if its items are more than a number of 64 bits tells.
+pub(crate) fn kept_rows(set: RowSet) -> Result<KeptRows, Memory>
+    ensures rows { IfOk result (λ kept. kept.rows.items ≡ set.all) }
+    ensures size { IfOk result (λ kept. (spots : List code_spot) → length spots ≡ length set.all
+        → kept.size ≡ length (row_items spots kept.rows.items)) }
+    ensures ascend { IfOk result (λ kept. (p : ℕ) → IsStrictlyIncreasing (slice_index_or kept.rows.items p [])) }
+{
+    let rows = set.into_rows();
+    let mut size = 0usize;
+    for row in &rows {
+        let Some(sum) = size.checked_add(row.len()) else {
+            return Err(Memory);
+        };
+        size = sum;
+    }
+    Ok(KeptRows { rows, size })
+}

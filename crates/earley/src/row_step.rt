@@ -1,0 +1,237 @@
+//! What the items of a row predict, advance and complete.
+ghost use Rattle.std.specs.Prelude.{◌≡◌, ◌↔◌, ◌<◌, ℕ, List, [], IfOk, length, Contains};
+ghost use Rattle.itemsets.specs.ItemSets.{IsPredicted, IsCompleted};
+ghost use Rattle.itemsets.specs.Worklist.{AdvancesNullable, IsWork};
+ghost use Rattle.flatgrammar.specs.Blocks.{begin_count};
+ghost use Rattle.flatgrammar.specs.declared.block.Spot.{Spot as code_spot};
+ghost use Rattle.earley.specs.PlaceTables.{IsPlaceTable, IsReached};
+ghost use Rattle.earley.specs.RowCharts.{row_views};
+ghost use Rattle.earley.specs.RowIndexes.{AreIndexed, IsAfterIn, IsAfterOwn};
+ghost use Rattle.earley.specs.RowItems.{Gains, IsAfterCall, IsCompletedBy, IsFor};
+
+use crate::place_table::{Call, PlaceTable};
+use crate::row_index::FilledSets;
+use crate::row_sets::KeptRows;
+use bitrows::{BitRow, RowSet};
+use ruletable::Memory;
+
+/// Predicts a root that is reached: adds the numbers of a row to the places where it starts.
+pub(crate) fn predict_root(
+    table: &PlaceTable,
+    root: usize,
+    here: &BitRow,
+    set: &mut RowSet,
+) -> Result<(), Memory>
+    requires table { IsPlaceTable table.now }
+    requires reached { IsReached table.now.roots.items root }
+    requires count { length set.old.all ≡ length table.now.spots.items }
+    ensures { IfOk result (λ done. Gains table.now.spots.items
+        (λ a. (a.node ≡ root) × (a.step < begin_count table.now.flat.value root) × Contains here.now a.origin)
+        set.old set.new) }
+{
+    let Some(places) = table.roots.get(root) else {
+        return Ok(());
+    };
+    for place in &places.starts {
+        set.add(*place, here)?;
+    }
+    Ok(())
+}
+
+/// Predicts what a place calls, for its row, which is not empty.
+fn predict_row(
+    table: &PlaceTable,
+    place: usize,
+    row: &BitRow,
+    here: &BitRow,
+    set: &mut RowSet,
+) -> Result<(), Memory>
+    requires table { IsPlaceTable table.now }
+    requires count { length set.old.all ≡ length table.now.spots.items }
+    requires place { place < length table.now.spots.items }
+    requires some { (k : ℕ) × Contains row.now k }
+    ensures { IfOk result (λ done. (j : ℕ) → ((k : ℕ) → Contains here.now k ↔ (k ≡ j)) → Gains table.now.spots.items
+        (IsFor table.now.spots.items place row.now (IsPredicted table.now.flat.value j)) set.old set.new) }
+{
+    match table.steps[place].called {
+        Some(called) => {
+            predict_root(table, called.root, here, set)?;
+            Ok(())
+        }
+        None => Ok(()),
+    }
+}
+
+/// Advances the row of a place over what it calls, if that can be passed without a letter.
+fn advance_row(
+    table: &PlaceTable,
+    place: usize,
+    row: &BitRow,
+    set: &mut RowSet,
+) -> Result<(), Memory>
+    requires table { IsPlaceTable table.now }
+    requires count { length set.old.all ≡ length table.now.spots.items }
+    requires place { place < length table.now.spots.items }
+    ensures { IfOk result (λ done. Gains table.now.spots.items
+        (IsFor table.now.spots.items place row.now (AdvancesNullable table.now.flat.value)) set.old set.new) }
+{
+    match table.steps[place].called {
+        Some(called) if called.free => {
+            set.add(called.after, row)?;
+            Ok(())
+        }
+        _ => Ok(()),
+    }
+}
+
+/// Advances the row of a place over a call.
+pub(crate) fn advance_call(rows: &[BitRow], call: Call, set: &mut RowSet) -> Result<(), Memory>
+    requires { call.after < length set.old.all }
+    ensures { IfOk result (λ done. (spots : List code_spot) → Gains spots (IsAfterCall spots call rows.now) set.old
+        set.new) }
+{
+    match rows.get(call.from) {
+        Some(row) => {
+            set.add(call.after, row)?;
+            Ok(())
+        }
+        None => Ok(()),
+    }
+}
+
+// Advances over a call the sets of those numbers of a row that are the place's own.
+fn complete_own(own: &[BitRow], call: Call, row: &BitRow, set: &mut RowSet) -> Result<(), Memory>
+    requires { call.after < length set.old.all }
+    ensures { IfOk result (λ done. (spots : List code_spot) → Gains spots (IsAfterOwn spots call own.now row.now)
+        set.old set.new) }
+{
+    match own.get(call.from) {
+        Some(own) => {
+            let both = row.common(own)?;
+            set.add(call.after, &both)?;
+            Ok(())
+        }
+        None => Ok(()),
+    }
+}
+
+// Advances over a call the set of each number of a row.
+fn complete_each(
+    sets: &[KeptRows],
+    call: Call,
+    row: &BitRow,
+    set: &mut RowSet,
+) -> Result<(), Memory>
+    requires { call.after < length set.old.all }
+    ensures { IfOk result (λ done. (spots : List code_spot) → Gains spots (IsAfterIn spots call sets.now row.now
+        (length sets.now)) set.old set.new) }
+{
+    let mut from = 0;
+    while from < sets.len() {
+        let Some(origin) = row.next(from) else {
+            return Ok(());
+        };
+        if origin >= sets.len() {
+            return Ok(());
+        }
+        advance_call(&sets[origin].rows, call, set)?;
+        from = origin + 1;
+    }
+    Ok(())
+}
+
+// Advances over a call the set of each number of a row, those of the place's own sets at once.
+fn complete_call(
+    places: usize,
+    filled: &FilledSets,
+    call: Call,
+    row: &BitRow,
+    set: &mut RowSet,
+) -> Result<(), Memory>
+    requires indexed { AreIndexed places filled.now }
+    requires after { call.after < length set.old.all }
+    ensures { IfOk result (λ done. (spots : List code_spot) → Gains spots (IsAfterIn spots call filled.now.sets.items
+        row.now (length filled.now.sets.items)) set.old set.new) }
+{
+    complete_own(&filled.own, call, row, set)?;
+    match filled.rest.get(call.from) {
+        Some(rest) => {
+            let both = row.common(rest)?;
+            complete_each(&filled.sets, call, &both, set)?;
+            Ok(())
+        }
+        None => Ok(()),
+    }
+}
+
+/// Completes a root with each origin of a row: advances the rows that call it there.
+fn complete_all(
+    table: &PlaceTable,
+    filled: &FilledSets,
+    root: usize,
+    row: &BitRow,
+    set: &mut RowSet,
+) -> Result<(), Memory>
+    requires table { IsPlaceTable table.now }
+    requires indexed { AreIndexed (length table.now.spots.items) filled.now }
+    requires count { length set.old.all ≡ length table.now.spots.items }
+    ensures { IfOk result (λ done. Gains table.now.spots.items (IsCompletedBy table.now.flat.value
+        (row_views table.now.spots.items filled.now.sets.items) root row.now (length filled.now.sets.items)) set.old
+        set.new) }
+{
+    let Some(places) = table.roots.get(root) else {
+        return Ok(());
+    };
+    for call in &places.calls {
+        complete_call(table.spots.len(), filled, *call, row, set)?;
+    }
+    Ok(())
+}
+
+/// Completes the row of a place, if its node is done there.
+fn complete_row(
+    table: &PlaceTable,
+    filled: &FilledSets,
+    place: usize,
+    row: &BitRow,
+    set: &mut RowSet,
+) -> Result<(), Memory>
+    requires table { IsPlaceTable table.now }
+    requires indexed { AreIndexed (length table.now.spots.items) filled.now }
+    requires count { length set.old.all ≡ length table.now.spots.items }
+    requires place { place < length table.now.spots.items }
+    ensures { IfOk result (λ done. Gains table.now.spots.items (IsFor table.now.spots.items place row.now
+        (IsCompleted table.now.flat.value (row_views table.now.spots.items filled.now.sets.items) []))
+        set.old set.new) }
+{
+    if table.steps[place].done {
+        complete_all(table, filled, table.spots[place].node, row, set)?;
+        return Ok(());
+    }
+    Ok(())
+}
+
+/// Works on the row of a place, which is not empty: predicts what the place calls, advances and completes. The other
+/// row has the number of the set alone.
+pub(crate) fn work_row(
+    table: &PlaceTable,
+    filled: &FilledSets,
+    place: usize,
+    row: &BitRow,
+    here: &BitRow,
+    set: &mut RowSet,
+) -> Result<(), Memory>
+    requires table { IsPlaceTable table.now }
+    requires indexed { AreIndexed (length table.now.spots.items) filled.now }
+    requires count { length set.old.all ≡ length table.now.spots.items }
+    requires place { place < length table.now.spots.items }
+    requires some { (k : ℕ) × Contains row.now k }
+    requires here { (k : ℕ) → Contains here.now k ↔ (k ≡ length filled.now.sets.items) }
+    ensures { IfOk result (λ done. Gains table.now.spots.items (IsFor table.now.spots.items place row.now
+        (IsWork table.now.flat.value (row_views table.now.spots.items filled.now.sets.items))) set.old set.new) }
+{
+    predict_row(table, place, row, here, set)?;
+    advance_row(table, place, row, set)?;
+    complete_row(table, filled, place, row, set)?;
+    Ok(())
+}

@@ -1,0 +1,14 @@
+pub mod ChartSets
+pub mod Charts
+pub mod Chosen
+pub mod Closed
+pub mod SetViews
+pub mod EarleySets
+pub mod HeadTables
+pub mod ItemBuckets
+pub mod ItemHomes
+pub mod ItemLists
+pub mod ItemSets
+pub mod ScannedItems
+pub mod Waiting
+pub mod Worklist

@@ -1,0 +1,15 @@
+//! Judges lines by flat grammars, item by item.
+#![tactic(auto)]
+
+mod chart;
+mod earley_set;
+mod fill;
+mod heads;
+mod item;
+mod items;
+mod postdot;
+mod scan;
+mod sets;
+mod waiters;
+
+pub use chart::{Chart, judge_within};

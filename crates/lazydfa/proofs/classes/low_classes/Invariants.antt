@@ -1,7 +1,0 @@
-use Rattle.flatgrammar.specs.Flat.{Flat}
-use Rattle.lazydfa.specs.ClassBounds.{AreParted}
-use Rattle.lazydfa.proofs.AreClassesLemmas.{AreLowTo}
-use Rattle.lazydfa.proofs.classes.low_classes.Given as goal
-
-abbrev pub invariant-loop-number : goal.invariant-loop-number
-invariant-loop-number l = (flat : Flat) → AreParted flat l.samples → AreLowTo flat l.samples l.low.items l.number

@@ -1,0 +1,48 @@
+//! Numbers where classes of letters begin.
+ghost use Rattle.std.specs.Prelude.{IsTrue, IfOk, Contains};
+ghost use Rattle.letterclasses.specs.ClassBounds.{IsBoundAdded};
+
+use ruletable::Memory;
+use std::alloc::Global;
+
+/// Numbers, and of those below 256 where each of them stands. These places are not relied on.
+#[derive(Drop)]
+pub(crate) struct Bounds {
+    pub(crate) numbers: Vec<u32>,
+    spots: [usize; 256],
+}
+
+/// Returns no number. It takes no memory.
+pub(crate) fn empty_bounds(alloc: Global) -> Bounds {
+    Bounds {
+        numbers: Vec::new(alloc),
+        spots: [0; 256],
+    }
+}
+
+fn is_bound(bounds: &Bounds, number: u32) -> bool
+    ensures { IsTrue result → Contains bounds.now.numbers.items number }
+{
+    match bounds.spots.get(number as usize) {
+        Some(spot) => match bounds.numbers.get(*spot) {
+            Some(found) => *found == number,
+            None => false,
+        },
+        None => false,
+    }
+}
+
+/// Adds a number; one below 256 is added once. `Memory` if an allocation fails.
+pub(crate) fn add_bound(number: u32, bounds: &mut Bounds) -> Result<(), Memory>
+    ensures { IfOk result (λ done. IsBoundAdded bounds.old.numbers.items bounds.new.numbers.items number) }
+{
+    if is_bound(bounds, number) {
+        return Ok(());
+    }
+    let spot = bounds.numbers.len();
+    bounds.numbers.push(number)?;
+    if number < 256 {
+        bounds.spots[number as usize] = spot;
+    }
+    Ok(())
+}

@@ -1,0 +1,7 @@
+//! Classes of letters that no set of a flat grammar tells apart. An automaton has one transition for a whole class.
+#![tactic(auto)]
+
+mod bounds;
+mod classes;
+
+pub use classes::{Classes, class_of, find_classes};

@@ -1,0 +1,75 @@
+//! What a grammar's text says of its rules, and what that explains.
+ghost use Rattle.std.specs.Prelude.{◌≡◌, map, IfOk, option_copied};
+ghost use Rattle.ruletable.specs.Notes.{said_of};
+ghost use Rattle.noteplaces.specs.BodyMentions.{mentioned_at};
+ghost use Rattle.noteplaces.specs.DefinitionHeads.{defined_at};
+ghost use Rattle.noteplaces.specs.ExplainedNotes.{ArePlaces, told_by};
+
+use crate::heads::{Head, heads_of};
+use crate::lines::{heads_named, push_by_heads};
+use crate::mentions::{Mention, mentions_of};
+use crate::sign::Signs;
+use crate::uses::{push_first_prose, push_used};
+use lexer::{Kind, one_list};
+use ruletable::{LineRule, Memory, NameCase, Note, NoteKind};
+use std::alloc::Global;
+
+/// Where a grammar's text defines its rules, and what their bodies mention.
+#[derive(Drop)]
+pub struct Places {
+    /// How names compare.
+    pub names: NameCase,
+    /// The definitions, in order.
+    pub heads: Vec<Head>,
+    /// The names and the prose in their bodies, in order.
+    pub mentions: Vec<Mention>,
+}
+
+/// Returns where a text defines its rules, and what their bodies mention.
+///
+/// # Errors
+/// `Memory` if an allocation fails.
+pub fn places_of<K: Kind, S: Signs<K>>(
+    alloc: Global,
+    text: &[u8],
+    rule: LineRule,
+    names: NameCase,
+) -> Result<Places, Memory>
+    ensures { IfOk result (λ places. ArePlaces K.white K.first K.is_end S.sign_of rule names text.now places) }
+{
+    one_list::<K>();
+    let heads = heads_of::<K, S>(alloc, text, rule)?;
+    let mentions = mentions_of::<K, S>(alloc, text, rule)?;
+    Ok(Places {
+        names,
+        heads,
+        mentions,
+    })
+}
+
+/// Returns the lines that explain a note on the grammar, where a name may be given for the start rule: where the note's
+/// rule is first defined, and where it is defined again; the use by which a name is noted that no rule has; the first
+/// prose of a rule. There are none for notes of other kinds.
+///
+/// # Errors
+/// `Memory` if an allocation fails.
+pub fn explain_note(
+    alloc: Global,
+    places: &Places,
+    start: Option<&str>,
+    note: &Note,
+) -> Result<Vec<u8>, Memory>
+    ensures { IfOk result (λ why. why.items ≡ told_by places.now (option_copied start.entry) (said_of note.now)) }
+{
+    let name = note.name.as_slice();
+    let mut out = Vec::new(alloc);
+    match note.kind {
+        NoteKind::Undefined => push_used(alloc, &mut out, places, start, name)?,
+        NoteKind::Prose => push_first_prose(alloc, &mut out, places, name)?,
+        kind => {
+            let heads = heads_named(alloc, &places.heads, places.names, name)?;
+            push_by_heads(alloc, &mut out, &heads, kind)?;
+        }
+    }
+    Ok(out)
+}

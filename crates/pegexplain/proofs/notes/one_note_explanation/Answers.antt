@@ -1,0 +1,11 @@
+use Rattle.noteplaces.proofs.ExplainedNoteLemmas.{explained-one}
+use Rattle.pegread.specs.Kinds.{is_end}
+use Rattle.pegread.specs.Slices.{White, First}
+use Rattle.ruletable.specs.declared.lines.LineRule.TheVariants.{Any}
+use Rattle.ruletable.specs.declared.table.NameCase.TheVariants.{Exact}
+use Rattle.pegexplain.specs.PegNotes.{sign_of}
+use Rattle.pegexplain.proofs.notes.one_note_explanation.Goals as goal
+
+pub returns : goal.returns
+returns c = λ text start note a b. explained-one White First is_end sign_of Any Exact text (c.one_list.ensures text)
+    start note a b

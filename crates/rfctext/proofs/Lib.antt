@@ -1,0 +1,4 @@
+pub mod CutBlanksLemmas
+pub mod FurnitureLemmas
+pub mod KeptLemmas
+pub mod CutPartLemmas

@@ -1,0 +1,4 @@
+pub mod Furniture
+pub mod KeptSteps
+pub mod LineKinds
+pub mod TextLines

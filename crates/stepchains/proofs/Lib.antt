@@ -1,0 +1,4 @@
+mod BacksLemmas
+mod DistanceLemmas
+mod FillsLemmas
+mod ShortChainsLemmas

@@ -1,0 +1,90 @@
+-- Notes and what explains them, one note more.
+-- Serves: run_tool, run_peg, run_abnf (right), one_statement, one_statement_of_abnf
+use Rattle.std.proofs.Common.{◌≡◌, ℕ, suc, ◌+◌, ◌<◌, Bool, true, false, List, [], ◌∷◌, ◌++◌, length, get_or, take, drop}
+use Rattle.std.proofs.Common.{map, refl, sym, ap, ◌∙◌, subst, append_assoc, append-nil, add-one, Option}
+use Rattle.std.proofs.Common.{option_copied}
+use Rattle.std.proofs.Math.Seq.{drop-cons, take-suc}
+use Rattle.std.proofs.lemmas.List.{map-append, take-append-drop}
+use Rattle.ruletable.specs.Notes.{Said, note_text}
+use Rattle.toolrun.specs.Explained.{ExplainedIf}
+use Rattle.toolrun.specs.NotesText.{notes_text}
+use Rattle.toolrun.specs.ToldNotes.{AreNotesTold, no_note, note_told, AreNotesBegun, begun_notes, begun_line, ToldNotes}
+use Rattle.toolrun.specs.ToldNotes.{WhyNoted}
+use Rattle.toolrun.specs.declared.settings.Settings.{Settings}
+
+module _ {Why : Said → List ℕ → Type 0} where
+  -- one note more
+  pub told-next : {notes : List Said} {text : List ℕ} (note : Said) (why : List ℕ) → AreNotesTold Why notes text
+      → Why note why → AreNotesTold Why (notes ++ note ∷ []) (text ++ (note_text note ++ why))
+  told-next note why no_note w =
+      subst (λ (z : List ℕ). AreNotesTold Why (note ∷ []) (note_text note ++ z)) (append-nil why)
+      (note_told w no_note)
+  told-next note why (note_told {note = first} {why = lines} {notes = others} {text = rest} v more) w =
+      subst (AreNotesTold Why (first ∷ (others ++ note ∷ [])))
+      (ap (λ (z : List ℕ). note_text first ++ z) (sym (append_assoc lines rest (note_text note ++ why)))
+      ∙ sym (append_assoc (note_text first) (lines ++ rest) (note_text note ++ why)))
+      (note_told v (told-next note why more w))
+
+  -- one text
+  pub told-one : ((note : Said) (a b : List ℕ) → Why note a → Why note b → a ≡ b) → {notes : List Said}
+      (a b : List ℕ) → AreNotesTold Why notes a → AreNotesTold Why notes b → a ≡ b
+  told-one one a b no_note no_note = refl
+  told-one one a b (note_told {note = note} {why = u} {text = s} v more) (note_told {why = w} {text = t} x others) =
+      ap (λ (z : List ℕ). note_text note ++ (z ++ s)) (one note u w v x)
+      ∙ ap (λ (z : List ℕ). note_text note ++ (w ++ z)) (told-one one s t more others)
+
+-- other words for what explains
+pub told-words : {P Q : Said → List ℕ → Type 0} → ((note : Said) (why : List ℕ) → P note why → Q note why)
+    → {notes : List Said} {text : List ℕ} → AreNotesTold P notes text → AreNotesTold Q notes text
+told-words f no_note = no_note
+told-words f (note_told v more) = note_told (f _ _ v) (told-words f more)
+
+pub begun-words : {P Q : Said → List ℕ → Type 0} → ((note : Said) (why : List ℕ) → P note why → Q note why)
+    → {notes : List Said} {text : List ℕ} → AreNotesBegun P notes text → AreNotesBegun Q notes text
+begun-words f (begun_notes others t) = begun_notes others (told-words f t)
+begun-words f (begun_line note others t) = begun_line note others (told-words f t)
+
+-- the first notes of a list of which as many are taken
+module _ {N : Type 0} (said_of : N → Said) {Why : Said → List ℕ → Type 0} (notes : List N) (i : ℕ) (text : List ℕ)
+    (told : AreNotesTold Why (map said_of (take i notes)) text) where
+  pub begun-here : AreNotesBegun Why (map said_of notes) text
+  begun-here = subst (λ ns. AreNotesBegun Why ns text) (sym (map-append said_of (take i notes) (drop i notes))
+      ∙ ap (map said_of) (take-append-drop i notes)) (begun_notes (map said_of (drop i notes)) told)
+
+  pub begun-there : (note : N) → i < length notes → note ≡ get_or notes i note
+      → AreNotesBegun Why (map said_of notes) (text ++ note_text (said_of note))
+  begun-there note lt is =
+      let whole : take i notes ++ note ∷ drop (suc i) notes ≡ notes =
+      ap (λ (x : N). take i notes ++ x ∷ drop (suc i) notes) is
+      ∙ ap (λ ns. take i notes ++ ns) (sym (drop-cons notes i note lt)) ∙ take-append-drop i notes in
+      subst (λ ns. AreNotesBegun Why ns (text ++ note_text (said_of note)))
+      (sym (map-append said_of (take i notes) (note ∷ drop (suc i) notes)) ∙ ap (map said_of) whole)
+      (begun_line (said_of note) (map said_of (drop (suc i) notes)) told)
+
+  pub told-there : (note : N) (why : List ℕ) → i < length notes → note ≡ get_or notes i note → Why (said_of note) why
+      → AreNotesTold Why (map said_of (take (i + 1) notes)) (text ++ (note_text (said_of note) ++ why))
+  told-there note why lt is w =
+      let whole : take (i + 1) notes ≡ take i notes ++ note ∷ [] = rw add-one (take-suc notes i note lt
+      ∙ ap (λ (x : N). take i notes ++ x ∷ []) (sym is)) in
+      subst (λ ns. AreNotesTold Why ns (text ++ (note_text (said_of note) ++ why)))
+      (sym (map-append said_of (take i notes) (note ∷ [])) ∙ ap (map said_of) (sym whole))
+      (told-next (said_of note) why told w)
+
+module _ (settings : Settings) (Why : Option (List ℕ) → Said → List ℕ → Type 0) where
+  explained-if : (asked : Bool) (W : List ℕ → Type 0) (why : List ℕ) → asked ≡ true → W why
+      → ExplainedIf asked W why
+  explained-if true W why e w = w
+  explained-if false W why e w = cc
+
+  pub why-asked : settings.explain ≡ true → (note : Said) (why : List ℕ)
+      → Why (option_copied settings.start) note why → WhyNoted settings Why note why
+  why-asked asked note why w = explained-if settings.explain _ why asked w
+
+  plain-if : (asked : Bool) (W : List ℕ → Type 0) → asked ≡ false → ExplainedIf asked W []
+  plain-if true W e = cc
+  plain-if false W e = refl
+
+  -- without explanations the lines of the notes are all
+  pub told-plain : settings.explain ≡ false → (notes : List Said) → ToldNotes settings Why notes (notes_text notes)
+  told-plain plain [] = no_note
+  told-plain plain (note ∷ notes) = note_told (plain-if settings.explain _ plain) (told-plain plain notes)

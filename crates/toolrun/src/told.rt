@@ -1,0 +1,75 @@
+//! Notes with what explains them.
+ghost use Rattle.std.specs.Prelude.{◌≡◌, ◌++◌, ℕ, List, map, option_copied, OnOk, OnErr};
+ghost use Rattle.ruletable.specs.Notes.{note_text, said_of};
+ghost use Rattle.toolrun.specs.ToldNotes.{IsToldOf};
+
+use crate::language::Language;
+use crate::notes::line_of;
+use ruletable::{Memory, Note};
+use std::alloc::Global;
+
+/// What is told of notes with the lines that explain them.
+#[derive(Drop)]
+pub enum Told {
+    /// All of them.
+    Whole(Vec<u8>),
+    /// The first ones, where an allocation failed.
+    Part(Vec<u8>),
+}
+
+/// Adds the line of a note, or nothing if an allocation fails.
+fn push_note(alloc: Global, note: &Note, told: &mut Vec<u8>) -> Result<(), Memory>
+    ensures ok { OnOk result (told.new.items ≡ told.old.items ++ note_text (said_of note.now)) }
+    ensures err { OnErr result (told.new.items ≡ told.old.items) }
+{
+    let line = line_of(alloc, note)?;
+    told.extend_from_slice(line.as_slice())?;
+    Ok(())
+}
+
+/// Adds the lines that explain a note, or nothing if an allocation fails.
+fn push_why<L: Language>(
+    alloc: Global,
+    places: &L::Places,
+    start: Option<&str>,
+    note: &Note,
+    told: &mut Vec<u8>,
+) -> Result<(), Memory>
+    ensures ok { OnOk result ((text : List ℕ) → L.are_places text (option_copied start.entry) places.now
+        → (why : List ℕ)
+        × L.explains_note text (option_copied start.entry) (said_of note.now) why
+        × (told.new.items ≡ told.old.items ++ why)) }
+    ensures err { OnErr result (told.new.items ≡ told.old.items) }
+{
+    let why = L::explain_note(alloc, places, start, note)?;
+    told.extend_from_slice(why.as_slice())?;
+    Ok(())
+}
+
+/// Returns the notes on the grammar of a text, each with the lines that explain it. Where an allocation fails, the
+/// first of them, the last perhaps without.
+pub fn told_notes<L: Language>(
+    alloc: Global,
+    text: &[u8],
+    start: Option<&str>,
+    notes: &[Note],
+) -> Told
+    ensures { IsToldOf (L.explains_note text.now (option_copied start.entry)) (map said_of notes.now) result }
+{
+    let mut told = Vec::new(alloc);
+    let places = match L::places(alloc, text, start) {
+        Ok(places) => places,
+        Err(Memory) => return Told::Part(told),
+    };
+    for note in notes {
+        match push_note(alloc, note, &mut told) {
+            Ok(()) => {}
+            Err(Memory) => return Told::Part(told),
+        }
+        match push_why::<L>(alloc, &places, start, note, &mut told) {
+            Ok(()) => {}
+            Err(Memory) => return Told::Part(told),
+        }
+    }
+    Told::Whole(told)
+}

@@ -1,0 +1,1 @@
+abnfx uri.txt path.txt

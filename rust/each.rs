@@ -1,0 +1,31 @@
+//! `run_each` of fanquber.rs gives what `run` gives for each input, and a judge tells what `run` tells of its grammar.
+#[allow(dead_code)]
+mod fanquber;
+
+use fanquber::{Error, Judge, Opened, Settings, Tool, run, run_each};
+
+fn each_is_a_run(text: &str, settings: &Settings) -> Result<(), Error> {
+    let inputs: [&[u8]; 4] = [b"tea", b"", b"milk2", b"tea"];
+    let got = run_each(text.as_bytes(), settings, &inputs)?;
+    assert_eq!(got.len(), inputs.len());
+    for (is, input) in got.iter().zip(inputs) {
+        let want = run(Tool::Peg, text.as_bytes(), settings, input)?;
+        assert_eq!((&is.out, &is.err, is.status), (&want.out, &want.err, want.status));
+    }
+    Ok(())
+}
+
+fn main() -> Result<(), Error> {
+    let words = "S <- < [a-z]+ > { yytext }\n";
+    for explain in [false, true] {
+        let settings = Settings { explain, ..Settings::default() };
+        for text in [words, &format!("{words}T <- 'x'\n"), "S <- T\n", "S <- )\n"] {
+            each_is_a_run(text, &settings)?;
+        }
+        let two = b"a = \"x\"\nb = \"y\"\n";
+        let Opened::Judge(judge) = Judge::open(two, &settings)? else { panic!("refused") };
+        assert_eq!(judge.notes, run(Tool::Abnf, two, &settings, b"")?.err);
+    }
+    assert!(run_each(words.as_bytes(), &Settings::default(), &[])?.is_empty());
+    Ok(())
+}

@@ -1,0 +1,242 @@
+#!/usr/bin/env python3
+"""What stands in the text of an RFC, worked out slowly and plainly: its lines without page furniture, and the blocks of
+ABNF among them; and the grammar that several texts make up. It shares nothing with the crates.
+
+usage: slow_abnfx.py [TEXT ..]
+
+Prints what is found in each text: `FROM-TO` for the lines of a piece of ABNF, and `FROM not ABNF: ` with the fault for
+a line that looks like a rule and is none. Without texts it compares what is found in each of rfc_texts/*.txt with the
+file beside it, written by hand.
+"""
+import pathlib
+import re
+import sys
+
+sys.path.insert(0, str(pathlib.Path(__file__).resolve().parent))
+import slow_faults
+
+BLANKS = b" \t\f"
+MARGINS = b" \t"
+MAX_GRAMMAR = 1048576
+RULE = re.compile(rb"[A-Za-z][A-Za-z0-9-]*[ \t]*=")
+PAGE = re.compile(rb"(.*)\[Page [0-9]+\]", re.S)
+YEAR = re.compile(rb".*[ \t\f][0-9]{4}", re.S)
+
+
+def is_indented(line):
+    return line[:1] in (b" ", b"\t", b"\f")
+
+
+def kind(line, has_feed):
+    """Returns what a line looks like behind its form feeds."""
+    bare = line.rstrip(BLANKS)
+    if not bare:
+        return "feed" if has_feed else "blank"
+    foot = PAGE.fullmatch(bare)
+    if foot and (not is_indented(line) or not foot[1].strip(BLANKS)):
+        return "foot"
+    if YEAR.fullmatch(bare) and not is_indented(line) and not re.search(rb"[0-9]{5}$", bare):
+        return "feed" if has_feed else "dated"
+    return "other"
+
+
+def lines(text):
+    """Returns the number, the bytes and the kind of each line."""
+    parts = text.split(b"\n")
+    if not parts[-1]:
+        parts.pop()
+    found = []
+    for number, part in enumerate(parts, 1):
+        bare = part[:-1] if part.endswith(b"\r") else part
+        line = bare.lstrip(b"\f")
+        found.append((number, line, kind(line, len(line) < len(bare))))
+    return found
+
+
+def kept(all_lines):
+    """Returns the lines that are no page furniture."""
+    def nearest(places):
+        return next((it for it in places if all_lines[it][2] != "blank"), None)
+
+    def is_mark(place):
+        return place is not None and all_lines[place][2] in ("feed", "foot")
+
+    def before(place):
+        return nearest(range(place - 1, -1, -1))
+
+    def is_head(place):
+        return place is not None and all_lines[place][2] == "dated" and is_mark(before(place))
+
+    def is_furniture(place):
+        if all_lines[place][2] != "blank":
+            return is_mark(place) or is_head(place)
+        up, down = before(place), nearest(range(place + 1, len(all_lines)))
+        return is_mark(up) or is_head(up) or is_mark(down)
+
+    return [it for place, it in enumerate(all_lines) if not is_furniture(place)]
+
+
+def margin(line):
+    return len(line) - len(line.lstrip(MARGINS))
+
+
+def opens(line):
+    return bool(RULE.match(line.lstrip(MARGINS)))
+
+
+def block(some):
+    """Returns how many of these lines belong to the block that the first one opens."""
+    size = margin(some[0][1])
+    for count, (_, line, it) in enumerate(some[1:], 1):
+        goes_on = it == "blank" or line.lstrip(MARGINS).startswith(b";") or margin(line) > size
+        if not goes_on and not (margin(line) == size and opens(line)):
+            return count
+    return len(some)
+
+
+def fault(some):
+    """Returns what is wrong with the lines as ABNF, without the margin of the first; None if nothing is."""
+    size = margin(some[0][1])
+    text = b"".join(line[min(size, margin(line)):] + b"\n" for _, line, _ in some)
+    if len(text) > MAX_GRAMMAR:
+        return "grammar too long"
+    told = slow_faults.abnf(text)
+    return told and told.partition("\n")[0]
+
+
+def cuts(some):
+    """Returns the numbers of lines that the block has with its last paragraphs left out, ascending."""
+    ends = [it for it in range(1, len(some) + 1) if some[it - 1][2] != "blank"]
+    return [it for it in ends if it == len(some) or some[it][2] == "blank"]
+
+
+def found(text):
+    """Returns what is found: where a piece begins and ends, or where none begins, and the fault."""
+    rest, told = kept(lines(text)), []
+    while rest:
+        taken = 1
+        if opens(rest[0][1]):
+            whole = rest[:block(rest)]
+            read = [it for it in cuts(whole) if fault(whole[:it]) is None]
+            if read:
+                taken = read[-1]
+                told.append((rest[0][0], rest[taken - 1][0], None))
+            else:
+                told.append((rest[0][0], None, fault(whole[:cuts(whole)[0]])))
+        rest = rest[taken:]
+    return told
+
+
+TOKEN = re.compile(rb'"[^"]*"|<[^>]*>|;[^\n]*|[][()/=]|[^][()/=;"<\s]+')
+
+
+class Rule:
+    """A rule as a text gives it: the name of the text, its lines without the margin, and what it says."""
+
+    def __init__(self, name, size, some):
+        self.text, self.first, self.last = name, some[0][0], some[-1][0]
+        self.written = b"".join(line[min(size, margin(line)):] + b"\n" for _, line, _ in some)
+        tokens = [it for it in TOKEN.findall(self.written) if not it.startswith(b";")]
+        self.name, self.key = tokens[0].decode(), tokens[0].lower()
+        self.adds = tokens[2] == b"/"
+        self.body = [it if it.startswith(b"<") else it.lower() for it in tokens[2 + self.adds:]]
+        self.is_prose = all(it.startswith(b"<") or it in (b"/", b"[", b"]") for it in self.body)
+
+    def place(self):
+        return f"{self.text}:{self.first}"
+
+    def is_same(self, other):
+        """Tells whether the tokens are the same. Rules in brackets that say no more are not compared by this."""
+        return self.adds == other.adds and self.key == other.key and self.body == other.body
+
+    def yields_to(self, other):
+        return self.key == other.key and not self.adds and not other.adds and self.is_prose and not other.is_prose
+
+
+def in_text(why, rest):
+    """Returns a fault of the first of these lines with the number that its line has in the text."""
+    at = re.match(r"line (\d+)(.*)", why, re.S)
+    return f"line {rest[min(int(at[1]), len(rest)) - 1][0]}{at[2]}" if at else why
+
+
+def given(name, text):
+    """Returns the rules of a text, and what is told of it."""
+    rest, rules, told = kept(lines(text)), [], ""
+    while rest:
+        taken = 1
+        if opens(rest[0][1]):
+            whole = rest[:block(rest)]
+            read = [it for it in cuts(whole) if fault(whole[:it]) is None]
+            if read:
+                taken, size = read[-1], margin(rest[0][1])
+                begins = [it for it in range(taken) if margin(rest[it][1]) == size and opens(rest[it][1])]
+                rules += [Rule(name, size, rest[a:b]) for a, b in zip(begins, begins[1:] + [taken])]
+            else:
+                told += f"{name}:{rest[0][0]}: not ABNF: {in_text(fault(whole[:cuts(whole)[0]]), rest)}\n"
+        rest = rest[taken:]
+    return rules, told
+
+
+def fates(rules):
+    """Returns what becomes of each rule, in words."""
+    found = []
+    for number, rule in enumerate(rules):
+        wanted = [it for it in rules if rule.yields_to(it)]
+        same = [it for it in rules[:number] if rule.is_same(it)]
+        again = f"is given at {same[0].place()}" if same else "stands"
+        found.append(f"yields to {wanted[0].place()}" if wanted else again)
+    return found
+
+
+def joined(texts):
+    """Returns the grammar that texts make up, the list of their rules, what is told, and the status."""
+    rules, told = [], ""
+    for name, text in texts:
+        more, said = given(name, text)
+        rules, told = rules + more, told + said
+    becomes = fates(rules)
+    listed = "".join(f"{it.place()}: '{it.name}' {fate}\n" for it, fate in zip(rules, becomes))
+    stand = [it for it, fate in zip(rules, becomes) if fate == "stands"]
+    first = {}
+    for it in stand:
+        if not it.adds:
+            first.setdefault(it.key, it)
+    clashes = [it for it in stand if not it.adds and first[it.key] is not it]
+    told += "".join(f"{it.place()}: '{it.name}' is defined otherwise at {first[it.key].place()}\n" for it in clashes)
+    order = []
+    for number, it in enumerate(stand):
+        if not it.adds:
+            early = [other for other in stand[:number] if other.adds and other.key == it.key]
+            order += [it] + (early if first[it.key] is it else [])
+        elif it.key not in first or first[it.key] in stand[:number]:
+            order.append(it)
+    grammar, before = b"", None
+    for it in order:
+        if before is None or before.text != it.text or before.last != it.first - 1:
+            grammar += f"; {it.place()}\n".encode()
+        grammar, before = grammar + it.written, it
+    status = 2 if clashes else 0 if stand else 1
+    return grammar, listed, told + ("" if stand else "no rules found\n"), status
+
+
+def shown(told):
+    return "".join(f"{first}-{last}\n" if last else f"{first} not ABNF: {why}\n" for first, last, why in told)
+
+
+def main():
+    if sys.argv[1:]:
+        for name in sys.argv[1:]:
+            sys.stdout.write(shown(found(pathlib.Path(name).read_bytes())))
+        return 0
+    wrong = 0
+    for file in sorted((pathlib.Path(__file__).resolve().parent / "rfc_texts").glob("*.txt")):
+        want, is_found = file.with_suffix(".found").read_text(), shown(found(file.read_bytes()))
+        if is_found != want:
+            wrong += 1
+            print(f"{file.name}: found\n{is_found}wanted\n{want}", end="")
+    print(f"wrong: {wrong}")
+    return wrong > 0
+
+
+if __name__ == "__main__":
+    sys.exit(main())

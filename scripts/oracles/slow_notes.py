@@ -1,0 +1,136 @@
+"""Slow answers to what explains the notes on a grammar. It shares nothing with the crates."""
+import re
+
+import slow_abnf
+import slow_faults
+
+# The parts of messages round the name, and how a note of the kind is explained.
+KINDS = [("rule '", "' redefined", "redefined"), ("rule '", "' extended before it is defined", "early"),
+         ("rule '", "' used but not defined", "undefined"), ("prose in rule '", "'", "prose"),
+         ("rule '", "' defined but not used", "unused")]
+SHOWN, AGAIN, CHAIN = 60, 8, 8
+
+
+def cut(name):
+    """Returns a name or prose as it is shown: its first 60 bytes, and `..` where it has more."""
+    return slow_faults.shown(name[:SHOWN]) + ".." * (len(name) > SHOWN)
+
+
+class Places:
+    """Where a text defines and uses its rules; `key` is what names of one rule have in common."""
+
+    def __init__(self, text, tokens, signs, line_end, key):
+        self.key, self.named, self.bodies, within = key, {}, {}, None
+        for token, behind in zip(tokens, tokens[1:]):
+            line = len(re.findall(line_end, text[:token.start])) + 1
+            if token.kind in ("Ident", "Name") and behind.kind in signs:
+                within = self.begin(token.text, line, behind.kind == "Adds")
+            elif token.kind in ("Ident", "Name", "Prose") and within is not None:
+                self.bodies[within].append((token.kind == "Prose", token.text, line))
+
+    def begin(self, name, line, adds):
+        """Begins a definition. Returns the rule to whose bodies it belongs; none where it does not stand."""
+        rule, is_new = self.key(name), self.key(name) not in self.named
+        self.named.setdefault(rule, []).append((name, line, adds))
+        self.bodies.setdefault(rule, [])
+        return rule if is_new or adds else None
+
+    def definitions(self, kind, name):
+        (first, line, _), *others = self.named[self.key(name)]
+        told = f"  line {line}: '{cut(first)}' "
+        if kind != "redefined":
+            return told + ("begins with \"=/\"\n" if kind == "early" else "is defined\n")
+        others = [(name, line) for name, line, adds in others if not adds]
+        more = "".join(f"  line {line}: '{cut(name)}' is defined again\n" for name, line in others[:AGAIN])
+        return told + "is defined\n" + more + (f"  and {len(others) - AGAIN} more\n" if len(others) > AGAIN else "")
+
+    def use(self, name, start):
+        if start is not None and self.key(start) == self.key(name):
+            return "  given by -s\n"
+        uses = ((line, rule) for rule, body in self.bodies.items() for is_prose, word, line in body
+                if not is_prose and self.key(word) == self.key(name))
+        line, rule = next(uses)
+        return f"  line {line}: used in rule '{cut(self.named[rule][0][0])}'\n"
+
+    def prose(self, name):
+        word, line = next((word, line) for is_prose, word, line in self.bodies[self.key(name)] if is_prose)
+        return f"  line {line}: {cut(word)}\n"
+
+    def lines_on(self, kind, name, start):
+        """Returns the lines behind a note."""
+        if kind == "undefined":
+            return self.use(name, start)
+        return self.prose(name) if kind == "prose" else self.definitions(kind, name)
+
+
+class AbnfPlaces(Places):
+    """Of a text in ABNF also by which rules the judged one reaches names. Keys are names in small letters."""
+
+    def names_in(self, rule):
+        """Returns the keys of the names in a rule's body."""
+        given = self.named.get(rule, [])
+        core = slow_abnf.CORE.get(rule.decode().upper()) if not given or given[0][2] else None
+        of_core = [it[1].lower().encode() for it in slow_abnf.walk(core) if it[0] == "name"] if core else []
+        return of_core + [self.key(word) for is_prose, word, _ in self.bodies.get(rule, []) if not is_prose]
+
+    def chain(self, name, start):
+        """Returns the keys from the judged rule to a name; none where it does not reach the name."""
+        rules = [*self.named, *(it for it in (it.lower().encode() for it in slow_abnf.CORE) if it not in self.named)]
+        far, depth = {self.key(start) if start is not None else rules[0]: 0}, 0
+        while depth in far.values():
+            for rule in [it for it in rules if far.get(it) == depth]:
+                for used in self.names_in(rule):
+                    far.setdefault(used, depth + 1)
+            depth += 1
+        keys = [self.key(name)]
+        while far.get(keys[0]):
+            keys.insert(0, next(it for it in rules if far.get(it) == far[keys[0]] - 1 and keys[0] in self.names_in(it)))
+        return keys if keys[0] in far else None
+
+    def spelled(self, key, name):
+        """Returns the name of a key: as its definition spells it, of a core rule in capitals, or as it is noted."""
+        if key in self.named:
+            return self.named[key][0][0]
+        return key.upper() if key.decode().upper() in slow_abnf.CORE else name
+
+    def reached(self, name, start):
+        keys = self.chain(name, start)
+        if keys is None or len(keys) < 2:
+            return ""
+        told = [f"'{cut(self.spelled(it, name))}'" for it in keys]
+        if len(told) > CHAIN:
+            told[1:1 - CHAIN] = [f"{len(told) - CHAIN} more"]
+        return f"  reached by {' > '.join(told)}\n"
+
+    def lines_on(self, kind, name, start):
+        behind = self.reached(name, start) if kind in ("undefined", "prose") else ""
+        return super().lines_on(kind, name, start) + behind
+
+
+def kind_of(line):
+    """Returns how the note of a line is explained, and its name; none where nothing explains it."""
+    return next(((kind, line[len(front):-len(behind)].encode("latin-1")) for front, behind, kind in KINDS
+                 if line.startswith(front) and line.endswith(behind)), None)
+
+
+def explained(message, places, start):
+    """Returns messages, each with the lines that explain it."""
+    told = ""
+    for line in message.decode("latin-1").split("\n")[:-1]:
+        told, note = told + line + "\n", kind_of(line)
+        told += places.lines_on(*note, start) if note else ""
+    return told.encode("latin-1")
+
+
+def peg(text, message, start):
+    """Returns the messages of pegi on a grammar and an input, with what explains the notes."""
+    tokens = slow_faults.tokens_of(text, slow_faults.PEG_WHITE, slow_faults.PEG_TOKENS, True)
+    places = Places(text, tokens, ("Arrow",), rb"\r\n|\r|\n", lambda name: name)
+    return explained(message, places, start and start.encode())
+
+
+def abnf(text, message, judged):
+    """Returns the messages of abnfi on a grammar and an input, with what explains the notes."""
+    tokens = slow_faults.tokens_of(text, slow_faults.ABNF_WHITE, slow_faults.ABNF_TOKENS, False)
+    places = AbnfPlaces(text, tokens, ("Is", "Adds"), rb"\n", bytes.lower)
+    return explained(message, places, judged and judged.encode())
