@@ -41,5 +41,14 @@ int main() {
     explained.settings().explain = true;
     CHECK(fanquber::judge(two).notes() == two.run("").err);
     CHECK(fanquber::judge(explained).notes() == explained.run("").err);
+    fanquber::judge moved(two);
+    const fanquber::judge kept = std::move(moved);
+    bool threw = false;
+    try {
+        moved("x");
+    } catch (const std::logic_error &) {
+        threw = true;
+    }
+    CHECK(threw);
     return wrong;
 }
