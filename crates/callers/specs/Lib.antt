@@ -4,4 +4,5 @@ pub mod CommentLines
 pub mod Loaded
 pub mod LoadedAbnf
 pub mod Printed
+pub mod RunsAlone
 pub mod Taken

@@ -1,8 +1,12 @@
-//! A caller of `abnfrun`: a grammar that is opened once, and lines that it judges.
+//! Callers of `abnfrun`, `pegrun` and `memoryrun`: a grammar that is opened once, and lines that it judges, or inputs
+//! on which it is run.
 ghost use Rattle.std.specs.Prelude.{◌≤◌, length, IfSome};
 ghost use Rattle.callers.specs.AnswersAlone.{AnswersAlone};
+ghost use Rattle.callers.specs.RunsAlone.{RunsAlone};
 
 use abnfrun::{Answer, OpenedAbnf, Settings, open_abnf};
+use memoryrun::{Outputs, run_opened};
+use pegrun::{OpenedPeg, open_peg};
 use std::alloc::Global;
 
 /// Opens a grammar in ABNF, and returns the answers to two lines, each of at most as many bytes as the settings allow:
@@ -32,5 +36,29 @@ pub fn answer_both(
     let Ok(other) = judge.judge(second) else {
         return None;
     };
+    Some((one, other))
+}
+
+/// Opens a grammar of peg(1), and returns what it writes on two inputs, behind what is told of the grammar: what runs
+/// of the grammar on each input alone write. None where the text is no grammar, the grammar is refused, or an
+/// allocation fails in opening it.
+pub fn run_both(
+    alloc: Global,
+    grammar: &[u8],
+    settings: &Settings<'_>,
+    first: &[u8],
+    second: &[u8],
+) -> Option<(Outputs, Outputs)>
+    ensures first { IfSome result (λ both. RunsAlone grammar.now settings.now first.now both.0) }
+    ensures second { IfSome result (λ both. RunsAlone grammar.now settings.now second.now both.1) }
+{
+    let Ok(OpenedPeg { notes: _, runner }) = open_peg(alloc, grammar, settings) else {
+        return None;
+    };
+    let Some(mut runner) = runner else {
+        return None;
+    };
+    let one = run_opened(alloc, &mut runner, settings, first);
+    let other = run_opened(alloc, &mut runner, settings, second);
     Some((one, other))
 }

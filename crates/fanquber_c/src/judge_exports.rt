@@ -24,7 +24,8 @@ pub extern "C" fn fanquber_abnf_open(
     place: &mut CJudge,
     err: &mut [u8],
 ) -> CResult
-    ensures { IsOpenCall asked.now name.now grammar.now
+    ensures out { result.out_len ≡ 0 }
+    ensures call { IsOpenCall asked.now name.now grammar.now
         (record { old = place.old.judge.held; new = place.new.judge.held })
         (record { old = err.old; new = err.new; len = result.err_len }) result.status }
 {

@@ -26,4 +26,6 @@ mod pegread_print;
 #[cfg(test)]
 mod pegread_tokens;
 #[cfg(test)]
+mod pegrun_open;
+#[cfg(test)]
 mod texts;

@@ -4,6 +4,7 @@ pub mod FirstsLemmas
 pub mod LooksOfStartLemmas
 pub mod NextUnitLemmas
 pub mod OneReplyLemmas
+pub mod OpenPegLemmas
 pub mod SomeReplyLemmas
 pub mod StatesLemmas
 pub mod StepLemmas

@@ -3,12 +3,16 @@
 
 mod engine;
 mod laws;
+mod open_law;
+mod opened;
 mod peg_language;
 mod run;
 mod unit;
 
 pub use feed::{Broken, Source, SourceOf};
 pub use laws::{one_reply, one_statement};
+pub use open_law::runs_as_a_run;
+pub use opened::{OpenedPeg, PegRunner, open_peg};
 pub use peg_language::PegLanguage;
 pub use run::run_peg;
 pub use toolrun::{

@@ -4,8 +4,8 @@ use Rattle.fanquber_c.specs.OpenCall.{tried}
 use Rattle.fanquber_c.proofs.OpenCallLemmas.{closed_is_none}
 use Rattle.fanquber_c.proofs.judge_exports.fanquber_abnf_open.Goals as goal
 
-pub returns : goal.returns
-returns c =
+pub returns-clause-call : goal.returns-clause-call
+returns-clause-call c =
     let place = c.args.place.now in
     let empty = closed_is_none place.judge.held place.is_open place.right c.if-place.false in
     let told = c.open_into-told.result.text.items in

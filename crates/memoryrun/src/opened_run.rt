@@ -1,0 +1,37 @@
+//! Runs in memory of a grammar that was opened.
+ghost use Rattle.memoryrun.specs.PlannedRun.{IsPlannedRun};
+ghost use Rattle.pegread.specs.PegViews.{rules_of};
+ghost use Rattle.pegrun.specs.PegReply.{RunStates};
+ghost use Rattle.std.specs.Prelude.{◌≡◌};
+ghost use Rattle.toolrun.specs.Status.{code_of};
+
+use crate::bytes::Bytes;
+use crate::outputs::Outputs;
+use pegrun::PegRunner;
+use ruletable::SinkOf;
+use std::alloc::Global;
+use toolrun::{Settings, end_run};
+
+/// Returns what a run of an open grammar writes on an input in memory, behind what is told of the grammar.
+/// `Status::Fault` also if an allocation for one of the outputs fails: it then holds a beginning.
+pub fn run_opened(
+    alloc: Global,
+    runner: &mut PegRunner,
+    settings: &Settings<'_>,
+    input: &[u8],
+) -> Outputs
+    ensures same { runner.new ≡ runner.old }
+    ensures runs { IsPlannedRun (RunStates (rules_of runner.old.rules) runner.old.start settings.now) input.now
+        result.out.items result.err.items (code_of result.status) }
+{
+    let mut reader = Bytes::new(input);
+    let mut out = SinkOf::new(Vec::new(alloc));
+    let mut err = SinkOf::new(Vec::new(alloc));
+    let stop = runner.run(alloc, settings, &mut reader, &mut out);
+    let status = end_run(stop, &mut out, &mut err);
+    Outputs {
+        out: out.into_inner(),
+        err: err.into_inner(),
+        status,
+    }
+}

@@ -1,0 +1,120 @@
+//! A grammar of peg(1) that is read once, and is run as often as asked.
+ghost use Rattle.std.specs.Prelude.{◌≡◌, IfErr, IfOk, false, map, option_copied};
+ghost use Rattle.pegread.specs.PegViews.{rules_of};
+ghost use Rattle.pegread.specs.Reading.{IsFaultOf};
+ghost use Rattle.pegrun.specs.OpenPeg.{IsPegOpened};
+ghost use Rattle.pegrun.specs.PegLanguage.{IsChecked};
+ghost use Rattle.pegrun.specs.PegReply.{RunStates};
+ghost use Rattle.ruletable.specs.Notes.{said_of};
+ghost use Rattle.toolrun.specs.Stopped.{Performs};
+ghost use Rattle.toolrun.specs.Stream.{passed};
+
+use crate::engine::run_units;
+use crate::peg_language::PegLanguage;
+use feed::Source;
+use gramcheck::SoundPeg;
+use packrat::Packrat;
+use pegread::read_peg;
+use ruletable::{Memory, Note, ReadFault, Sink, WriteFault};
+use std::alloc::Global;
+use std::marker::Model;
+use toolrun::{Checked, Language, Settings, Stop};
+
+/// A grammar that is run on inputs. It keeps the room that the runs before took.
+#[derive(Drop)]
+pub struct PegRunner {
+    grammar: SoundPeg,
+    matcher: Packrat,
+}
+
+impl Model for PegRunner {
+    ghost use Rattle.std.specs.Coded.{codes};
+    ghost use Rattle.gramcheck.specs.Grammar.{Grammar};
+    ghost use Rattle.pegnodes.specs.contracts.node.Node as n;
+    ghost use Rattle.pegread.specs.contracts.expr.Expr as e;
+
+    ghost Value = { Grammar };
+
+    ghost coded = { Prim.hlevel (codes, e.the_row.coded, n.the_row.coded) };
+
+    ghost view = { λ r. r.grammar };
+}
+
+impl PegRunner {
+    /// Runs the grammar on what a reader gives, as settings ask: by their limit, and verbatim or not. All else of them
+    /// is not looked at. `WriteFault` if the output fails; then a beginning is written.
+    pub fn run<R: Source, O: Sink>(
+        &mut self,
+        alloc: Global,
+        settings: &Settings<'_>,
+        reader: &mut R,
+        out: &mut O,
+    ) -> Result<Stop, WriteFault>
+        requires reader_is_fresh { R.failed reader.old ≡ false }
+        requires reader_is_open { R.ended reader.old ≡ false }
+        requires out_is_fresh { O.failed out.old ≡ false }
+        ensures same { self.new ≡ self.old }
+        ensures runs { Performs (RunStates (rules_of self.old.rules) self.old.start settings.now)
+            (passed R.remaining R.failed reader.old reader.new) (passed O.contents O.failed out.old out.new) result }
+    {
+        run_units(
+            alloc,
+            &mut self.matcher,
+            &self.grammar,
+            settings,
+            reader,
+            out,
+        )
+    }
+}
+
+/// What opening a grammar gave.
+#[derive(Drop)]
+pub struct OpenedPeg {
+    /// What there is to say of the grammar, in order.
+    pub notes: Vec<Note>,
+    /// What runs it, unless it is refused.
+    pub runner: Option<PegRunner>,
+}
+
+/// Reads a grammar's text, and checks it.
+fn checked_text(
+    alloc: Global,
+    text: &[u8],
+    start: Option<&str>,
+) -> Result<Checked<SoundPeg>, ReadFault>
+    ensures checked { IfOk result (λ c. IsChecked text.now (option_copied start.entry) (map said_of c.notes.items)
+        c.sound) }
+    ensures fault { IfErr result (λ f. IsFaultOf text.now f) }
+{
+    let grammar = read_peg(alloc, text)?;
+    match PegLanguage::check(alloc, grammar, start) {
+        Ok(checked) => Ok(checked),
+        Err(Memory) => Err(ReadFault::Memory),
+    }
+}
+
+/// Reads and checks a grammar's text, and returns the notes on it and what runs it from the rule that settings name, or
+/// the first. All else of the settings is not looked at. The text's fault if it is not a grammar, or if an allocation
+/// fails.
+pub fn open_peg(
+    alloc: Global,
+    text: &[u8],
+    settings: &Settings<'_>,
+) -> Result<OpenedPeg, ReadFault>
+    ensures opened { IfOk result (λ o. IsPegOpened text.now settings.now (map said_of o.notes.items) o.runner) }
+    ensures fault { IfErr result (λ f. IsFaultOf text.now f) }
+{
+    let Checked { notes, sound } = checked_text(alloc, text, settings.start)?;
+    let Some(grammar) = sound else {
+        return Ok(OpenedPeg {
+            notes,
+            runner: None,
+        });
+    };
+    let matcher = Packrat::new(alloc);
+    Ok(OpenedPeg {
+        notes,
+        runner: Some(PegRunner { grammar, matcher }),
+    })
+}
