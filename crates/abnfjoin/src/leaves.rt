@@ -48,14 +48,7 @@ pub(crate) fn is_text(folds: bool, text: &[u8], e: &Elem) -> bool
             folds: other_folds,
             text: other,
         } => folds == *other_folds && is_same_spelling(folds, text, other),
-        Elem::Values(_)
-        | Elem::Range { .. }
-        | Elem::Concat(_)
-        | Elem::Alt(_)
-        | Elem::Rep { .. }
-        | Elem::Opt(_)
-        | Elem::Name(_)
-        | Elem::Prose(_) => false,
+        _ => false,
     }
 }
 
@@ -65,14 +58,7 @@ pub(crate) fn has_values(values: &[u32], e: &Elem) -> bool
 {
     match e {
         Elem::Values(others) => values == others.as_slice(),
-        Elem::Text { .. }
-        | Elem::Range { .. }
-        | Elem::Concat(_)
-        | Elem::Alt(_)
-        | Elem::Rep { .. }
-        | Elem::Opt(_)
-        | Elem::Name(_)
-        | Elem::Prose(_) => false,
+        _ => false,
     }
 }
 
@@ -85,14 +71,7 @@ pub(crate) fn is_range(low: u32, high: u32, e: &Elem) -> bool
             low: other_low,
             high: other_high,
         } => low == *other_low && high == *other_high,
-        Elem::Text { .. }
-        | Elem::Values(_)
-        | Elem::Concat(_)
-        | Elem::Alt(_)
-        | Elem::Rep { .. }
-        | Elem::Opt(_)
-        | Elem::Name(_)
-        | Elem::Prose(_) => false,
+        _ => false,
     }
 }
 
@@ -102,14 +81,7 @@ pub(crate) fn is_name(name: &[u8], e: &Elem) -> bool
 {
     match e {
         Elem::Name(other) => is_same_folded(name, other),
-        Elem::Text { .. }
-        | Elem::Values(_)
-        | Elem::Range { .. }
-        | Elem::Concat(_)
-        | Elem::Alt(_)
-        | Elem::Rep { .. }
-        | Elem::Opt(_)
-        | Elem::Prose(_) => false,
+        _ => false,
     }
 }
 
@@ -119,13 +91,6 @@ pub(crate) fn is_prose(text: &[u8], e: &Elem) -> bool
 {
     match e {
         Elem::Prose(other) => text == other.as_slice(),
-        Elem::Text { .. }
-        | Elem::Values(_)
-        | Elem::Range { .. }
-        | Elem::Concat(_)
-        | Elem::Alt(_)
-        | Elem::Rep { .. }
-        | Elem::Opt(_)
-        | Elem::Name(_) => false,
+        _ => false,
     }
 }
