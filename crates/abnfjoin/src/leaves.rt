@@ -1,15 +1,16 @@
 //! Elements without operands.
 ghost use Rattle.std.specs.Prelude.{◌≡◌, ◌||◌, ◌&&◌, ◌==◌, bytes_eq};
-ghost use Rattle.std.specs.Str.{str_to_ascii_lowercase};
+ghost use Rattle.ruletable.specs.Rules.{same_name};
+ghost use Rattle.ruletable.specs.declared.table.NameCase.TheVariants.{Fold};
 ghost use Rattle.abnfread.specs.AbnfViews.{element_of};
 ghost use Rattle.abnfread.specs.Element as element;
-ghost use Rattle.abnfjoin.specs.SameElements.{same_as, same_bound, same_flag, same_folded, same_spelling};
+ghost use Rattle.abnfjoin.specs.SameElements.{same_as, same_bound, same_flag, same_spelling};
 
 use abnfread::Elem;
 
 // Whether two texts are the same but for the case of letters.
 pub(crate) fn is_same_folded(a: &[u8], b: &[u8]) -> bool
-    ensures { result ≡ same_folded a.now b.now }
+    ensures { result ≡ same_name Fold a.now b.now }
 {
     a.eq_ignore_ascii_case(b)
 }
