@@ -3,5 +3,6 @@ pub mod JoinedGrammar
 pub mod JoinedViews
 pub mod OwnReadings
 pub mod RulesGathered
-pub mod RulesTaken
+pub mod TakenRules
 pub mod TextPlaces
+pub mod TextRules

@@ -3,6 +3,7 @@
 
 mod gathered;
 mod joined;
+mod laws;
 mod listed;
 mod own;
 mod printed;
@@ -13,4 +14,5 @@ mod told;
 
 pub use gathered::SourceText;
 pub use joined::{JoinedTexts, join_texts};
+pub use laws::one_joining;
 pub use run::{JoinForm, run_join};
