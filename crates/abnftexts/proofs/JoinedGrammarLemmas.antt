@@ -1,16 +1,17 @@
 -- What stands, and how it is printed, one by one.
 -- Serves: join_texts
-use Rattle.std.proofs.Common.{◌≡◌, ℕ, ◌+◌, ◌<◌, List, [], ◌∷◌, ◌++◌, length, get_or, map, drop, refl, sym, ap}
+use Rattle.std.proofs.Common.{◌≡◌, ℕ, ◌+◌, ◌<◌, List, [], ◌∷◌, ◌++◌, length, get_or, map, drop, refl, sym, ap, subst}
 use Rattle.std.proofs.Common.{◌∙◌, append_assoc, arith, Option, Some, None, inl, inr, true, false, option_map}
 use Rattle.std.proofs.Math.Dec.{ltb}
 use Rattle.std.proofs.lemmas.Bool.{cases_Bool, ltb-true}
 use Rattle.std.proofs.lemmas.Option.{slice_get-get_or, slice_get-map, slice_get_past}
-use Rattle.std.specs.Prelude.{slice_get}
+use Rattle.std.specs.Prelude.{Result, Ok, Err, IfOk, slice_get}
 use Rattle.abnfjoin.specs.GivenRules.{RuleGiven, fates_of, text_rule}
 use Rattle.abnfjoin.specs.declared.fate.Fate.{Fate}
 use Rattle.abnfjoin.specs.declared.given.GivenRule.{GivenRule}
-use Rattle.abnftexts.specs.JoinedGrammar.{gathered_joined, has_stayed, joined_of, ordered_rules, printed_behind}
-use Rattle.abnftexts.specs.JoinedGrammar.{rule_printed, rules_listed, standing}
+use Rattle.abnftexts.specs.JoinedGrammar.{GrammarJoined, has_stayed, ordered_rules, printed_behind, rule_printed}
+use Rattle.abnftexts.specs.JoinedGrammar.{rules_listed, standing}
+use Rattle.abnftexts.specs.JoinedViews.{IsGatheredJoined, IsStandingJoined}
 use Rattle.abnftexts.specs.RulesGathered.{RuleLines, lines_placed}
 use Rattle.abnftexts.specs.declared.gathered.RulePlace.{RulePlace}
 use Rattle.abnftexts.proofs.RulesTakenLemmas.{one-behind}
@@ -73,12 +74,12 @@ module _ (places : List RuleLines) (order : List ℕ) (i : ℕ) where
 
 -- what stands of what was gathered is joined
 pub gathered-all : (places sp : List RulePlace) (rules sr : List GivenRule) (told listed : List ℕ) (fates : List Fate)
-    → fates ≡ fates_of (map text_rule rules)
+    (joined : GrammarJoined) → fates ≡ fates_of (map text_rule rules)
     → listed ≡ rules_listed (map lines_placed places) (map text_rule rules) fates
     → sp ≡ standing fates places → sr ≡ standing fates rules
-    → joined_of (map lines_placed sp) (map text_rule sr) told listed
-    ≡ gathered_joined (record { places = map lines_placed places; rules = map text_rule rules; told = told })
-gathered-all places sp rules sr told listed fates are list stand_places stand_rules =
+    → IsStandingJoined (map lines_placed sp) (map text_rule sr) told listed joined
+    → IsGatheredJoined (record { places = map lines_placed places; rules = map text_rule rules; told = told }) joined
+gathered-all places sp rules sr told listed fates joined are list stand_places stand_rules h =
     let rows : List RuleLines = map lines_placed places in
     let given : List RuleGiven = map text_rule rules in
     let a : map lines_placed sp ≡ standing (fates_of given) rows =
@@ -89,6 +90,14 @@ gathered-all places sp rules sr told listed fates are list stand_places stand_ru
     ∙ ap (λ (fs : List Fate). standing fs given) are in
     let c : listed ≡ rules_listed rows given (fates_of given) =
     list ∙ ap (λ (fs : List Fate). rules_listed rows given fs) are in
-    ap (λ (ps : List RuleLines). joined_of ps (map text_rule sr) told listed) a
-    ∙ ap (λ (rs : List RuleGiven). joined_of (standing (fates_of given) rows) rs told listed) b
-    ∙ ap (λ (l : List ℕ). joined_of (standing (fates_of given) rows) (standing (fates_of given) given) told l) c
+    let one : IsStandingJoined (standing (fates_of given) rows) (map text_rule sr) told listed joined =
+    subst (λ (ps : List RuleLines). IsStandingJoined ps (map text_rule sr) told listed joined) a h in
+    let two : IsStandingJoined (standing (fates_of given) rows) (standing (fates_of given) given) told listed joined =
+    subst (λ (rs : List RuleGiven). IsStandingJoined (standing (fates_of given) rows) rs told listed joined) b one in
+    subst (λ (l : List ℕ). IsStandingJoined (standing (fates_of given) rows) (standing (fates_of given) given) told l
+    joined) c two
+
+-- what is known of a result tells something else
+pub ok-more : {T E : Type 0} (P Q : T → Type 0) (r : Result T E) → ((x : T) → P x → Q x) → IfOk r P → IfOk r Q
+ok-more P Q (Ok x) more h = more x h
+ok-more P Q (Err e) more h = tt

@@ -1,6 +1,14 @@
--- What texts give is one list of rules, and one text that is told.
+-- What texts give is one list of rules, and one text that is told; and the names that rules use are one list.
 -- Serves: one_joining
-use Rattle.std.proofs.Common.{◌≡◌, ◌≢◌, ℕ, Bool, List, [], ◌∷◌, drop, refl, sym, ap, ◌∙◌, subst}
+use Rattle.std.proofs.Common.{◌≡◌, ◌≢◌, ℕ, Bool, List, [], ◌∷◌, ◌++◌, None, drop, map, refl, sym, ap, ◌∙◌, subst}
+use Rattle.std.specs.List.{flat_map}
+use Rattle.lexer.specs.TokenLists.{Tok}
+use Rattle.noteplaces.specs.BodyMentions.{mentions_in}
+use Rattle.noteplaces.specs.DefinitionHeads.{SignAt, sign_at}
+use Rattle.ruletable.specs.declared.lines.LineRule.TheVariants.{Lf}
+use Rattle.abnfread.specs.MarkedTokens.{AreTokens}
+use Rattle.abnfread.specs.declared.kind.AbnfKind.{AbnfKind}
+use Rattle.abnfexplain.specs.AbnfNoteLines.{sign_of}
 use Rattle.ruletable.specs.declared.fault.ReadFault.{ReadFault}
 use Rattle.ruletable.specs.declared.fault.ReadFault.TheVariants as faults
 use Rattle.abnfread.specs.AbnfReading.{IsFaultOf, Reads}
@@ -13,11 +21,12 @@ use Rattle.rfctext.specs.TextLines.{NumberedLine}
 use Rattle.abnfblocks.specs.FoundBlocks.{AreFound}
 use Rattle.abnfblocks.specs.TextBlocks.{block_text}
 use Rattle.abnfblocks.specs.declared.found.Found.{Found}
-use Rattle.abnftexts.specs.RulesGathered.{NamedText, RulesGathered, both_given, one_rule, told_alone}
+use Rattle.abnftexts.specs.RulesGathered.{NamedText, RuleLines, RulesGathered, both_given, one_rule, told_alone}
 use Rattle.abnftexts.specs.TextPlaces.{not_abnf_told}
 use Rattle.abnftexts.specs.TextRules.{GivesFound, GivesPiece, GivesRule, GivesText, GiveTexts, IsFirstGiven, SpellRule}
 use Rattle.abnftexts.specs.TextRules.{a_rule, adds_first, next_piece, next_rule, next_text, no_lines, no_piece, no_rule}
 use Rattle.abnftexts.specs.TextRules.{no_texts, none_found}
+use Rattle.abnftexts.specs.UsedNames.{AreRuleUses, AreNameUses, UsedName, next_uses, no_rules, used_at}
 
 first-same : (rules : List Rule) (adds : Bool) (a b : RuleGiven) → IsFirstGiven rules adds a → IsFirstGiven rules adds b
     → a ≡ b
@@ -27,7 +36,7 @@ first-same (rule ∷ rules) adds a b x y = x ∙ sym y
 both-same : (a b c d : RulesGathered) → a ≡ b → c ≡ d → both_given a c ≡ both_given b d
 both-same a b c d e f = rw (e, f) refl
 
--- what is known of readings, of lines that are kept, and of what is found
+-- what is known of readings, of lines that are kept, of what is found, and of tokens
 pub record OneReading : Type 0 where
   pub definitions : (text : List ℕ) (a b : List Definition) → Reads text a → Reads text b → a ≡ b
   pub no_fault : (text : List ℕ) (definitions : List Definition) (fault : ReadFault) → IsFaultOf text fault
@@ -36,6 +45,7 @@ pub record OneReading : Type 0 where
       → b ≢ faults.Memory → a ≡ b
   pub kept : (lines a b : List NumberedLine) → KeepsLines [] lines a → KeepsLines [] lines b → a ≡ b
   pub found : (i : ℕ) (lines : List NumberedLine) (a b : List Found) → AreFound i lines a → AreFound i lines b → a ≡ b
+  pub tokens : (text : List ℕ) (a b : List (Tok AbnfKind)) → AreTokens text a → AreTokens text b → a ≡ b
 
 module _ (one : OneReading) where
   spell-same : (margin : ℕ) (lines : List NumberedLine) (a b : RuleGiven) → SpellRule margin lines a
@@ -86,3 +96,17 @@ module _ (one : OneReading) where
   pub texts-same : {texts : List NamedText} {a b : RulesGathered} → GiveTexts texts a → GiveTexts texts b → a ≡ b
   texts-same no_texts no_texts = refl
   texts-same (next_text x h) (next_text y k) = both-same _ _ _ _ (text-same _ _ _ x y) (texts-same h k)
+
+  rule-uses : (place : RuleLines) (a b : List UsedName) → AreRuleUses place a → AreRuleUses place b → a ≡ b
+  rule-uses place a b x y =
+      let text = block_text place.margin place.lines in
+      let signs : List (Tok AbnfKind) → List SignAt = λ ts. map (sign_at sign_of) ts in
+      x.are
+      ∙ ap (λ (ts : List (Tok AbnfKind)). flat_map (used_at place) (mentions_in Lf text None (signs ts)))
+      (one.tokens text x.tokens y.tokens x.are_tokens y.are_tokens) ∙ sym y.are
+
+  pub uses-same : {places : List RuleLines} {a b : List UsedName} → AreNameUses places a → AreNameUses places b → a ≡ b
+  uses-same no_rules no_rules = refl
+  uses-same (next_uses {place} {here} {behind} x h) (next_uses {here = other} y k) =
+      ap (λ (us : List UsedName). us ++ behind) (rule-uses place here other x y)
+      ∙ ap (λ (us : List UsedName). other ++ us) (uses-same h k)

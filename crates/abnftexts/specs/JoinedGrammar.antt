@@ -10,6 +10,7 @@ use Rattle.abnfjoin.specs.declared.fate.Fate.TheVariants.{Stands, Again, Yields}
 use Rattle.abnfjoin.specs.declared.order.Clash.{Clash}
 use Rattle.abnftexts.specs.RulesGathered.{NamedText, RuleLines, RulesGathered}
 use Rattle.abnftexts.specs.TextRules.{GiveTexts}
+use Rattle.abnftexts.specs.UsedNames.{AreNameUses, UsedName, undefined_told}
 use Rattle.abnftexts.specs.TextPlaces.{number_at, place_shown}
 
 abbrev pub has_stayed : Fate → Bool
@@ -101,22 +102,36 @@ pub record GrammarJoined : Type 0 where
   pub listed : List ℕ
   pub clashes : Bool
 
--- of the rules that stand, where these are their lines
-abbrev pub joined_of : List RuleLines → List RuleGiven → List ℕ → List ℕ → GrammarJoined
-joined_of places rules told listed = record {
+-- of the rules that stand, where these are their lines, and these the names that they use
+abbrev pub joined_of : List RuleLines → List RuleGiven → List UsedName → List ℕ → List ℕ → GrammarJoined
+joined_of places rules uses told listed = record {
   grammar = printed_behind None (ordered_rules places (joined_order rules));
-  told = told ++ flat_map (clash_told places rules) (clashes_of rules) ++ none_told rules;
+  told = told ++ flat_map (clash_told places rules) (clashes_of rules) ++ undefined_told rules uses ++ none_told rules;
   listed = listed;
   clashes = nat_lt 0 (length (clashes_of rules));
 }
 
+-- the rules that stand of what was gathered
+abbrev pub standing_rules : RulesGathered → List RuleGiven
+standing_rules g = standing (fates_of g.rules) g.rules
+
+-- and their lines
+abbrev pub standing_places : RulesGathered → List RuleLines
+standing_places g = standing (fates_of g.rules) g.places
+
+-- the names that rules use, in the order in which these are printed
+abbrev pub UsesPrinted : List RuleLines → List RuleGiven → List UsedName → Type 0
+UsesPrinted places rules uses = AreNameUses (ordered_rules places (joined_order rules)) uses
+
 -- of what was gathered: the rules are joined that stand
-abbrev pub gathered_joined : RulesGathered → GrammarJoined
-gathered_joined g = joined_of (standing (fates_of g.rules) g.places) (standing (fates_of g.rules) g.rules) g.told
+abbrev pub gathered_joined : RulesGathered → List UsedName → GrammarJoined
+gathered_joined g uses = joined_of (standing_places g) (standing_rules g) uses g.told
     (rules_listed g.places g.rules (fates_of g.rules))
 
 -- that of all texts
 pub record AreTextsJoined (texts : List NamedText) (joined : GrammarJoined) : Type 0 where
   pub gathered : RulesGathered
   pub gives : GiveTexts texts gathered
-  pub is : joined ≡ gathered_joined gathered
+  pub uses : List UsedName
+  pub are_uses : UsesPrinted (standing_places gathered) (standing_rules gathered) uses
+  pub is : joined ≡ gathered_joined gathered uses

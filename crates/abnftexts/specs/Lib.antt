@@ -1,3 +1,4 @@
+pub mod CodeUses
 pub mod JoinRun
 pub mod JoinedGrammar
 pub mod JoinedViews
@@ -6,3 +7,4 @@ pub mod RulesGathered
 pub mod TakenRules
 pub mod TextPlaces
 pub mod TextRules
+pub mod UsedNames

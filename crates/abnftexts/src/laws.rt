@@ -8,7 +8,8 @@ ghost use Rattle.toolrun.specs.Reply.{Reply};
 
 use crate::run::JoinForm;
 use abnfblocks::one_finding;
-use abnfread::one_reading;
+use abnfread::{AbnfKind, one_reading};
+use lexer::one_list;
 use rfctext::one_keeping;
 
 /// Says that texts make up at most one joined grammar. What is told of them and the reply of a run that joins them in a
@@ -23,4 +24,5 @@ pub fn one_joining()
     one_reading();
     one_keeping();
     one_finding();
+    one_list::<AbnfKind>();
 }

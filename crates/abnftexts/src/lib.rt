@@ -11,6 +11,8 @@ mod run;
 mod stands;
 mod taken;
 mod told;
+mod undefined;
+mod uses;
 
 pub use gathered::SourceText;
 pub use joined::{JoinedTexts, join_texts};

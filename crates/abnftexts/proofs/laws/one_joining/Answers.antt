@@ -1,4 +1,4 @@
-use Rattle.abnftexts.proofs.JoiningLemmas.{joined-same, stated-same}
+use Rattle.abnftexts.proofs.JoinedReplyLemmas.{joined-same, stated-same}
 use Rattle.abnftexts.proofs.TextRulesLemmas.{OneReading}
 use Rattle.abnftexts.proofs.laws.one_joining.Goals as goal
 
@@ -10,6 +10,7 @@ returns-clause-joined c = λ texts a b x y.
       one_fault = c.one_reading.ensures.one_fault;
       kept = c.one_keeping.ensures;
       found = c.one_finding.ensures;
+      tokens = c.one_list.ensures;
     } in
     joined-same one texts a b x y
 
@@ -21,5 +22,6 @@ returns-clause-stated c = λ texts form input notes others a b x y p q.
       one_fault = c.one_reading.ensures.one_fault;
       kept = c.one_keeping.ensures;
       found = c.one_finding.ensures;
+      tokens = c.one_list.ensures;
     } in
     stated-same one texts x y p q

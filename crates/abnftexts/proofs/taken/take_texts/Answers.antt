@@ -1,4 +1,4 @@
-use Rattle.std.proofs.Common.{map, subst, drop}
+use Rattle.std.proofs.Common.{map, subst}
 use Rattle.abnftexts.specs.RulesGathered.{RulesGathered, named_text, none_given, rules_gathered}
 use Rattle.abnftexts.specs.TextRules.{GiveTexts}
 use Rattle.abnftexts.proofs.RulesTakenLemmas.{both-none, text-more, texts-all}

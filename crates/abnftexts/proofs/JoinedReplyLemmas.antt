@@ -11,17 +11,24 @@ use Rattle.toolrun.specs.Reply.{Reply}
 use Rattle.toolrun.specs.declared.stop.Stop.TheVariants.{Refused}
 use Rattle.abnftexts.specs.JoinRun.{IsWrittenAs, JoinStates, JoinedReply, a_list, as_it_is, canonical, canonical_of}
 use Rattle.abnftexts.specs.JoinRun.{joined_status, joins, no_memory, no_room, nothing, refused, text_written, writes}
-use Rattle.abnftexts.specs.JoinedGrammar.{AreTextsJoined, GrammarJoined, gathered_joined}
+use Rattle.abnftexts.specs.JoinedGrammar.{AreTextsJoined, GrammarJoined, UsesPrinted, gathered_joined, standing_places}
+use Rattle.abnftexts.specs.JoinedGrammar.{standing_rules}
 use Rattle.abnftexts.specs.RulesGathered.{NamedText, RulesGathered}
+use Rattle.abnftexts.specs.UsedNames.{UsedName}
 use Rattle.abnftexts.specs.declared.run.JoinForm.{JoinForm}
 use Rattle.abnftexts.specs.declared.run.JoinForm.TheVariants.{Listed}
-use Rattle.abnftexts.proofs.TextRulesLemmas.{OneReading, texts-same}
+use Rattle.abnftexts.proofs.TextRulesLemmas.{OneReading, texts-same, uses-same}
 
 module _ (one : OneReading) where
   pub joined-same : (texts : List NamedText) (a b : GrammarJoined) → AreTextsJoined texts a → AreTextsJoined texts b
       → a ≡ b
   joined-same texts a b x y =
-      x.is ∙ ap (λ (g : RulesGathered). gathered_joined g) (texts-same one x.gives y.gives) ∙ sym y.is
+      let same : x.gathered ≡ y.gathered = texts-same one x.gives y.gives in
+      let here : UsesPrinted (standing_places y.gathered) (standing_rules y.gathered) x.uses =
+      subst (λ (g : RulesGathered). UsesPrinted (standing_places g) (standing_rules g) x.uses) same x.are_uses in
+      let uses : x.uses ≡ y.uses = uses-same one here y.are_uses in
+      x.is ∙ ap (λ (g : RulesGathered). gathered_joined g x.uses) same
+      ∙ ap (λ (us : List UsedName). gathered_joined y.gathered us) uses ∙ sym y.is
 
   module _ (j : GrammarJoined) where
     written-same : {form : JoinForm} {t u : List ℕ} → IsWrittenAs j form t → IsWrittenAs j form u → t ≡ u
