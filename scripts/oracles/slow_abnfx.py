@@ -128,6 +128,23 @@ def found(text):
 
 
 TOKEN = re.compile(rb'"[^"]*"|<[^>]*>|;[^\n]*|[][()/=]|[^][()/=;"<\s]+')
+REPEAT = re.compile(rb"[0-9]*\*?[0-9]*")
+NAME = re.compile(rb"[A-Za-z][A-Za-z0-9-]*")
+# the names of RFC 5234, appendix B.1, in small letters
+CORE = b"alpha bit char cr crlf ctl digit dquote hexdig htab lf lwsp octet sp vchar wsp".split()
+
+
+def tokens_of(text):
+    return [it for it in TOKEN.findall(text) if not it.startswith(b";")]
+
+
+def folded(tokens):
+    """Returns the tokens in small letters, but for prose and texts behind `%s`; `%i` says nothing."""
+    found, is_exact = [], False
+    for it in tokens:
+        found.append(it if it.startswith(b"<") or is_exact else re.sub(rb"%i$", b"", it.lower()))
+        is_exact = it.lower().endswith(b"%s")
+    return [it for it in found if it]
 
 
 class Rule:
@@ -136,11 +153,14 @@ class Rule:
     def __init__(self, name, size, some):
         self.text, self.first, self.last = name, some[0][0], some[-1][0]
         self.written = b"".join(line[min(size, margin(line)):] + b"\n" for _, line, _ in some)
-        tokens = [it for it in TOKEN.findall(self.written) if not it.startswith(b";")]
+        tokens = tokens_of(self.written)
         self.name, self.key = tokens[0].decode(), tokens[0].lower()
         self.adds = tokens[2] == b"/"
-        self.body = [it if it.startswith(b"<") else it.lower() for it in tokens[2 + self.adds:]]
-        self.is_prose = all(it.startswith(b"<") or it in (b"/", b"[", b"]") for it in self.body)
+        self.body = folded(tokens[2 + self.adds:])
+        self.is_prose = all(it[:1] in b"</[]()" or REPEAT.fullmatch(it) for it in self.body)
+        # the names that it uses, each with its line: what stands behind a repeat, but the name of the rule itself
+        self.uses = [(number, REPEAT.sub(b"", it, count=1)) for number, line, _ in some for it in tokens_of(line)][1:]
+        self.uses = [(number, it) for number, it in self.uses if NAME.fullmatch(it)]
 
     def place(self):
         return f"{self.text}:{self.first}"
@@ -215,6 +235,12 @@ def joined(texts):
         if before is None or before.text != it.text or before.last != it.first - 1:
             grammar += f"; {it.place()}\n".encode()
         grammar, before = grammar + it.written, it
+    known = {it.key for it in stand} | set(CORE)
+    for it in order:
+        for number, name in it.uses:
+            if name.lower() not in known:
+                known.add(name.lower())
+                told += f"{it.text}:{number}: '{name.decode()}' is not defined\n"
     status = 2 if clashes else 0 if stand else 1
     return grammar, listed, told + ("" if stand else "no rules found\n"), status
 

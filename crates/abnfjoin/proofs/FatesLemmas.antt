@@ -4,11 +4,10 @@ use Rattle.std.proofs.Common.{◌≡◌, ℕ, suc, ◌+◌, ◌<◌, ◌≤◌, 
 use Rattle.std.proofs.Common.{get_or, map, take, drop, refl, sym, ap, ◌∙◌, arith, append_assoc}
 use Rattle.std.proofs.Math.Seq.{drop-cons}
 use Rattle.std.proofs.lemmas.Bool.Decides.{nat_tests}
-use Rattle.std.proofs.lemmas.Grind.{take_at_read}
 use Rattle.std.proofs.lemmas.List.{get_or-map, length-map, take-map, length-take-le}
 use Rattle.std.proofs.lemmas.List.Sums.{prefix_len-drop_yes, prefix_len-drop_no}
-use Rattle.std.specs.List.{prefix_len}
-use Rattle.abnfjoin.specs.GivenRules.{RuleGiven, text_rule, first_wanted, first_same, fate_of, fates_from}
+use Rattle.std.specs.List.{enumerate_from, prefix_len}
+use Rattle.abnfjoin.specs.GivenRules.{RuleGiven, text_rule, first_wanted, first_same, fate_of}
 use Rattle.abnfjoin.specs.declared.fate.Fate.{Fate}
 use Rattle.abnfjoin.specs.declared.fate.Fate.TheVariants.{Stands, Again}
 use Rattle.abnfjoin.specs.declared.given.GivenRule.{GivenRule}
@@ -75,12 +74,15 @@ fate-stands rules rule n w s le wanted none same ge =
     lt-false _ _ (omega (arith, before.0, before.1)) in
     rw (none_wanted, none_same) refl
 
+-- what becomes of a rule with its number
+abbrev pub fate_here : List GivenRule → ℕ × RuleGiven → Fate
+fate_here rules p = fate_of (map text_rule rules) (take p.0 (map text_rule rules)) p.1
+
 pub fates-more : (rules : List GivenRule) (n : ℕ) (x : GivenRule) (fate : Fate) (old all : List Fate)
     → n < length rules → x ≡ get_or rules n x
     → fate ≡ fate_of (map text_rule rules) (take n (map text_rule rules)) (text_rule x)
-    → old ++ fates_from (map text_rule rules) (take n (map text_rule rules)) (drop n (map text_rule rules)) ≡ all
-    → (old ++ fate ∷ [])
-    ++ fates_from (map text_rule rules) (take (n + 1) (map text_rule rules)) (drop (n + 1) (map text_rule rules)) ≡ all
+    → old ++ map (fate_here rules) (enumerate_from n (drop n (map text_rule rules))) ≡ all
+    → (old ++ fate ∷ []) ++ map (fate_here rules) (enumerate_from (n + 1) (drop (n + 1) (map text_rule rules))) ≡ all
 fates-more rules n x fate old all lt e is h =
     let rows = map text_rule rules in
     let within : n < length rows = omega (arith, length-map rules text_rule) in
@@ -90,9 +92,7 @@ fates-more rules n x fate old all lt e is h =
     drop-cons rows n (text_rule x) within
     ∙ ap (λ (row : RuleGiven). row ∷ drop (suc n) rows) here
     ∙ ap (λ (k : ℕ). text_rule x ∷ drop k rows) next in
-    let before : take (n + 1) rows ≡ take n rows ++ text_rule x ∷ [] =
-    (take_at_read rows n (text_rule x) within).1 ∙ ap (λ (row : RuleGiven). take n rows ++ row ∷ []) here in
-    let step : fates_from rows (take n rows) (drop n rows)
-    ≡ fate ∷ fates_from rows (take (n + 1) rows) (drop (n + 1) rows) = rw (behind, before, is) refl in
-    append_assoc old (fate ∷ []) (fates_from rows (take (n + 1) rows) (drop (n + 1) rows))
+    let step : map (fate_here rules) (enumerate_from n (drop n rows))
+    ≡ fate ∷ map (fate_here rules) (enumerate_from (n + 1) (drop (n + 1) rows)) = rw (behind, is) refl in
+    append_assoc old (fate ∷ []) (map (fate_here rules) (enumerate_from (n + 1) (drop (n + 1) rows)))
     ∙ ap (λ (fates : List Fate). old ++ fates) (sym step) ∙ h

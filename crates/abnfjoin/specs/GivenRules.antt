@@ -1,10 +1,12 @@
 -- What becomes of the rules that several texts give, in their order.
-use Rattle.std.specs.Prelude.{ℕ, ◌&&◌, nat_lt, not, Bool, List, [], ◌∷◌, ◌++◌, length, if◌then◌else◌}
-use Rattle.std.specs.List.{prefix_len}
+use Rattle.std.specs.Prelude.{ℕ, ◌&&◌, nat_lt, not, Bool, List, length, map, take, if◌then◌else◌}
+use Rattle.std.specs.List.{enumerate_from, prefix_len}
+use Rattle.ruletable.specs.Rules.{same_name}
+use Rattle.ruletable.specs.declared.table.NameCase.TheVariants.{Fold}
 use Rattle.abnfread.specs.AbnfViews.{element_of}
 use Rattle.abnfread.specs.Element.{Element}
 use Rattle.abnfjoin.specs.OnlyProse.{only_prose}
-use Rattle.abnfjoin.specs.SameElements.{same_as, same_flag, same_folded}
+use Rattle.abnfjoin.specs.SameElements.{same_as, same_flag}
 use Rattle.abnfjoin.specs.declared.fate.Fate.{Fate}
 use Rattle.abnfjoin.specs.declared.fate.Fate.TheVariants.{Stands, Again, Yields}
 use Rattle.abnfjoin.specs.declared.given.GivenRule.{GivenRule}
@@ -21,11 +23,11 @@ text_rule rule = record { adds = rule.adds; name = rule.name.items; body = eleme
 
 -- the same name and elements, but for case, and both define or both add
 abbrev pub is_same_rule : RuleGiven → RuleGiven → Bool
-is_same_rule a b = same_flag a.adds b.adds && (same_folded a.name b.name && same_as a.body b.body)
+is_same_rule a b = same_flag a.adds b.adds && (same_name Fold a.name b.name && same_as a.body b.body)
 
 -- A definition of prose alone yields to one of the same name that has elements.
 abbrev pub yields_to : RuleGiven → RuleGiven → Bool
-yields_to a b = not a.adds && (not b.adds && (same_folded a.name b.name
+yields_to a b = not a.adds && (not b.adds && (same_name Fold a.name b.name
     && (only_prose a.body && not (only_prose b.body))))
 
 -- the place of the first rule to which that one yields, or the number of rules
@@ -36,18 +38,14 @@ first_wanted rule rules = prefix_len (λ other. not (yields_to rule other)) rule
 abbrev pub first_same : RuleGiven → List RuleGiven → ℕ
 first_same rule rules = prefix_len (λ other. not (is_same_rule rule other)) rules
 
--- What becomes of a rule: it yields to the first rule to which it yields; else it is given again, if the same one
--- stands before it; else it stands.
+-- What becomes of a rule, where those stand before it: it yields to the first rule to which it yields; else it is
+-- given again, if the same one stands before it; else it stands.
 abbrev pub fate_of : List RuleGiven → List RuleGiven → RuleGiven → Fate
 fate_of rules before rule =
     if nat_lt (first_wanted rule rules) (length rules) then Yields (first_wanted rule rules)
     else if nat_lt (first_same rule before) (length before) then Again (first_same rule before)
     else Stands
 
--- of each of the rules, where those stand before them
-abbrev pub fates_from : List RuleGiven → List RuleGiven → List RuleGiven → List Fate
-fates_from rules before [] = []
-fates_from rules before (rule ∷ others) = fate_of rules before rule ∷ fates_from rules (before ++ rule ∷ []) others
-
+-- of each of the rules
 abbrev pub fates_of : List RuleGiven → List Fate
-fates_of rules = fates_from rules [] rules
+fates_of rules = map (λ p. fate_of rules (take p.0 rules) p.1) (enumerate_from 0 rules)

@@ -1,7 +1,8 @@
 -- Elements that are the same but for case: names compare without case (RFC 5234, section 2.1), and so do the letters of
 -- a text that folds (RFC 7405, section 2.1). White space between elements is nothing that an element has.
 use Rattle.std.specs.Prelude.{ℕ, ◌==◌, ◌&&◌, bytes_eq, Bool, true, false, List, Option, None, Some, not, if◌then◌else◌}
-use Rattle.std.specs.Str.{str_to_ascii_lowercase}
+use Rattle.ruletable.specs.Rules.{same_name}
+use Rattle.ruletable.specs.declared.table.NameCase.TheVariants.{Fold}
 use Rattle.abnfread.specs.Element.{Element, Elements, Text, Values, Range, Concat, Alt, Rep, Opt, Name, Prose, none}
 use Rattle.abnfread.specs.Element.{more}
 
@@ -11,11 +12,8 @@ same_bound (Some n) (Some m) = n == m
 same_bound None (Some m) = false
 same_bound (Some n) None = false
 
-abbrev pub same_folded : List ℕ → List ℕ → Bool
-same_folded a b = bytes_eq (str_to_ascii_lowercase a) (str_to_ascii_lowercase b)
-
 abbrev pub same_spelling : Bool → List ℕ → List ℕ → Bool
-same_spelling folds a b = if folds then same_folded a b else bytes_eq a b
+same_spelling folds a b = if folds then same_name Fold a b else bytes_eq a b
 
 abbrev pub same_flag : Bool → Bool → Bool
 same_flag true b = b
@@ -30,7 +28,7 @@ abbrev mutual
   same_as (Alt xs) (Alt ys) = all_same xs ys
   same_as (Rep a b x) (Rep c d y) = (a == c) && (same_bound b d && same_as x y)
   same_as (Opt x) (Opt y) = same_as x y
-  same_as (Name a) (Name b) = same_folded a b
+  same_as (Name a) (Name b) = same_name Fold a b
   same_as (Prose a) (Prose b) = bytes_eq a b
   same_as _ _ = false
 

@@ -1,15 +1,16 @@
 //! Elements without operands.
 ghost use Rattle.std.specs.Prelude.{◌≡◌, ◌||◌, ◌&&◌, ◌==◌, bytes_eq};
-ghost use Rattle.std.specs.Str.{str_to_ascii_lowercase};
+ghost use Rattle.ruletable.specs.Rules.{same_name};
+ghost use Rattle.ruletable.specs.declared.table.NameCase.TheVariants.{Fold};
 ghost use Rattle.abnfread.specs.AbnfViews.{element_of};
 ghost use Rattle.abnfread.specs.Element as element;
-ghost use Rattle.abnfjoin.specs.SameElements.{same_as, same_bound, same_flag, same_folded, same_spelling};
+ghost use Rattle.abnfjoin.specs.SameElements.{same_as, same_bound, same_flag, same_spelling};
 
 use abnfread::Elem;
 
 // Whether two texts are the same but for the case of letters.
 pub(crate) fn is_same_folded(a: &[u8], b: &[u8]) -> bool
-    ensures { result ≡ same_folded a.now b.now }
+    ensures { result ≡ same_name Fold a.now b.now }
 {
     a.eq_ignore_ascii_case(b)
 }
@@ -48,14 +49,7 @@ pub(crate) fn is_text(folds: bool, text: &[u8], e: &Elem) -> bool
             folds: other_folds,
             text: other,
         } => folds == *other_folds && is_same_spelling(folds, text, other),
-        Elem::Values(_)
-        | Elem::Range { .. }
-        | Elem::Concat(_)
-        | Elem::Alt(_)
-        | Elem::Rep { .. }
-        | Elem::Opt(_)
-        | Elem::Name(_)
-        | Elem::Prose(_) => false,
+        _ => false,
     }
 }
 
@@ -65,14 +59,7 @@ pub(crate) fn has_values(values: &[u32], e: &Elem) -> bool
 {
     match e {
         Elem::Values(others) => values == others.as_slice(),
-        Elem::Text { .. }
-        | Elem::Range { .. }
-        | Elem::Concat(_)
-        | Elem::Alt(_)
-        | Elem::Rep { .. }
-        | Elem::Opt(_)
-        | Elem::Name(_)
-        | Elem::Prose(_) => false,
+        _ => false,
     }
 }
 
@@ -85,14 +72,7 @@ pub(crate) fn is_range(low: u32, high: u32, e: &Elem) -> bool
             low: other_low,
             high: other_high,
         } => low == *other_low && high == *other_high,
-        Elem::Text { .. }
-        | Elem::Values(_)
-        | Elem::Concat(_)
-        | Elem::Alt(_)
-        | Elem::Rep { .. }
-        | Elem::Opt(_)
-        | Elem::Name(_)
-        | Elem::Prose(_) => false,
+        _ => false,
     }
 }
 
@@ -102,14 +82,7 @@ pub(crate) fn is_name(name: &[u8], e: &Elem) -> bool
 {
     match e {
         Elem::Name(other) => is_same_folded(name, other),
-        Elem::Text { .. }
-        | Elem::Values(_)
-        | Elem::Range { .. }
-        | Elem::Concat(_)
-        | Elem::Alt(_)
-        | Elem::Rep { .. }
-        | Elem::Opt(_)
-        | Elem::Prose(_) => false,
+        _ => false,
     }
 }
 
@@ -119,13 +92,6 @@ pub(crate) fn is_prose(text: &[u8], e: &Elem) -> bool
 {
     match e {
         Elem::Prose(other) => text == other.as_slice(),
-        Elem::Text { .. }
-        | Elem::Values(_)
-        | Elem::Range { .. }
-        | Elem::Concat(_)
-        | Elem::Alt(_)
-        | Elem::Rep { .. }
-        | Elem::Opt(_)
-        | Elem::Name(_) => false,
+        _ => false,
     }
 }

@@ -17,10 +17,7 @@ pub fn is_only_prose(e: &Elem) -> bool
         Elem::Alt(alternatives) => are_only_prose(alternatives),
         Elem::Rep { operand, .. } => is_only_prose(operand),
         Elem::Opt(operand) => is_only_prose(operand),
-        Elem::Text { .. } => false,
-        Elem::Values(_) => false,
-        Elem::Range { .. } => false,
-        Elem::Name(_) => false,
+        _ => false,
     }
 }
 

@@ -45,7 +45,7 @@ fn find_definition(rule: &GivenRule, rules: &[GivenRule]) -> usize
 // Adds the numbers of those rules that add to the rule's name.
 fn push_adding(order: &mut Vec<usize>, rule: &GivenRule, rules: &[GivenRule]) -> Result<(), Memory>
     ensures { OnOk result (order.new.items
-        ≡ order.old.items ++ adding_numbers (text_rule rule.now) 0 (map text_rule rules.now)) }
+        ≡ order.old.items ++ adding_numbers (text_rule rule.now) (map text_rule rules.now)) }
 {
     for number in 0..rules.len() {
         if is_added(rule, &rules[number]) {

@@ -37,14 +37,7 @@ fn is_concat(members: &[Elem], e: &Elem) -> bool
 {
     match e {
         Elem::Concat(others) => are_same(members, others),
-        Elem::Text { .. }
-        | Elem::Values(_)
-        | Elem::Range { .. }
-        | Elem::Alt(_)
-        | Elem::Rep { .. }
-        | Elem::Opt(_)
-        | Elem::Name(_)
-        | Elem::Prose(_) => false,
+        _ => false,
     }
 }
 
@@ -55,14 +48,7 @@ fn is_alt(alternatives: &[Elem], e: &Elem) -> bool
 {
     match e {
         Elem::Alt(others) => are_same(alternatives, others),
-        Elem::Text { .. }
-        | Elem::Values(_)
-        | Elem::Range { .. }
-        | Elem::Concat(_)
-        | Elem::Rep { .. }
-        | Elem::Opt(_)
-        | Elem::Name(_)
-        | Elem::Prose(_) => false,
+        _ => false,
     }
 }
 
@@ -81,14 +67,7 @@ fn is_rep(least: u32, most: Option<u32>, operand: &Elem, e: &Elem) -> bool
                 && is_same_bound(most, *other_most)
                 && is_same_element(operand, other)
         }
-        Elem::Text { .. }
-        | Elem::Values(_)
-        | Elem::Range { .. }
-        | Elem::Concat(_)
-        | Elem::Alt(_)
-        | Elem::Opt(_)
-        | Elem::Name(_)
-        | Elem::Prose(_) => false,
+        _ => false,
     }
 }
 
@@ -99,14 +78,7 @@ fn is_opt(operand: &Elem, e: &Elem) -> bool
 {
     match e {
         Elem::Opt(other) => is_same_element(operand, other),
-        Elem::Text { .. }
-        | Elem::Values(_)
-        | Elem::Range { .. }
-        | Elem::Concat(_)
-        | Elem::Alt(_)
-        | Elem::Rep { .. }
-        | Elem::Name(_)
-        | Elem::Prose(_) => false,
+        _ => false,
     }
 }
 

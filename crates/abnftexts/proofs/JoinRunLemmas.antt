@@ -1,6 +1,7 @@
 -- What a run writes, and how it stops.
 -- Serves: run_join
-use Rattle.std.proofs.Common.{◌≡◌, ℕ, Bool, true, Option, List, [], ◌∷◌, length, refl, sym, ap, subst, arith}
+use Rattle.std.proofs.Common.{◌≡◌, ◌≢◌, ℕ, Bool, true, false, Option, List, [], ◌∷◌, length, refl, sym, ap, arith}
+use Rattle.std.proofs.Common.{subst}
 use Rattle.std.specs.Prelude.{Result, Ok, Err}
 use Rattle.std.specs.Io.KnownBytes.{Appends}
 use Rattle.ruletable.proofs.AppendsLemmas.{Appends-same}
@@ -23,13 +24,14 @@ use Rattle.toolrun.specs.Stopped.{Performs}
 use Rattle.toolrun.specs.declared.status.Status.{Status}
 use Rattle.toolrun.specs.declared.stop.Stop.{Stop}
 use Rattle.toolrun.specs.declared.stop.Stop.TheVariants.{NoMemory, Quiet}
-use Rattle.abnftexts.specs.JoinRun.{IsWrittenAs, JoinStates, JoinedReply, joined_status, no_input, text_written, writes}
-use Rattle.abnftexts.specs.JoinRun.{as_it_is, canonical, joins, no_room, nothing, refused}
+use Rattle.abnftexts.specs.JoinRun.{IsWrittenAs, JoinStates, JoinedReply, grammar_form, joined_status, no_input}
+use Rattle.abnftexts.specs.JoinRun.{text_written}
+use Rattle.abnftexts.specs.JoinRun.{as_it_is, canonical, joins, no_room, nothing, refused, writes}
 use Rattle.abnftexts.specs.JoinRun as run
 use Rattle.abnftexts.specs.JoinedGrammar.{AreTextsJoined, GrammarJoined}
 use Rattle.abnftexts.specs.RulesGathered.{NamedText}
 use Rattle.abnftexts.specs.declared.run.JoinForm.{JoinForm}
-use Rattle.abnftexts.specs.declared.run.JoinForm.TheVariants.{Plain, Canonical}
+use Rattle.abnftexts.specs.declared.run.JoinForm.TheVariants.{Plain, Canonical, Listed}
 
 -- it is not want of memory
 abbrev pub IsTextFault : ReadFault → Type 0
@@ -109,40 +111,60 @@ module _ (form : JoinForm) (j : GrammarJoined) where
     flag = refl;
   }
 
-  pub fault-stated : (fault : ReadFault) → IsFaultOf j.grammar fault → JoinedReply form j (stopped (unread fault))
-  fault-stated (Syntax line) is = refused {fault = Syntax line} is (no_memory-told (Syntax line) tt)
-  fault-stated (Depth line) is = refused {fault = Depth line} is (no_memory-told (Depth line) tt)
-  fault-stated (CodePredicate line) is = absurd is
-  fault-stated TooLong is = refused {fault = TooLong} is (no_memory-told TooLong tt)
-  fault-stated Memory is = run.no_memory
-  fault-stated (NumberTooLarge line) is =
-      refused {fault = NumberTooLarge line} is (no_memory-told (NumberTooLarge line) tt)
+  pub fault-stated : (fault : ReadFault) → form ≢ Listed → j.grammar ≢ [] → IsFaultOf j.grammar fault
+      → JoinedReply form j (stopped (unread fault))
+  fault-stated (Syntax line) no_list some is =
+      refused {fault = Syntax line} no_list some is (no_memory-told (Syntax line) tt)
+  fault-stated (Depth line) no_list some is =
+      refused {fault = Depth line} no_list some is (no_memory-told (Depth line) tt)
+  fault-stated (CodePredicate line) no_list some is = absurd is
+  fault-stated TooLong no_list some is = refused {fault = TooLong} no_list some is (no_memory-told TooLong tt)
+  fault-stated Memory no_list some is = run.no_memory
+  fault-stated (NumberTooLarge line) no_list some is =
+      refused {fault = NumberTooLarge line} no_list some is (no_memory-told (NumberTooLarge line) tt)
 
   pub fault-stops : (text : List ℕ) (fault : ReadFault) (stop : Stop) (s : Option (List ℕ)) (was : Bool)
-      → text ≡ j.grammar → IsFaultOf text fault → stop ≡ unread fault →
+      → form ≢ Listed → j.grammar ≢ [] → text ≡ j.grammar → IsFaultOf text fault → stop ≡ unread fault →
       let r : Result Stop WriteFault = Ok stop in
       Performs DoesJoin no_input (record { old = s; new = s; was = was; failed = was }) r
-  fault-stops text fault stop s was same is e =
+  fault-stops text fault stop s was no_list some same is e =
       stop-stated stop s was (subst (λ (x : Stop). JoinedReply form j (stopped x)) (sym e)
-      (fault-stated fault (subst (λ (t : List ℕ). IsFaultOf t fault) same is)))
+      (fault-stated fault no_list some (subst (λ (t : List ℕ). IsFaultOf t fault) same is)))
 
-  pub nothing-written : (text : List ℕ) → text ≡ j.grammar → length j.grammar ≡ 0 → IsWrittenAs j form text
-  nothing-written [] same e = nothing (sym same)
-  nothing-written (b ∷ text) same e = absurd (let n = ap length same in omega (arith, n, e))
+  pub nothing-written : (text : List ℕ) → form ≢ Listed → text ≡ j.grammar → length j.grammar ≡ 0
+      → IsWrittenAs j form text
+  nothing-written [] no_list same e = nothing no_list (sym same)
+  nothing-written (b ∷ text) no_list same e = absurd (let n = ap length same in omega (arith, n, e))
+
+-- the form of a grammar is no list
+abbrev pub IsGrammarForm : JoinForm → Type 0
+IsGrammarForm Plain = Unit {0}
+IsGrammarForm Canonical = Unit {0}
+IsGrammarForm Listed = ⊥
+
+no_list-form : (form : JoinForm) → IsGrammarForm form → form ≢ Listed
+no_list-form form is e = subst IsGrammarForm e is
+
+pub grammar-no_list : (is_canonical : Bool) → grammar_form is_canonical ≢ Listed
+grammar-no_list true = no_list-form Canonical tt
+grammar-no_list false = no_list-form Plain tt
+
+pub some-text : (text : List ℕ) → length text ≢ 0 → text ≢ []
+some-text text some e = some (ap length e)
 
 module _ (j : GrammarJoined) where
-  pub plain-written : (read text : List ℕ) (definitions : List Definition) → read ≡ j.grammar
+  pub plain-written : (read text : List ℕ) (definitions : List Definition) → j.grammar ≢ [] → read ≡ j.grammar
       → Reads read definitions → text ≡ j.grammar → IsWrittenAs j Plain text
-  plain-written read text definitions same reads is =
+  plain-written read text definitions some same reads is =
       subst (λ (t : List ℕ). IsWrittenAs j Plain t) (sym is)
-      (as_it_is (subst (λ (t : List ℕ). Reads t definitions) same reads))
+      (as_it_is some (subst (λ (t : List ℕ). Reads t definitions) same reads))
 
-  pub canonical-written : (read : List ℕ) (definitions : List Definition) (rules : List Rule) → read ≡ j.grammar
-      → Reads read definitions → rules ≡ firsts (body_of core_list) [] definitions
+  pub canonical-written : (read : List ℕ) (definitions : List Definition) (rules : List Rule) → j.grammar ≢ []
+      → read ≡ j.grammar → Reads read definitions → rules ≡ firsts (body_of core_list) [] definitions
       → IsWrittenAs j Canonical (grammar_text rules)
-  canonical-written read definitions rules same reads is =
+  canonical-written read definitions rules some same reads is =
       subst (λ (rs : List Rule). IsWrittenAs j Canonical (grammar_text rs)) (sym is)
-      (canonical (subst (λ (t : List ℕ). Reads t definitions) same reads))
+      (canonical some (subst (λ (t : List ℕ). Reads t definitions) same reads))
 
 module _ (texts : List NamedText) (form : JoinForm) where
   pub joined-planned : (j : GrammarJoined) → AreTextsJoined texts j

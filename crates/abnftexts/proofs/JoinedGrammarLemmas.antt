@@ -1,16 +1,17 @@
 -- What stands, and how it is printed, one by one.
 -- Serves: join_texts
-use Rattle.std.proofs.Common.{◌≡◌, ℕ, ◌+◌, ◌<◌, List, [], ◌∷◌, ◌++◌, length, get_or, map, drop, refl, sym, ap}
+use Rattle.std.proofs.Common.{◌≡◌, ℕ, ◌+◌, ◌<◌, List, [], ◌∷◌, ◌++◌, length, get_or, map, drop, refl, sym, ap, subst}
 use Rattle.std.proofs.Common.{◌∙◌, append_assoc, arith, Option, Some, None, inl, inr, true, false, option_map}
 use Rattle.std.proofs.Math.Dec.{ltb}
 use Rattle.std.proofs.lemmas.Bool.{cases_Bool, ltb-true}
 use Rattle.std.proofs.lemmas.Option.{slice_get-get_or, slice_get-map, slice_get_past}
-use Rattle.std.specs.Prelude.{slice_get}
+use Rattle.std.specs.Prelude.{Result, Ok, Err, IfOk, slice_get}
 use Rattle.abnfjoin.specs.GivenRules.{RuleGiven, fates_of, text_rule}
 use Rattle.abnfjoin.specs.declared.fate.Fate.{Fate}
 use Rattle.abnfjoin.specs.declared.given.GivenRule.{GivenRule}
-use Rattle.abnftexts.specs.JoinedGrammar.{gathered_joined, has_stayed, joined_of, listed_from, printed_behind}
-use Rattle.abnftexts.specs.JoinedGrammar.{rule_printed, standing}
+use Rattle.abnftexts.specs.JoinedGrammar.{GrammarJoined, has_stayed, ordered_rules, printed_behind, rule_printed}
+use Rattle.abnftexts.specs.JoinedGrammar.{rules_listed, standing}
+use Rattle.abnftexts.specs.JoinedViews.{IsGatheredJoined, IsStandingJoined}
 use Rattle.abnftexts.specs.RulesGathered.{RuleLines, lines_placed}
 use Rattle.abnftexts.specs.declared.gathered.RulePlace.{RulePlace}
 use Rattle.abnftexts.proofs.RulesTakenLemmas.{one-behind}
@@ -44,41 +45,41 @@ module _ (places : List RuleLines) (order : List ℕ) (i : ℕ) where
   pub place-printed : (before after : Option RuleLines) (place : RuleLines) (old new all : List ℕ) → i < length order
       → slice_get places (get_or order i 0) ≡ Some place → after ≡ Some place
       → new ≡ old ++ rule_printed before place
-      → old ++ printed_behind places before (drop i order) ≡ all
-      → new ++ printed_behind places after (drop (i + 1) order) ≡ all
+      → old ++ printed_behind before (ordered_rules places (drop i order)) ≡ all
+      → new ++ printed_behind after (ordered_rules places (drop (i + 1) order)) ≡ all
   place-printed before after place old new all lt is last more h =
-      let rest = printed_behind places (Some place) (drop (i + 1) order) in
-      let here : printed_behind places before (drop i order)
-      ≡ printed_behind places before (get_or order i 0 ∷ drop (i + 1) order) =
-      ap (λ (ns : List ℕ). printed_behind places before ns) (one-behind order i 0 lt) in
-      let step : printed_behind places before (get_or order i 0 ∷ drop (i + 1) order)
-      ≡ rule_printed before place ++ rest = rw (is, printed_behind) refl in
-      ap (λ (o : Option RuleLines). new ++ printed_behind places o (drop (i + 1) order)) last
+      let rows = ordered_rules places (drop (i + 1) order) in
+      let rest = printed_behind (Some place) rows in
+      let front : ordered_rules places (drop i order) ≡ ordered_rules places (get_or order i 0 ∷ drop (i + 1) order) =
+      ap (λ (ns : List ℕ). ordered_rules places ns) (one-behind order i 0 lt) in
+      let here : ordered_rules places (get_or order i 0 ∷ drop (i + 1) order) ≡ place ∷ rows = rw is refl in
+      let step : printed_behind before (ordered_rules places (drop i order)) ≡ rule_printed before place ++ rest =
+      ap (λ (ps : List RuleLines). printed_behind before ps) (front ∙ here) in
+      ap (λ (o : Option RuleLines). new ++ printed_behind o rows) last
       ∙ ap (λ (z : List ℕ). z ++ rest) more ∙ append_assoc old (rule_printed before place) rest
-      ∙ ap (λ (z : List ℕ). old ++ z) (sym (here ∙ step)) ∙ h
+      ∙ ap (λ (z : List ℕ). old ++ z) (sym step) ∙ h
 
   pub no_place-printed : (before after : Option RuleLines) (old new all : List ℕ) → i < length order
       → slice_get places (get_or order i 0) ≡ None → after ≡ before → new ≡ old
-      → old ++ printed_behind places before (drop i order) ≡ all
-      → new ++ printed_behind places after (drop (i + 1) order) ≡ all
+      → old ++ printed_behind before (ordered_rules places (drop i order)) ≡ all
+      → new ++ printed_behind after (ordered_rules places (drop (i + 1) order)) ≡ all
   no_place-printed before after old new all lt is last same h =
-      let here : printed_behind places before (drop i order)
-      ≡ printed_behind places before (get_or order i 0 ∷ drop (i + 1) order) =
-      ap (λ (ns : List ℕ). printed_behind places before ns) (one-behind order i 0 lt) in
-      let step : printed_behind places before (get_or order i 0 ∷ drop (i + 1) order)
-      ≡ printed_behind places before (drop (i + 1) order) = rw (is, printed_behind) refl in
-      ap (λ (o : Option RuleLines). new ++ printed_behind places o (drop (i + 1) order)) last
-      ∙ ap (λ (z : List ℕ). z ++ printed_behind places before (drop (i + 1) order)) same
-      ∙ ap (λ (z : List ℕ). old ++ z) (sym (here ∙ step)) ∙ h
+      let rows = ordered_rules places (drop (i + 1) order) in
+      let front : ordered_rules places (drop i order) ≡ ordered_rules places (get_or order i 0 ∷ drop (i + 1) order) =
+      ap (λ (ns : List ℕ). ordered_rules places ns) (one-behind order i 0 lt) in
+      let here : ordered_rules places (get_or order i 0 ∷ drop (i + 1) order) ≡ rows = rw is refl in
+      ap (λ (o : Option RuleLines). new ++ printed_behind o rows) last
+      ∙ ap (λ (z : List ℕ). z ++ printed_behind before rows) same
+      ∙ ap (λ (ps : List RuleLines). old ++ printed_behind before ps) (sym (front ∙ here)) ∙ h
 
 -- what stands of what was gathered is joined
 pub gathered-all : (places sp : List RulePlace) (rules sr : List GivenRule) (told listed : List ℕ) (fates : List Fate)
-    → fates ≡ fates_of (map text_rule rules)
-    → listed ≡ listed_from (map lines_placed places) (map text_rule rules) 0 fates
+    (joined : GrammarJoined) → fates ≡ fates_of (map text_rule rules)
+    → listed ≡ rules_listed (map lines_placed places) (map text_rule rules) fates
     → sp ≡ standing fates places → sr ≡ standing fates rules
-    → joined_of (map lines_placed sp) (map text_rule sr) told listed
-    ≡ gathered_joined (record { places = map lines_placed places; rules = map text_rule rules; told = told })
-gathered-all places sp rules sr told listed fates are list stand_places stand_rules =
+    → IsStandingJoined (map lines_placed sp) (map text_rule sr) told listed joined
+    → IsGatheredJoined (record { places = map lines_placed places; rules = map text_rule rules; told = told }) joined
+gathered-all places sp rules sr told listed fates joined are list stand_places stand_rules h =
     let rows : List RuleLines = map lines_placed places in
     let given : List RuleGiven = map text_rule rules in
     let a : map lines_placed sp ≡ standing (fates_of given) rows =
@@ -87,8 +88,16 @@ gathered-all places sp rules sr told listed fates are list stand_places stand_ru
     let b : map text_rule sr ≡ standing (fates_of given) given =
     ap (λ (xs : List GivenRule). map text_rule xs) stand_rules ∙ standing-seen text_rule fates rules
     ∙ ap (λ (fs : List Fate). standing fs given) are in
-    let c : listed ≡ listed_from rows given 0 (fates_of given) =
-    list ∙ ap (λ (fs : List Fate). listed_from rows given 0 fs) are in
-    ap (λ (ps : List RuleLines). joined_of ps (map text_rule sr) told listed) a
-    ∙ ap (λ (rs : List RuleGiven). joined_of (standing (fates_of given) rows) rs told listed) b
-    ∙ ap (λ (l : List ℕ). joined_of (standing (fates_of given) rows) (standing (fates_of given) given) told l) c
+    let c : listed ≡ rules_listed rows given (fates_of given) =
+    list ∙ ap (λ (fs : List Fate). rules_listed rows given fs) are in
+    let one : IsStandingJoined (standing (fates_of given) rows) (map text_rule sr) told listed joined =
+    subst (λ (ps : List RuleLines). IsStandingJoined ps (map text_rule sr) told listed joined) a h in
+    let two : IsStandingJoined (standing (fates_of given) rows) (standing (fates_of given) given) told listed joined =
+    subst (λ (rs : List RuleGiven). IsStandingJoined (standing (fates_of given) rows) rs told listed joined) b one in
+    subst (λ (l : List ℕ). IsStandingJoined (standing (fates_of given) rows) (standing (fates_of given) given) told l
+    joined) c two
+
+-- what is known of a result tells something else
+pub ok-more : {T E : Type 0} (P Q : T → Type 0) (r : Result T E) → ((x : T) → P x → Q x) → IfOk r P → IfOk r Q
+ok-more P Q (Ok x) more h = more x h
+ok-more P Q (Err e) more h = tt

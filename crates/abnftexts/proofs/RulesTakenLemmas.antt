@@ -1,7 +1,7 @@
 -- What is taken of texts, step by step.
 -- Serves: join_texts
 use Rattle.std.proofs.Common.{◌≡◌, ℕ, suc, ◌+◌, ◌<◌, ◌≤◌, List, [], ◌∷◌, length, get_or, map, take, drop, sym, ap}
-use Rattle.std.proofs.Common.{◌∙◌, ◌++◌, ◌≢◌, arith, subst, length-drop}
+use Rattle.std.proofs.Common.{◌∙◌, ◌++◌, ◌≢◌, append-nil, append_assoc, arith, subst, length-drop, refl}
 use Rattle.std.proofs.Math.Seq.{drop-cons}
 use Rattle.std.proofs.lemmas.List.{at_drop_all, drop-drop, drop-map, length-map, take-map}
 use Rattle.ruletable.specs.declared.fault.ReadFault.{ReadFault}
@@ -14,10 +14,12 @@ use Rattle.rfctext.specs.declared.text_line.TextLine.{TextLine}
 use Rattle.abnfblocks.specs.TextBlocks.{block_text, margin_at, rule_lines}
 use Rattle.abnfblocks.specs.declared.found.Found.{Found}
 use Rattle.abnfblocks.specs.declared.found.Found.TheVariants as found
-use Rattle.abnftexts.specs.RulesGathered.{RuleLines, RulesGathered, NamedText, lines_placed, named_text, with_rule}
-use Rattle.abnftexts.specs.RulesTaken.{TakesFound, TakesPiece, TakesRule, TakesText, TakesTexts, next_piece, next_rule}
-use Rattle.abnftexts.specs.RulesTaken.{SpellRule, a_rule, next_text, no_lines, no_piece, no_rule, no_texts}
-use Rattle.abnftexts.specs.RulesTaken.{none_found, piece_at}
+use Rattle.abnftexts.specs.RulesGathered.{RuleLines, RulesGathered, NamedText, both_given, lines_placed, named_text}
+use Rattle.abnftexts.specs.RulesGathered.{none_given, one_rule, told_alone}
+use Rattle.abnftexts.specs.TakenRules.{TakesMore}
+use Rattle.abnftexts.specs.TextRules.{GivesFound, GivesPiece, GivesRule, GivesText, GiveTexts, next_piece, next_rule}
+use Rattle.abnftexts.specs.TextRules.{SpellRule, a_rule, next_text, no_lines, no_piece, no_rule, no_texts}
+use Rattle.abnftexts.specs.TextRules.{none_found, piece_at}
 use Rattle.abnftexts.specs.TextPlaces.{not_abnf_told}
 use Rattle.abnftexts.specs.declared.gathered.RulePlace.{RulePlace}
 use Rattle.abnftexts.specs.declared.gathered.SourceText.{SourceText}
@@ -36,44 +38,81 @@ rest-within lines rest at n within from le =
     let same : length rest ≡ length (drop at lines) = ap (λ (xs : List TextLine). length xs) from in
     omega (arith, within, le, same, length-drop at lines)
 
+-- what is given stands behind one and another
+pub both-assoc : (a b c : RulesGathered) → both_given (both_given a b) c ≡ both_given a (both_given b c)
+both-assoc a b c =
+    rw (
+      append_assoc a.places b.places c.places,
+      append_assoc a.rules b.rules c.rules,
+      append_assoc a.told b.told c.told,
+    ) refl
+
+pub both-none : (a : RulesGathered) → both_given a none_given ≡ a
+both-none a = rw (append-nil a.places, append-nil a.rules, append-nil a.told) refl
+
+-- something is told, and all else is as it was
+with-told : (g : RulesGathered) (told more : List ℕ) → told ≡ g.told ++ more
+    → record { places = g.places; rules = g.rules; told = told } ≡ both_given g (told_alone more)
+with-told g told more e = rw (e, append-nil g.places, append-nil g.rules) refl
+
+-- nothing is taken
+none-taken : (Gives : RulesGathered → Type 0) (g : RulesGathered) → Gives none_given → TakesMore Gives g g
+none-taken Gives g none = (none_given, none, sym (both-none g))
+
+-- one thing is taken, and then another
+more-taken : (One Other Both : RulesGathered → Type 0) (g h end : RulesGathered)
+    → ((a b : RulesGathered) → One a → Other b → Both (both_given a b)) → TakesMore One g h → TakesMore Other h end
+    → TakesMore Both g end
+more-taken One Other Both g h end join one other =
+    let e : end ≡ both_given g (both_given one.0 other.0) =
+    other.2 ∙ ap (λ (x : RulesGathered). both_given x other.0) one.2 ∙ both-assoc g one.0 other.0 in
+    (both_given one.0 other.0, join one.0 other.0 one.1 other.1, e)
+
 module _ (name : List ℕ) (margin : ℕ) where
   pub rule-taken : (rows : List NumberedLine) (place : RulePlace) (rule : GivenRule) (g h : RulesGathered)
       → SpellRule margin rows (text_rule rule)
       → lines_placed place ≡ record { name = name; margin = margin; lines = rows }
-      → h ≡ with_rule g (lines_placed place) (text_rule rule) → TakesRule name margin rows g h
-  rule-taken rows place rule g h spelled is more =
-      subst (λ (x : RulesGathered). TakesRule name margin rows g x)
-      (sym (more ∙ ap (λ (p : RuleLines). with_rule g p (text_rule rule)) is)) (a_rule spelled)
+      → h ≡ both_given g (one_rule (lines_placed place) (text_rule rule)) → TakesMore (GivesRule name margin rows) g h
+  rule-taken rows place rule g h spelled is more = (
+    one_rule (record { name = name; margin = margin; lines = rows }) (text_rule rule),
+    a_rule spelled,
+    more ∙ ap (λ (p : RuleLines). both_given g (one_rule p (text_rule rule))) is,
+  )
 
   pub fault-taken : (rows : List NumberedLine) (fault : ReadFault) (g : RulesGathered) (told : List ℕ)
       → IsFaultOf (block_text margin rows) fault × (fault ≢ ReadFaults.Memory)
       → told ≡ g.told ++ not_abnf_told name rows fault
-      → TakesRule name margin rows g (record { places = g.places; rules = g.rules; told = told })
+      → TakesMore (GivesRule name margin rows) g (record { places = g.places; rules = g.rules; told = told })
   fault-taken rows fault g told is more =
-      subst (λ (x : List ℕ). TakesRule name margin rows g (record { places = g.places; rules = g.rules; told = x }))
-      (sym more) (no_rule is.0 is.1)
+      (told_alone (not_abnf_told name rows fault), no_rule is.0 is.1, with-told g told _ more)
 
-  piece-ended : (rows : List NumberedLine) (g : RulesGathered) → length rows ≡ 0 → TakesPiece name margin rows g g
-  piece-ended [] g e = no_lines
+  piece-ended : (rows : List NumberedLine) (g : RulesGathered) → length rows ≡ 0
+      → TakesMore (GivesPiece name margin rows) g g
+  piece-ended [] g e = none-taken (GivesPiece name margin []) g no_lines
   piece-ended (row ∷ rows) g e = absurd (omega arith)
 
   pub piece-all : (lines : List TextLine) (at : ℕ) (g : RulesGathered) → length lines ≤ at
-      → TakesPiece name margin (map numbered (drop at lines)) g g
+      → TakesMore (GivesPiece name margin (map numbered (drop at lines))) g g
   piece-all lines at g le = piece-ended _ g
       (omega (arith, length-map (drop at lines) numbered, length-drop at lines))
 
   rule-first : (rows own : List NumberedLine) (g h end : RulesGathered) → 0 < length rows
-      → own ≡ take (rule_lines rows) rows → TakesRule name margin own g h
-      → TakesPiece name margin (drop (rule_lines rows) rows) h end → TakesPiece name margin rows g end
+      → own ≡ take (rule_lines rows) rows → TakesMore (GivesRule name margin own) g h
+      → TakesMore (GivesPiece name margin (drop (rule_lines rows) rows)) h end
+      → TakesMore (GivesPiece name margin rows) g end
   rule-first [] own g h end lt e one more = absurd (omega arith)
   rule-first (row ∷ rows) own g h end lt e one more =
-      next_rule (subst (λ (xs : List NumberedLine). TakesRule name margin xs g h) e one) more
+      let first = take (rule_lines (row ∷ rows)) (row ∷ rows) in
+      let last = drop (rule_lines (row ∷ rows)) (row ∷ rows) in
+      more-taken (GivesRule name margin first) (GivesPiece name margin last) (GivesPiece name margin (row ∷ rows))
+      g h end (λ a b x y. next_rule x y)
+      (subst (λ (xs : List NumberedLine). TakesMore (GivesRule name margin xs) g h) e one) more
 
   pub rule-more : (lines rest own : List TextLine) (at n : ℕ) (g h end : RulesGathered) → at < length lines
       → rest ≡ drop at lines → n ≡ rule_lines (map numbered rest) → own ≡ take n rest
-      → TakesRule name margin (map numbered own) g h
-      → TakesPiece name margin (map numbered (drop (at + n) lines)) h end
-      → TakesPiece name margin (map numbered (drop at lines)) g end
+      → TakesMore (GivesRule name margin (map numbered own)) g h
+      → TakesMore (GivesPiece name margin (map numbered (drop (at + n) lines))) h end
+      → TakesMore (GivesPiece name margin (map numbered (drop at lines))) g end
   rule-more lines rest own at n g h end lt from size front one more =
       let rows : List NumberedLine = map numbered (drop at lines) in
       let same : map numbered rest ≡ rows = ap (λ (xs : List TextLine). map numbered xs) from in
@@ -86,32 +125,41 @@ module _ (name : List ℕ) (margin : ℕ) where
       ∙ sym (drop-map numbered n (drop at lines)) ∙ ap (λ (k : ℕ). drop k rows) count in
       rule-first rows (map numbered own) g h end
       (omega (arith, lt, length-map (drop at lines) numbered, length-drop at lines)) first one
-      (subst (λ (xs : List NumberedLine). TakesPiece name margin xs h end) last more)
+      (subst (λ (xs : List NumberedLine). TakesMore (GivesPiece name margin xs) h end) last more)
 
 module _ (name : List ℕ) (kept : List NumberedLine) (all : List Found) (i : ℕ) (d : Found) where
   pub piece-more : (first count : ℕ) (lines : List TextLine) (g h end : RulesGathered) → i < length all
       → get_or all i d ≡ found.Piece first count → map numbered lines ≡ piece_at kept first count
-      → TakesPiece name (margin_at (map numbered lines)) (map numbered lines) g h
-      → TakesFound name kept (drop (i + 1) all) h end → TakesFound name kept (drop i all) g end
+      → TakesMore (GivesPiece name (margin_at (map numbered lines)) (map numbered lines)) g h
+      → TakesMore (GivesFound name kept (drop (i + 1) all)) h end → TakesMore (GivesFound name kept (drop i all)) g end
   piece-more first count lines g h end lt is rows one more =
       let here : drop i all ≡ found.Piece first count ∷ drop (i + 1) all =
       one-behind all i d lt ∙ ap (λ (x : Found). x ∷ drop (i + 1) all) is in
-      subst (λ (xs : List Found). TakesFound name kept xs g end) (sym here)
-      (next_piece (subst (λ (xs : List NumberedLine). TakesPiece name (margin_at xs) xs g h) rows one) more)
+      let piece = piece_at kept first count in
+      let others = drop (i + 1) all in
+      subst (λ (xs : List Found). TakesMore (GivesFound name kept xs) g end) (sym here)
+      (more-taken (GivesPiece name (margin_at piece) piece) (GivesFound name kept others)
+      (GivesFound name kept (found.Piece first count ∷ others)) g h end (λ a b x y. next_piece x y)
+      (subst (λ (xs : List NumberedLine). TakesMore (GivesPiece name (margin_at xs) xs) g h) rows one) more)
 
   pub no_piece-more : (first : ℕ) (fault : ReadFault) (lines : List NumberedLine) (g : RulesGathered) (told : List ℕ)
       (end : RulesGathered) → i < length all → get_or all i d ≡ found.NotAbnf first fault → lines ≡ drop first kept
       → told ≡ g.told ++ not_abnf_told name lines fault
-      → TakesFound name kept (drop (i + 1) all) (record { places = g.places; rules = g.rules; told = told }) end
-      → TakesFound name kept (drop i all) g end
+      → TakesMore (GivesFound name kept (drop (i + 1) all))
+      (record { places = g.places; rules = g.rules; told = told }) end
+      → TakesMore (GivesFound name kept (drop i all)) g end
   no_piece-more first fault lines g told end lt is rows e more =
       let here : drop i all ≡ found.NotAbnf first fault ∷ drop (i + 1) all =
       one-behind all i d lt ∙ ap (λ (x : Found). x ∷ drop (i + 1) all) is in
       let same : told ≡ g.told ++ not_abnf_told name (drop first kept) fault =
       e ∙ ap (λ (xs : List NumberedLine). g.told ++ not_abnf_told name xs fault) rows in
-      subst (λ (xs : List Found). TakesFound name kept xs g end) (sym here)
-      (no_piece (subst (λ (x : List ℕ). TakesFound name kept (drop (i + 1) all)
-      (record { places = g.places; rules = g.rules; told = x }) end) same more))
+      let others = drop (i + 1) all in
+      let one : RulesGathered = told_alone (not_abnf_told name (drop first kept) fault) in
+      let h : RulesGathered = record { places = g.places; rules = g.rules; told = told } in
+      subst (λ (xs : List Found). TakesMore (GivesFound name kept xs) g end) (sym here)
+      (more-taken (λ x. x ≡ one) (GivesFound name kept others)
+      (GivesFound name kept (found.NotAbnf first fault ∷ others)) g h end
+      (λ a b x y. rw x (no_piece y)) (one, refl, with-told g told _ same) more)
 
 -- the lines of a piece as the code takes them
 pub piece-lines : (kept behind lines : List TextLine) (first count : ℕ) → behind ≡ drop first kept
@@ -127,20 +175,26 @@ lines-from kept lines first from =
     ap (λ (xs : List TextLine). map numbered xs) from ∙ sym (drop-map numbered first kept)
 
 pub found-all : (name : List ℕ) (kept : List NumberedLine) (all : List Found) (i : ℕ) (g : RulesGathered)
-    → length all ≤ i → TakesFound name kept (drop i all) g g
+    → length all ≤ i → TakesMore (GivesFound name kept (drop i all)) g g
 found-all name kept all i g le =
-    subst (λ (xs : List Found). TakesFound name kept xs g g) (sym (at_drop_all (λ xs. xs) all i le)) none_found
+    subst (λ (xs : List Found). TakesMore (GivesFound name kept xs) g g) (sym (at_drop_all (λ xs. xs) all i le))
+    (none-taken (GivesFound name kept []) g none_found)
 
-pub text-more : (texts : List SourceText) (i : ℕ) (d : SourceText) (g h end : RulesGathered) → i < length texts
-    → TakesText (named_text (get_or texts i d)) g h
-    → TakesTexts (map named_text (drop (i + 1) texts)) h end → TakesTexts (map named_text (drop i texts)) g end
-text-more texts i d g h end lt one more =
+-- what one more text gives stands behind what was gathered
+pub text-more : (texts : List SourceText) (i : ℕ) (d : SourceText) (g h more : RulesGathered) → i < length texts
+    → TakesMore (GivesText (named_text (get_or texts i d))) g h → GiveTexts (map named_text (drop (i + 1) texts)) more
+    → (all : RulesGathered) × GiveTexts (map named_text (drop i texts)) all
+    × (both_given g all ≡ both_given h more)
+text-more texts i d g h more lt one others =
     let here : map named_text (drop i texts) ≡ named_text (get_or texts i d) ∷ map named_text (drop (i + 1) texts) =
-    ap (λ (xs : List SourceText). map named_text xs) (one-behind texts i d lt) in
-    subst (λ (xs : List NamedText). TakesTexts xs g end) (sym here) (next_text one more)
+    ap (λ (xs : List SourceText). map named_text xs) (one-behind texts i d lt) in (
+      both_given one.0 more,
+      subst (λ (xs : List NamedText). GiveTexts xs (both_given one.0 more)) (sym here) (next_text one.1 others),
+      sym (ap (λ (x : RulesGathered). both_given x more) one.2 ∙ both-assoc g one.0 more),
+    )
 
-pub texts-all : (texts : List SourceText) (i : ℕ) (g : RulesGathered) → length texts ≤ i
-    → TakesTexts (map named_text (drop i texts)) g g
-texts-all texts i g le =
-    subst (λ (xs : List SourceText). TakesTexts (map named_text xs) g g) (sym (at_drop_all (λ xs. xs) texts i le))
+pub texts-all : (texts : List SourceText) (i : ℕ) → length texts ≤ i
+    → GiveTexts (map named_text (drop i texts)) none_given
+texts-all texts i le =
+    subst (λ (xs : List SourceText). GiveTexts (map named_text xs) none_given) (sym (at_drop_all (λ xs. xs) texts i le))
     no_texts

@@ -27,9 +27,10 @@ canonical_of definitions = grammar_text (firsts (body_of core_list) [] definitio
 -- What is written in that form. A grammar that is written reads; one without rules has no text.
 pub data IsWrittenAs (j : GrammarJoined) : JoinForm → List ℕ → Type 0 where
   a_list : IsWrittenAs j Listed j.listed
-  nothing : {form : JoinForm} → j.grammar ≡ [] → IsWrittenAs j form []
-  as_it_is : {definitions : List Definition} → Reads j.grammar definitions → IsWrittenAs j Plain j.grammar
-  canonical : {definitions : List Definition} → Reads j.grammar definitions
+  nothing : {form : JoinForm} → form ≢ Listed → j.grammar ≡ [] → IsWrittenAs j form []
+  as_it_is : {definitions : List Definition} → j.grammar ≢ [] → Reads j.grammar definitions
+      → IsWrittenAs j Plain j.grammar
+  canonical : {definitions : List Definition} → j.grammar ≢ [] → Reads j.grammar definitions
       → IsWrittenAs j Canonical (canonical_of definitions)
 
 -- the form of a grammar that is canonical, or not
@@ -43,10 +44,11 @@ joined_status j = if j.clashes then status.Refused else if length j.grammar == 0
 abbrev pub text_written : List ℕ → Status → Reply
 text_written text status = record { out = text; err = []; status = code_of status; taken = 0 }
 
--- Behind what is told of the texts: the text is written, or the grammar is refused, as one that is too long is.
+-- Behind what is told of the texts: the text is written, or a grammar that has some rule is refused, as one that is too
+-- long is. A list is never refused.
 pub data JoinedReply (form : JoinForm) (j : GrammarJoined) : Reply → Type 0 where
   writes : {text : List ℕ} → IsWrittenAs j form text → JoinedReply form j (text_written text (joined_status j))
-  refused : {fault : ReadFault} → IsFaultOf j.grammar fault → fault ≢ faults.Memory
+  refused : {fault : ReadFault} → form ≢ Listed → j.grammar ≢ [] → IsFaultOf j.grammar fault → fault ≢ faults.Memory
       → JoinedReply form j (stopped (Refused fault))
   no_memory : JoinedReply form j (stopped NoMemory)
 

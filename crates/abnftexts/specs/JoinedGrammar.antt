@@ -1,15 +1,16 @@
 -- The grammar that texts make up, joined, and what is told of it.
-use Rattle.std.specs.Prelude.{◌≡◌, ℕ, ◌+◌, ◌-◌, ◌==◌, ◌&&◌, bytes_eq, nat_lt, Bool, true, false, List, [], ◌∷◌, ◌++◌}
-use Rattle.std.specs.Prelude.{length, Option, None, Some, codes, slice_get, if◌then◌else◌}
-use Rattle.std.specs.List.{flat_map}
+use Rattle.std.specs.Prelude.{◌≡◌, ℕ, ◌-◌, ◌==◌, ◌&&◌, bytes_eq, nat_lt, Bool, true, false, List, [], ◌∷◌, ◌++◌}
+use Rattle.std.specs.Prelude.{length, map, Option, None, Some, codes, slice_get, if◌then◌else◌}
+use Rattle.std.specs.List.{enumerate_from, filter_map, flat_map, zip}
 use Rattle.abnfblocks.specs.TextBlocks.{block_text}
 use Rattle.abnfjoin.specs.GivenRules.{RuleGiven, fates_of}
 use Rattle.abnfjoin.specs.JoinedRules.{clashes_of, joined_order}
 use Rattle.abnfjoin.specs.declared.fate.Fate.{Fate}
 use Rattle.abnfjoin.specs.declared.fate.Fate.TheVariants.{Stands, Again, Yields}
 use Rattle.abnfjoin.specs.declared.order.Clash.{Clash}
-use Rattle.abnftexts.specs.RulesGathered.{NamedText, RuleLines, RulesGathered, none_gathered}
-use Rattle.abnftexts.specs.RulesTaken.{TakesTexts}
+use Rattle.abnftexts.specs.RulesGathered.{NamedText, RuleLines, RulesGathered}
+use Rattle.abnftexts.specs.TextRules.{GiveTexts}
+use Rattle.abnftexts.specs.UsedNames.{AreNameUses, UsedName, undefined_told}
 use Rattle.abnftexts.specs.TextPlaces.{number_at, place_shown}
 
 abbrev pub has_stayed : Fate → Bool
@@ -45,13 +46,17 @@ comment_before before place = if goes_behind_it before place then [] else
 abbrev pub rule_printed : Option RuleLines → RuleLines → List ℕ
 rule_printed before place = comment_before before place ++ block_text place.margin place.lines
 
--- the rules with these numbers, where that one is printed before them
-abbrev pub printed_behind : List RuleLines → Option RuleLines → List ℕ → List ℕ
-printed_behind places before [] = []
-printed_behind places before (n ∷ ns) = elim (slice_get places n) [
-  | None ↦ printed_behind places before ns
-  | Some place ↦ rule_printed before place ++ printed_behind places (Some place) ns
-]
+-- the rules with these numbers, in their order
+abbrev pub ordered_rules : List RuleLines → List ℕ → List RuleLines
+ordered_rules places order = filter_map (slice_get places) order
+
+-- each rule beside the one before it, where that one stands before the first
+abbrev pub beside_last : Option RuleLines → List RuleLines → List (Option RuleLines × RuleLines)
+beside_last before rows = zip (before ∷ map Some rows) rows
+
+-- the rules as they are printed one behind another, where that one is printed before them
+abbrev pub printed_behind : Option RuleLines → List RuleLines → List ℕ
+printed_behind before rows = flat_map (λ p. rule_printed p.0 p.1) (beside_last before rows)
 
 -- the place of the rule with that number
 abbrev pub numbered_place : List RuleLines → ℕ → List ℕ
@@ -81,10 +86,9 @@ abbrev pub rule_listed : List RuleLines → List RuleGiven → ℕ → Fate → 
 rule_listed places rules n fate = numbered_place places n ++ (codes ": '" ++ (numbered_name rules n
     ++ (codes "' " ++ (fate_told places fate ++ codes "\n"))))
 
--- the lines of the rules from that number on, where these are their fates
-abbrev pub listed_from : List RuleLines → List RuleGiven → ℕ → List Fate → List ℕ
-listed_from places rules n [] = []
-listed_from places rules n (fate ∷ fates) = rule_listed places rules n fate ++ listed_from places rules (n + 1) fates
+-- the lines of the rules, where these are their fates
+abbrev pub rules_listed : List RuleLines → List RuleGiven → List Fate → List ℕ
+rules_listed places rules fates = flat_map (λ p. rule_listed places rules p.0 p.1) (enumerate_from 0 fates)
 
 -- what is told where there is no rule
 abbrev pub none_told : List RuleGiven → List ℕ
@@ -98,22 +102,36 @@ pub record GrammarJoined : Type 0 where
   pub listed : List ℕ
   pub clashes : Bool
 
--- of the rules that stand, where these are their lines
-abbrev pub joined_of : List RuleLines → List RuleGiven → List ℕ → List ℕ → GrammarJoined
-joined_of places rules told listed = record {
-  grammar = printed_behind places None (joined_order rules);
-  told = told ++ flat_map (clash_told places rules) (clashes_of rules) ++ none_told rules;
+-- of the rules that stand, where these are their lines, and these the names that they use
+abbrev pub joined_of : List RuleLines → List RuleGiven → List UsedName → List ℕ → List ℕ → GrammarJoined
+joined_of places rules uses told listed = record {
+  grammar = printed_behind None (ordered_rules places (joined_order rules));
+  told = told ++ flat_map (clash_told places rules) (clashes_of rules) ++ undefined_told rules uses ++ none_told rules;
   listed = listed;
   clashes = nat_lt 0 (length (clashes_of rules));
 }
 
+-- the rules that stand of what was gathered
+abbrev pub standing_rules : RulesGathered → List RuleGiven
+standing_rules g = standing (fates_of g.rules) g.rules
+
+-- and their lines
+abbrev pub standing_places : RulesGathered → List RuleLines
+standing_places g = standing (fates_of g.rules) g.places
+
+-- the names that rules use, in the order in which these are printed
+abbrev pub UsesPrinted : List RuleLines → List RuleGiven → List UsedName → Type 0
+UsesPrinted places rules uses = AreNameUses (ordered_rules places (joined_order rules)) uses
+
 -- of what was gathered: the rules are joined that stand
-abbrev pub gathered_joined : RulesGathered → GrammarJoined
-gathered_joined g = joined_of (standing (fates_of g.rules) g.places) (standing (fates_of g.rules) g.rules) g.told
-    (listed_from g.places g.rules 0 (fates_of g.rules))
+abbrev pub gathered_joined : RulesGathered → List UsedName → GrammarJoined
+gathered_joined g uses = joined_of (standing_places g) (standing_rules g) uses g.told
+    (rules_listed g.places g.rules (fates_of g.rules))
 
 -- that of all texts
 pub record AreTextsJoined (texts : List NamedText) (joined : GrammarJoined) : Type 0 where
   pub gathered : RulesGathered
-  pub takes : TakesTexts texts none_gathered gathered
-  pub is : joined ≡ gathered_joined gathered
+  pub gives : GiveTexts texts gathered
+  pub uses : List UsedName
+  pub are_uses : UsesPrinted (standing_places gathered) (standing_rules gathered) uses
+  pub is : joined ≡ gathered_joined gathered uses

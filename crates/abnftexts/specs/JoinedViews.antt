@@ -1,5 +1,10 @@
 -- The joined grammar that the code's stands for.
-use Rattle.abnftexts.specs.JoinedGrammar.{GrammarJoined}
+use Rattle.std.specs.Prelude.{◌≡◌, ℕ, List}
+use Rattle.abnfjoin.specs.GivenRules.{RuleGiven}
+use Rattle.abnftexts.specs.JoinedGrammar.{GrammarJoined, UsesPrinted, gathered_joined, joined_of, standing_places}
+use Rattle.abnftexts.specs.JoinedGrammar.{standing_rules}
+use Rattle.abnftexts.specs.RulesGathered.{RuleLines, RulesGathered}
+use Rattle.abnftexts.specs.UsedNames.{UsedName}
 use Rattle.abnftexts.specs.declared.joined.JoinedTexts.{JoinedTexts}
 
 abbrev pub grammar_joined : JoinedTexts → GrammarJoined
@@ -9,3 +14,12 @@ grammar_joined joined = record {
   listed = joined.listed.items;
   clashes = joined.clashes;
 }
+
+-- it is that of these rules, which stand; and that of what was gathered
+abbrev pub IsStandingJoined : List RuleLines → List RuleGiven → List ℕ → List ℕ → GrammarJoined → Type 0
+IsStandingJoined places rules told listed joined = (uses : List UsedName) × UsesPrinted places rules uses
+    × (joined ≡ joined_of places rules uses told listed)
+
+abbrev pub IsGatheredJoined : RulesGathered → GrammarJoined → Type 0
+IsGatheredJoined g joined = (uses : List UsedName) × UsesPrinted (standing_places g) (standing_rules g) uses
+    × (joined ≡ gathered_joined g uses)

@@ -1,7 +1,10 @@
+pub mod CodeUses
 pub mod JoinRun
 pub mod JoinedGrammar
 pub mod JoinedViews
 pub mod OwnReadings
 pub mod RulesGathered
-pub mod RulesTaken
+pub mod TakenRules
 pub mod TextPlaces
+pub mod TextRules
+pub mod UsedNames

@@ -5,7 +5,7 @@ use Rattle.abnfread.specs.AbnfReading.{IsFaultOf}
 use Rattle.abnfjoin.specs.GivenRules.{text_rule}
 use Rattle.rfctext.specs.TextLines.{NumberedLine}
 use Rattle.abnfblocks.specs.TextBlocks.{block_text}
-use Rattle.abnftexts.specs.RulesTaken.{SpellRule}
+use Rattle.abnftexts.specs.TextRules.{SpellRule}
 use Rattle.abnftexts.specs.declared.own.OwnReading.{OwnReading}
 use Rattle.abnftexts.specs.declared.own.OwnReading.TheVariants.{Rule, Fault}
 

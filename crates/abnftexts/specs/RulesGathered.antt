@@ -37,14 +37,18 @@ rules_gathered gathered = record {
   told = gathered.told.items;
 }
 
--- no text gives anything
-abbrev pub none_gathered : RulesGathered
-none_gathered = record { places = []; rules = []; told = [] }
+-- nothing is given
+abbrev pub none_given : RulesGathered
+none_given = record { places = []; rules = []; told = [] }
 
--- one rule more
-abbrev pub with_rule : RulesGathered → RuleLines → RuleGiven → RulesGathered
-with_rule g place rule = record { places = g.places ++ place ∷ []; rules = g.rules ++ rule ∷ []; told = g.told }
+-- one rule
+abbrev pub one_rule : RuleLines → RuleGiven → RulesGathered
+one_rule place rule = record { places = place ∷ []; rules = rule ∷ []; told = [] }
 
--- something more is told
-abbrev pub with_told : RulesGathered → List ℕ → RulesGathered
-with_told g more = record { places = g.places; rules = g.rules; told = g.told ++ more }
+-- no rule, and something is told
+abbrev pub told_alone : List ℕ → RulesGathered
+told_alone told = record { places = []; rules = []; told = told }
+
+-- both, one behind the other
+abbrev pub both_given : RulesGathered → RulesGathered → RulesGathered
+both_given a b = record { places = a.places ++ b.places; rules = a.rules ++ b.rules; told = a.told ++ b.told }

@@ -1,8 +1,8 @@
 //! The grammar of several texts.
-ghost use Rattle.std.specs.Prelude.{◌≡◌, map, IfOk};
+ghost use Rattle.std.specs.Prelude.{map, IfOk};
 ghost use Rattle.abnfjoin.specs.GivenRules.{text_rule};
-ghost use Rattle.abnftexts.specs.JoinedGrammar.{AreTextsJoined, gathered_joined, joined_of};
-ghost use Rattle.abnftexts.specs.JoinedViews.{grammar_joined};
+ghost use Rattle.abnftexts.specs.JoinedGrammar.{AreTextsJoined};
+ghost use Rattle.abnftexts.specs.JoinedViews.{IsGatheredJoined, IsStandingJoined, grammar_joined};
 ghost use Rattle.abnftexts.specs.RulesGathered.{lines_placed, named_text, rules_gathered};
 
 use crate::gathered::{Gathered, RulePlace, SourceText};
@@ -10,6 +10,8 @@ use crate::listed::listed_text;
 use crate::printed::{printed_text, push_clashes, push_none};
 use crate::stands::kept_standing;
 use crate::taken::take_texts;
+use crate::undefined::push_undefined;
+use crate::uses::uses_in;
 use abnfjoin::{GivenRule, find_clashes, find_fates, find_order};
 use ruletable::Memory;
 use std::alloc::Global;
@@ -35,14 +37,16 @@ fn join_standing(
     told: Vec<u8>,
     listed: Vec<u8>,
 ) -> Result<JoinedTexts, Memory>
-    ensures { IfOk result (λ joined. grammar_joined joined
-        ≡ joined_of (map lines_placed places.now) (map text_rule rules.now) told.items listed.items) }
+    ensures { IfOk result (λ joined. IsStandingJoined (map lines_placed places.now) (map text_rule rules.now)
+        told.items listed.items (grammar_joined joined)) }
 {
     let mut told = told;
     let order = find_order(alloc, rules)?;
     let grammar = printed_text(alloc, places, &order)?;
     let clashes = find_clashes(alloc, rules)?;
     push_clashes(&mut told, places, rules, &clashes)?;
+    let uses = uses_in(alloc, places, &order)?;
+    push_undefined(alloc, &mut told, rules, &uses)?;
     push_none(&mut told, rules)?;
     Ok(JoinedTexts {
         grammar,
@@ -54,7 +58,7 @@ fn join_standing(
 
 // Joins the rules that stand of what texts give.
 fn join_gathered(alloc: Global, gathered: Gathered<'_>) -> Result<JoinedTexts, Memory>
-    ensures { IfOk result (λ joined. grammar_joined joined ≡ gathered_joined (rules_gathered gathered.entry)) }
+    ensures { IfOk result (λ joined. IsGatheredJoined (rules_gathered gathered.entry) (grammar_joined joined)) }
 {
     let Gathered {
         places,
@@ -76,7 +80,8 @@ fn join_gathered(alloc: Global, gathered: Gathered<'_>) -> Result<JoinedTexts, M
 /// stand together: `; NAME:LINE`.
 ///
 /// A line that looks like a rule and is none is told, and so are two different definitions of a name, which both
-/// stand, and that there is no rule.
+/// stand. So is the first use of each name that neither a rule nor a core rule (RFC 5234, appendix B.1) has, and that
+/// there is no rule.
 ///
 /// # Errors
 /// `Memory` if an allocation fails.

@@ -3,6 +3,7 @@
 
 mod gathered;
 mod joined;
+mod laws;
 mod listed;
 mod own;
 mod printed;
@@ -10,7 +11,10 @@ mod run;
 mod stands;
 mod taken;
 mod told;
+mod undefined;
+mod uses;
 
 pub use gathered::SourceText;
 pub use joined::{JoinedTexts, join_texts};
+pub use laws::one_joining;
 pub use run::{JoinForm, run_join};

@@ -1,7 +1,7 @@
 //! The list of the rules that texts give.
 ghost use Rattle.std.specs.Prelude.{◌≡◌, ◌++◌, map, IfOk, OnOk};
 ghost use Rattle.abnfjoin.specs.GivenRules.{text_rule};
-ghost use Rattle.abnftexts.specs.JoinedGrammar.{fate_told, listed_from, numbered_place, rule_listed};
+ghost use Rattle.abnftexts.specs.JoinedGrammar.{fate_told, numbered_place, rule_listed, rules_listed};
 ghost use Rattle.abnftexts.specs.RulesGathered.{lines_placed};
 
 use crate::gathered::RulePlace;
@@ -67,7 +67,7 @@ pub(crate) fn listed_text(
     fates: &[Fate],
 ) -> Result<Vec<u8>, Memory>
     ensures { IfOk result (λ text. text.items
-        ≡ listed_from (map lines_placed places.now) (map text_rule rules.now) 0 fates.now) }
+        ≡ rules_listed (map lines_placed places.now) (map text_rule rules.now) fates.now) }
 {
     let mut out = Vec::new(alloc);
     for number in 0..fates.len() {

@@ -4,7 +4,7 @@ ghost use Rattle.abnfread.specs.AbnfViews.{rules_of};
 ghost use Rattle.abnfjoin.specs.GivenRules.{text_rule};
 ghost use Rattle.rfctext.specs.TextLines.{numbered};
 ghost use Rattle.abnftexts.specs.OwnReadings.{IsOwnReading};
-ghost use Rattle.abnftexts.specs.RulesTaken.{IsFirstGiven, adds_first as adds_there};
+ghost use Rattle.abnftexts.specs.TextRules.{IsFirstGiven, adds_first as adds_there};
 
 use abnfblocks::{adds_to_rule, joined_text};
 use abnfjoin::GivenRule;

@@ -3,8 +3,8 @@ ghost use Rattle.std.specs.Prelude.{◌≡◌, ◌++◌, None, map, option_map, 
 ghost use Rattle.std.specs.List.{flat_map};
 ghost use Rattle.abnfjoin.specs.GivenRules.{text_rule};
 ghost use Rattle.abnftexts.specs.JoinedGrammar.{clash_told, comment_before, first_number as first_in, goes_behind_it};
-ghost use Rattle.abnftexts.specs.JoinedGrammar.{last_number as last_in, numbered_name, numbered_place, printed_behind};
-ghost use Rattle.abnftexts.specs.JoinedGrammar.{none_told, rule_printed};
+ghost use Rattle.abnftexts.specs.JoinedGrammar.{last_number as last_in, none_told, numbered_name, numbered_place};
+ghost use Rattle.abnftexts.specs.JoinedGrammar.{ordered_rules, printed_behind, rule_printed};
 ghost use Rattle.abnftexts.specs.RulesGathered.{lines_placed};
 
 use crate::gathered::RulePlace;
@@ -83,7 +83,8 @@ pub(crate) fn printed_text(
     places: &[RulePlace<'_>],
     order: &[usize],
 ) -> Result<Vec<u8>, Memory>
-    ensures { IfOk result (λ text. text.items ≡ printed_behind (map lines_placed places.now) None order.now) }
+    ensures { IfOk result (λ text. text.items
+        ≡ printed_behind None (ordered_rules (map lines_placed places.now) order.now)) }
 {
     let mut out = Vec::new(alloc);
     let mut before: Option<&RulePlace<'_>> = None;

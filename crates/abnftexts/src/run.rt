@@ -1,5 +1,5 @@
 //! A run that joins texts.
-ghost use Rattle.std.specs.Prelude.{◌≡◌, false, map};
+ghost use Rattle.std.specs.Prelude.{◌≡◌, ◌≢◌, [], false, map};
 ghost use Rattle.abnfread.specs.AbnfViews.{rules_of};
 ghost use Rattle.abnfprint.specs.CanonicalAbnf.{grammar_text};
 ghost use Rattle.abnftexts.specs.JoinRun.{IsWrittenAs, JoinStates, JoinedReply, grammar_form, joined_status, no_input};
@@ -108,7 +108,8 @@ fn write_grammar<O: Sink>(
     is_canonical: bool,
     out: &mut O,
 ) -> Result<Stop, WriteFault>
-    requires { O.failed out.old ≡ false }
+    requires some { joined.now.grammar.items ≢ [] }
+    requires fresh { O.failed out.old ≡ false }
     ensures { Performs (λ input reply. JoinedReply (grammar_form is_canonical) (grammar_joined joined.now) reply)
         no_input (passed O.contents O.failed out.old out.new) result }
 {

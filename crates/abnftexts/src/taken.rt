@@ -3,8 +3,9 @@ ghost use Rattle.std.specs.Prelude.{◌≡◌, take, drop, map, IfOk, OnOk};
 ghost use Rattle.abnfblocks.specs.TextBlocks.{margin_at};
 ghost use Rattle.abnfjoin.specs.GivenRules.{text_rule};
 ghost use Rattle.rfctext.specs.TextLines.{numbered};
-ghost use Rattle.abnftexts.specs.RulesGathered.{lines_placed, named_text, none_gathered, rules_gathered, with_rule};
-ghost use Rattle.abnftexts.specs.RulesTaken.{TakesFound, TakesPiece, TakesRule, TakesText, TakesTexts};
+ghost use Rattle.abnftexts.specs.RulesGathered.{both_given, lines_placed, named_text, one_rule, rules_gathered};
+ghost use Rattle.abnftexts.specs.TakenRules.{TakesMore};
+ghost use Rattle.abnftexts.specs.TextRules.{GivesFound, GivesPiece, GivesRule, GivesText, GiveTexts};
 
 use crate::gathered::{Gathered, RulePlace, SourceText};
 use crate::own::{OwnReading, own_reading};
@@ -22,7 +23,7 @@ fn push_rule<'a>(
     rule: GivenRule,
 ) -> Result<(), Memory>
     ensures { OnOk result (rules_gathered gathered.new
-        ≡ with_rule (rules_gathered gathered.old) (lines_placed place.entry) (text_rule rule)) }
+        ≡ both_given (rules_gathered gathered.old) (one_rule (lines_placed place.entry) (text_rule rule))) }
 {
     gathered.places.push(place)?;
     gathered.rules.push(rule)?;
@@ -47,7 +48,7 @@ fn place_of<'a>(
     })
 }
 
-// Takes the lines of a rule.
+// TakesMore the lines of a rule.
 fn take_rule<'a>(
     alloc: Global,
     gathered: &mut Gathered<'a>,
@@ -55,7 +56,7 @@ fn take_rule<'a>(
     margin_size: usize,
     lines: &[TextLine<'a>],
 ) -> Result<(), Memory>
-    ensures { OnOk result (TakesRule name.now margin_size (map numbered lines.now)
+    ensures { OnOk result (TakesMore (GivesRule name.now margin_size (map numbered lines.now))
         (rules_gathered gathered.old) (rules_gathered gathered.new)) }
 {
     match own_reading(alloc, margin_size, lines)? {
@@ -81,14 +82,14 @@ fn margin_in(lines: &[TextLine<'_>]) -> usize
     }
 }
 
-// Takes the lines of a piece, rule by rule.
+// TakesMore the lines of a piece, rule by rule.
 fn take_piece<'a>(
     alloc: Global,
     gathered: &mut Gathered<'a>,
     name: &'a [u8],
     lines: &[TextLine<'a>],
 ) -> Result<(), Memory>
-    ensures { OnOk result (TakesPiece name.now (margin_at (map numbered lines.now)) (map numbered lines.now)
+    ensures { OnOk result (TakesMore (GivesPiece name.now (margin_at (map numbered lines.now)) (map numbered lines.now))
         (rules_gathered gathered.old) (rules_gathered gathered.new)) }
 {
     let margin_size = margin_in(lines);
@@ -116,7 +117,7 @@ fn lines_before<'a, 'b>(lines: &'b [TextLine<'a>], count: usize) -> &'b [TextLin
     &lines[..count.min(lines.len())]
 }
 
-// Takes what is found there among the lines that are kept of a text.
+// TakesMore what is found there among the lines that are kept of a text.
 fn take_found<'a>(
     alloc: Global,
     gathered: &mut Gathered<'a>,
@@ -124,7 +125,7 @@ fn take_found<'a>(
     kept: &[TextLine<'a>],
     found: &[Found],
 ) -> Result<(), Memory>
-    ensures { OnOk result (TakesFound name.now (map numbered kept.now) found.now
+    ensures { OnOk result (TakesMore (GivesFound name.now (map numbered kept.now) found.now)
         (rules_gathered gathered.old) (rules_gathered gathered.new)) }
 {
     for it in found {
@@ -141,13 +142,13 @@ fn take_found<'a>(
     Ok(())
 }
 
-// Takes a text.
+// TakesMore a text.
 fn take_text<'a>(
     alloc: Global,
     gathered: &mut Gathered<'a>,
     text: SourceText<'a>,
 ) -> Result<(), Memory>
-    ensures { OnOk result (TakesText (named_text text.entry)
+    ensures { OnOk result (TakesMore (GivesText (named_text text.entry))
         (rules_gathered gathered.old) (rules_gathered gathered.new)) }
 {
     let kept = kept_lines(alloc, text.bytes)?;
@@ -163,8 +164,7 @@ pub(crate) fn take_texts<'a>(
     alloc: Global,
     texts: &[SourceText<'a>],
 ) -> Result<Gathered<'a>, Memory>
-    ensures { IfOk result (λ gathered. TakesTexts (map named_text texts.now) none_gathered
-        (rules_gathered gathered)) }
+    ensures { IfOk result (λ gathered. GiveTexts (map named_text texts.now) (rules_gathered gathered)) }
 {
     let mut gathered = Gathered {
         places: Vec::new(alloc),

@@ -1,9 +1,11 @@
 use Rattle.std.proofs.Common.{◌≡◌, ◌++◌, map, take, drop}
-use Rattle.abnfjoin.specs.GivenRules.{text_rule, fates_from, fates_of}
+use Rattle.std.specs.List.{enumerate_from}
+use Rattle.abnfjoin.specs.GivenRules.{text_rule, fate_of, fates_of}
 use Rattle.abnfjoin.proofs.fate.find_fates.Given as goal
 
 -- the fates of the rules to come complete those so far
 abbrev pub invariant-loop-number : goal.invariant-loop-number
-invariant-loop-number l = l.fates.items ++ fates_from (map text_rule l.rules) (take l.number (map text_rule l.rules))
-    (drop l.number (map text_rule l.rules))
-    ≡ fates_of (map text_rule l.rules)
+invariant-loop-number l =
+    let rows = map text_rule l.rules in
+    l.fates.items ++ map (λ p. fate_of rows (take p.0 rows) p.1) (enumerate_from l.number (drop l.number rows))
+    ≡ fates_of rows

@@ -1,7 +1,8 @@
-use Rattle.std.proofs.Common.{◌≡◌, subst, IfOk}
-use Rattle.abnftexts.specs.JoinedGrammar.{GrammarJoined}
-use Rattle.abnftexts.specs.JoinedViews.{grammar_joined}
-use Rattle.abnftexts.proofs.JoinedGrammarLemmas.{gathered-all}
+use Rattle.std.proofs.Common.{map}
+use Rattle.abnfjoin.specs.GivenRules.{text_rule}
+use Rattle.abnftexts.specs.JoinedViews.{IsGatheredJoined, IsStandingJoined, grammar_joined}
+use Rattle.abnftexts.specs.RulesGathered.{lines_placed, rules_gathered}
+use Rattle.abnftexts.proofs.JoinedGrammarLemmas.{gathered-all, ok-more}
 use Rattle.abnftexts.proofs.joined.join_gathered.Goals as goal
 
 pub returns : goal.returns
@@ -12,7 +13,10 @@ returns c =
     let places = rw c.deref-5.ensures.value at c.in_ok-standing_places.ensures in
     let rules = rw c.deref-6.ensures.value at c.in_ok-standing_rules.ensures in
     let joins = rw (c.deref-7.ensures.value, c.deref-8.ensures.value) at c.join_standing.ensures in
-    subst (λ (g : GrammarJoined). IfOk c.join_standing.result (λ j. grammar_joined j ≡ g))
-    (gathered-all c.args.gathered.places.items c.in_ok-standing_places.standing_places.items
+    ok-more (λ j. IsStandingJoined (map lines_placed c.in_ok-standing_places.standing_places.items)
+    (map text_rule c.in_ok-standing_rules.standing_rules.items) c.args.gathered.told.items
+    c.in_ok-listed.listed.items (grammar_joined j))
+    (λ j. IsGatheredJoined (rules_gathered c.args.gathered) (grammar_joined j)) c.join_standing.result
+    (λ j h. gathered-all c.args.gathered.places.items c.in_ok-standing_places.standing_places.items
     c.args.gathered.rules.items c.in_ok-standing_rules.standing_rules.items c.args.gathered.told.items
-    c.in_ok-listed.listed.items c.in_ok-fates.fates.items fates list places rules) joins
+    c.in_ok-listed.listed.items c.in_ok-fates.fates.items (grammar_joined j) fates list places rules h) joins

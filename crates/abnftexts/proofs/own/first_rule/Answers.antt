@@ -3,7 +3,7 @@ use Rattle.std.specs.Prelude.{slice_get}
 use Rattle.ruletable.specs.Rules as table
 use Rattle.abnfread.specs.AbnfViews.{element_of, rule_of}
 use Rattle.abnfread.specs.declared.elem.Elem.{Elem}
-use Rattle.abnftexts.specs.RulesTaken.{IsFirstGiven}
+use Rattle.abnftexts.specs.TextRules.{IsFirstGiven}
 use Rattle.abnftexts.proofs.own.first_rule.Goals as goal
 
 first-given : (rules : List (table.Rule Elem)) (adds : Bool) (n m : List ℕ) (b e : Elem)

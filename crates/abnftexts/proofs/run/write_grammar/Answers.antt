@@ -1,21 +1,22 @@
 use Rattle.abnfread.specs.AbnfViews.{rules_of}
 use Rattle.abnftexts.specs.JoinRun.{grammar_form}
 use Rattle.abnftexts.specs.JoinedViews.{grammar_joined}
-use Rattle.abnftexts.proofs.JoinRunLemmas.{canonical-written, fault-stops, plain-written}
+use Rattle.abnftexts.proofs.JoinRunLemmas.{canonical-written, fault-stops, grammar-no_list, plain-written}
 use Rattle.abnftexts.proofs.run.write_grammar.Goals as goal
 
 pub write_canonical-requires-clause-text : goal.write_canonical-requires-clause-text
 write_canonical-requires-clause-text g c =
     let found = c.in-Ok.ensures.found in
     canonical-written (grammar_joined c.args.joined.now) c.deref.result.now found.0 (rules_of c.in-Ok.abnf.rules)
-    c.deref.ensures.value found.1 found.2.kept
+    c.requires.some c.deref.ensures.value found.1 found.2.kept
 
 pub write_text-requires-clause-text : goal.write_text-requires-clause-text
 write_text-requires-clause-text g c =
     let found = c.in-Ok.ensures.found in
     plain-written (grammar_joined c.args.joined.now) c.deref.result.now c.deref-else-is_canonical.result.now found.0
-    c.deref.ensures.value found.1 c.deref-else-is_canonical.ensures.value
+    c.requires.some c.deref.ensures.value found.1 c.deref-else-is_canonical.ensures.value
 
 pub returns : goal.returns
 returns g c = fault-stops (grammar_form c.args.is_canonical) (grammar_joined c.args.joined.now) c.deref.result.now
-    c.in-Err.fault c.stop_at.result _ _ c.deref.ensures.value c.in-Err.ensures.fault c.stop_at.ensures
+    c.in-Err.fault c.stop_at.result _ _ (grammar-no_list c.args.is_canonical) c.requires.some c.deref.ensures.value
+    c.in-Err.ensures.fault c.stop_at.ensures

@@ -1,11 +1,12 @@
 use Rattle.std.proofs.Common.{map, drop}
 use Rattle.rfctext.specs.TextLines.{numbered}
 use Rattle.abnftexts.specs.RulesGathered.{RulesGathered, rules_gathered}
-use Rattle.abnftexts.specs.RulesTaken.{TakesFound}
+use Rattle.abnftexts.specs.TakenRules.{TakesMore}
+use Rattle.abnftexts.specs.TextRules.{GivesFound}
 use Rattle.abnftexts.proofs.taken.take_found.Given as goal
 
 -- what is found behind completes what was taken so far
 abbrev pub invariant-loop-it : goal.invariant-loop-it
 invariant-loop-it l = (end : RulesGathered)
-    → TakesFound l.name (map numbered l.kept) (drop l.it-index l.found) (rules_gathered l.gathered) end
-    → TakesFound l.name (map numbered l.kept) l.found (rules_gathered l.fn.gathered) end
+    → TakesMore (GivesFound l.name (map numbered l.kept) (drop l.it-index l.found)) (rules_gathered l.gathered) end
+    → TakesMore (GivesFound l.name (map numbered l.kept) l.found) (rules_gathered l.fn.gathered) end

@@ -1,0 +1,75 @@
+-- Texts have one joined grammar, and a run that joins them has one reply.
+-- Serves: one_joining
+use Rattle.std.proofs.Common.{◌≡◌, ◌≢◌, ℕ, List, [], refl, sym, ap, ◌∙◌, subst}
+use Rattle.ruletable.specs.declared.fault.ReadFault.{ReadFault}
+use Rattle.ruletable.specs.declared.fault.ReadFault.TheVariants as faults
+use Rattle.abnfread.specs.AbnfReading.{IsFaultOf}
+use Rattle.abnfread.specs.Element.{Definition}
+use Rattle.toolrun.specs.Input.{Input}
+use Rattle.toolrun.specs.Plan.{stopped}
+use Rattle.toolrun.specs.Reply.{Reply}
+use Rattle.toolrun.specs.declared.stop.Stop.TheVariants.{Refused}
+use Rattle.abnftexts.specs.JoinRun.{IsWrittenAs, JoinStates, JoinedReply, a_list, as_it_is, canonical, canonical_of}
+use Rattle.abnftexts.specs.JoinRun.{joined_status, joins, no_memory, no_room, nothing, refused, text_written, writes}
+use Rattle.abnftexts.specs.JoinedGrammar.{AreTextsJoined, GrammarJoined, UsesPrinted, gathered_joined, standing_places}
+use Rattle.abnftexts.specs.JoinedGrammar.{standing_rules}
+use Rattle.abnftexts.specs.RulesGathered.{NamedText, RulesGathered}
+use Rattle.abnftexts.specs.UsedNames.{UsedName}
+use Rattle.abnftexts.specs.declared.run.JoinForm.{JoinForm}
+use Rattle.abnftexts.specs.declared.run.JoinForm.TheVariants.{Listed}
+use Rattle.abnftexts.proofs.TextRulesLemmas.{OneReading, texts-same, uses-same}
+
+module _ (one : OneReading) where
+  pub joined-same : (texts : List NamedText) (a b : GrammarJoined) → AreTextsJoined texts a → AreTextsJoined texts b
+      → a ≡ b
+  joined-same texts a b x y =
+      let same : x.gathered ≡ y.gathered = texts-same one x.gives y.gives in
+      let here : UsesPrinted (standing_places y.gathered) (standing_rules y.gathered) x.uses =
+      subst (λ (g : RulesGathered). UsesPrinted (standing_places g) (standing_rules g) x.uses) same x.are_uses in
+      let uses : x.uses ≡ y.uses = uses-same one here y.are_uses in
+      x.is ∙ ap (λ (g : RulesGathered). gathered_joined g x.uses) same
+      ∙ ap (λ (us : List UsedName). gathered_joined y.gathered us) uses ∙ sym y.is
+
+  module _ (j : GrammarJoined) where
+    written-same : {form : JoinForm} {t u : List ℕ} → IsWrittenAs j form t → IsWrittenAs j form u → t ≡ u
+    written-same a_list a_list = refl
+    written-same a_list (nothing no_list e) = absurd (no_list refl)
+    written-same (nothing no_list e) a_list = absurd (no_list refl)
+    written-same (nothing n e) (nothing m f) = refl
+    written-same (nothing n e) (as_it_is some reads) = absurd (some e)
+    written-same (nothing n e) (canonical some reads) = absurd (some e)
+    written-same (as_it_is some reads) (nothing n e) = absurd (some e)
+    written-same (as_it_is some reads) (as_it_is some_too reads_too) = refl
+    written-same (canonical some reads) (nothing n e) = absurd (some e)
+    written-same (canonical some reads) (canonical some_too reads_too) =
+        ap (λ (ds : List Definition). canonical_of ds) (one.definitions _ _ _ reads reads_too)
+
+    -- what is written is refused for no fault
+    not-refused : {form : JoinForm} {t : List ℕ} → IsWrittenAs j form t → form ≢ Listed → (fault : ReadFault)
+        → IsFaultOf j.grammar fault → fault ≢ faults.Memory → j.grammar ≢ [] → ⊥
+    not-refused a_list no_list fault f n some = no_list refl
+    not-refused (nothing m e) no_list fault f n some = some e
+    not-refused (as_it_is more reads) no_list fault f n some = one.no_fault _ _ fault f n reads
+    not-refused (canonical more reads) no_list fault f n some = one.no_fault _ _ fault f n reads
+
+    reply-same : {form : JoinForm} {a b : Reply} → JoinedReply form j a → JoinedReply form j b → a.status ≢ 5
+        → b.status ≢ 5 → a ≡ b
+    reply-same (writes t) (writes u) p q =
+        ap (λ (text : List ℕ). text_written text (joined_status j)) (written-same t u)
+    reply-same (writes t) (refused no_list some f n) p q = absurd (not-refused t no_list _ f n some)
+    reply-same (writes t) no_memory p q = absurd (q refl)
+    reply-same (refused no_list some f n) (writes t) p q = absurd (not-refused t no_list _ f n some)
+    reply-same (refused l s f n) (refused k r g m) p q =
+        ap (λ (fault : ReadFault). stopped (Refused fault)) (one.one_fault _ _ _ f g n m)
+    reply-same (refused l s f n) no_memory p q = absurd (q refl)
+    reply-same no_memory r p q = absurd (p refl)
+
+  pub stated-same : (texts : List NamedText) {form : JoinForm} {input : Input} {notes others : List ℕ} {a b : Reply}
+      → JoinStates texts form input notes a → JoinStates texts form input others b → a.status ≢ 5 → b.status ≢ 5
+      → (notes ≡ others) × (a ≡ b)
+  stated-same texts {form} (joins {j} {reply} x r) (joins {j = k} {reply = other} y s) p q =
+      let same : j ≡ k = joined-same texts j k x y in
+      let here : JoinedReply form k reply = subst (λ (g : GrammarJoined). JoinedReply form g reply) same r in
+      (ap (λ (g : GrammarJoined). g.told) same, reply-same k here s p q)
+  stated-same texts (joins x r) no_room p q = absurd (q refl)
+  stated-same texts no_room s p q = absurd (p refl)

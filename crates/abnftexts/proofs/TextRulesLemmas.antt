@@ -1,0 +1,112 @@
+-- What texts give is one list of rules, and one text that is told; and the names that rules use are one list.
+-- Serves: one_joining
+use Rattle.std.proofs.Common.{◌≡◌, ◌≢◌, ℕ, Bool, List, [], ◌∷◌, ◌++◌, None, drop, map, refl, sym, ap, ◌∙◌, subst}
+use Rattle.std.specs.List.{flat_map}
+use Rattle.lexer.specs.TokenLists.{Tok}
+use Rattle.noteplaces.specs.BodyMentions.{mentions_in}
+use Rattle.noteplaces.specs.DefinitionHeads.{SignAt, sign_at}
+use Rattle.ruletable.specs.declared.lines.LineRule.TheVariants.{Lf}
+use Rattle.abnfread.specs.MarkedTokens.{AreTokens}
+use Rattle.abnfread.specs.declared.kind.AbnfKind.{AbnfKind}
+use Rattle.abnfexplain.specs.AbnfNoteLines.{sign_of}
+use Rattle.ruletable.specs.declared.fault.ReadFault.{ReadFault}
+use Rattle.ruletable.specs.declared.fault.ReadFault.TheVariants as faults
+use Rattle.abnfread.specs.AbnfReading.{IsFaultOf, Reads}
+use Rattle.abnfread.specs.AbnfTable.{firsts}
+use Rattle.abnfread.specs.CoreRules.{core_list}
+use Rattle.abnfread.specs.Element.{Definition, Rule, body_of}
+use Rattle.abnfjoin.specs.GivenRules.{RuleGiven}
+use Rattle.rfctext.specs.Furniture.{KeepsLines}
+use Rattle.rfctext.specs.TextLines.{NumberedLine}
+use Rattle.abnfblocks.specs.FoundBlocks.{AreFound}
+use Rattle.abnfblocks.specs.TextBlocks.{block_text}
+use Rattle.abnfblocks.specs.declared.found.Found.{Found}
+use Rattle.abnftexts.specs.RulesGathered.{NamedText, RuleLines, RulesGathered, both_given, one_rule, told_alone}
+use Rattle.abnftexts.specs.TextPlaces.{not_abnf_told}
+use Rattle.abnftexts.specs.TextRules.{GivesFound, GivesPiece, GivesRule, GivesText, GiveTexts, IsFirstGiven, SpellRule}
+use Rattle.abnftexts.specs.TextRules.{a_rule, adds_first, next_piece, next_rule, next_text, no_lines, no_piece, no_rule}
+use Rattle.abnftexts.specs.TextRules.{no_texts, none_found}
+use Rattle.abnftexts.specs.UsedNames.{AreRuleUses, AreNameUses, UsedName, next_uses, no_rules, used_at}
+
+first-same : (rules : List Rule) (adds : Bool) (a b : RuleGiven) → IsFirstGiven rules adds a → IsFirstGiven rules adds b
+    → a ≡ b
+first-same [] adds a b x y = absurd x
+first-same (rule ∷ rules) adds a b x y = x ∙ sym y
+
+both-same : (a b c d : RulesGathered) → a ≡ b → c ≡ d → both_given a c ≡ both_given b d
+both-same a b c d e f = rw (e, f) refl
+
+-- what is known of readings, of lines that are kept, of what is found, and of tokens
+pub record OneReading : Type 0 where
+  pub definitions : (text : List ℕ) (a b : List Definition) → Reads text a → Reads text b → a ≡ b
+  pub no_fault : (text : List ℕ) (definitions : List Definition) (fault : ReadFault) → IsFaultOf text fault
+      → fault ≢ faults.Memory → Reads text definitions → ⊥
+  pub one_fault : (text : List ℕ) (a b : ReadFault) → IsFaultOf text a → IsFaultOf text b → a ≢ faults.Memory
+      → b ≢ faults.Memory → a ≡ b
+  pub kept : (lines a b : List NumberedLine) → KeepsLines [] lines a → KeepsLines [] lines b → a ≡ b
+  pub found : (i : ℕ) (lines : List NumberedLine) (a b : List Found) → AreFound i lines a → AreFound i lines b → a ≡ b
+  pub tokens : (text : List ℕ) (a b : List (Tok AbnfKind)) → AreTokens text a → AreTokens text b → a ≡ b
+
+module _ (one : OneReading) where
+  spell-same : (margin : ℕ) (lines : List NumberedLine) (a b : RuleGiven) → SpellRule margin lines a
+      → SpellRule margin lines b → a ≡ b
+  spell-same margin lines a b x y =
+      let same : x.definitions ≡ y.definitions =
+      one.definitions (block_text margin lines) x.definitions y.definitions x.reads y.reads in
+      let first : IsFirstGiven (firsts (body_of core_list) [] y.definitions) (adds_first lines) a =
+      subst (λ (ds : List Definition). IsFirstGiven (firsts (body_of core_list) [] ds) (adds_first lines) a) same
+      x.is_first in
+      first-same (firsts (body_of core_list) [] y.definitions) (adds_first lines) a b first y.is_first
+
+  module _ (name : List ℕ) where
+    rule-same : {margin : ℕ} {lines : List NumberedLine} {a b : RulesGathered} → GivesRule name margin lines a
+        → GivesRule name margin lines b → a ≡ b
+    rule-same {margin} {lines} (a_rule x) (a_rule y) =
+        ap (λ (r : RuleGiven). one_rule (record { name = name; margin = margin; lines = lines }) r)
+        (spell-same margin lines _ _ x y)
+    rule-same (a_rule x) (no_rule f n) = absurd (one.no_fault _ _ _ f n x.reads)
+    rule-same (no_rule f n) (a_rule y) = absurd (one.no_fault _ _ _ f n y.reads)
+    rule-same {margin} {lines} (no_rule f n) (no_rule g m) =
+        ap (λ (fault : ReadFault). told_alone (not_abnf_told name lines fault)) (one.one_fault _ _ _ f g n m)
+
+    piece-same : {margin : ℕ} {lines : List NumberedLine} {a b : RulesGathered} → GivesPiece name margin lines a
+        → GivesPiece name margin lines b → a ≡ b
+    piece-same no_lines no_lines = refl
+    piece-same (next_rule x h) (next_rule y k) = both-same _ _ _ _ (rule-same x y) (piece-same h k)
+
+    found-same : {kept : List NumberedLine} {all : List Found} {a b : RulesGathered} → GivesFound name kept all a
+        → GivesFound name kept all b → a ≡ b
+    found-same none_found none_found = refl
+    found-same (next_piece x h) (next_piece y k) = both-same _ _ _ _ (piece-same x y) (found-same h k)
+    found-same {kept} (no_piece {first} {fault} h) (no_piece k) =
+        ap (λ (x : RulesGathered). both_given (told_alone (not_abnf_told name (drop first kept) fault)) x)
+        (found-same h k)
+
+  text-same : (text : NamedText) (a b : RulesGathered) → GivesText text a → GivesText text b → a ≡ b
+  text-same text a b x y =
+      let kept : x.kept ≡ y.kept = one.kept _ x.kept y.kept x.keeps y.keeps in
+      let here : AreFound 0 y.kept x.all_found =
+      subst (λ (lines : List NumberedLine). AreFound 0 lines x.all_found) kept x.are_found in
+      let all : x.all_found ≡ y.all_found = one.found 0 y.kept x.all_found y.all_found here y.are_found in
+      let gives : GivesFound text.name y.kept x.all_found a =
+      subst (λ (lines : List NumberedLine). GivesFound text.name lines x.all_found a) kept x.gives in
+      found-same text.name
+      (subst (λ (found : List Found). GivesFound text.name y.kept found a) all gives) y.gives
+
+  pub texts-same : {texts : List NamedText} {a b : RulesGathered} → GiveTexts texts a → GiveTexts texts b → a ≡ b
+  texts-same no_texts no_texts = refl
+  texts-same (next_text x h) (next_text y k) = both-same _ _ _ _ (text-same _ _ _ x y) (texts-same h k)
+
+  rule-uses : (place : RuleLines) (a b : List UsedName) → AreRuleUses place a → AreRuleUses place b → a ≡ b
+  rule-uses place a b x y =
+      let text = block_text place.margin place.lines in
+      let signs : List (Tok AbnfKind) → List SignAt = λ ts. map (sign_at sign_of) ts in
+      x.are
+      ∙ ap (λ (ts : List (Tok AbnfKind)). flat_map (used_at place) (mentions_in Lf text None (signs ts)))
+      (one.tokens text x.tokens y.tokens x.are_tokens y.are_tokens) ∙ sym y.are
+
+  pub uses-same : {places : List RuleLines} {a b : List UsedName} → AreNameUses places a → AreNameUses places b → a ≡ b
+  uses-same no_rules no_rules = refl
+  uses-same (next_uses {place} {here} {behind} x h) (next_uses {here = other} y k) =
+      ap (λ (us : List UsedName). us ++ behind) (rule-uses place here other x y)
+      ∙ ap (λ (us : List UsedName). other ++ us) (uses-same h k)

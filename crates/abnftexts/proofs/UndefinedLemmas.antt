@@ -1,0 +1,167 @@
+-- Names that are used and not defined, one by one.
+-- Serves: join_texts
+use Rattle.std.proofs.Common.{◌≡◌, ℕ, suc, ◌+◌, ◌<◌, ◌≤◌, Bool, true, false, List, [], ◌∷◌, ◌++◌, length, get_or, map}
+use Rattle.std.proofs.Common.{take, drop, refl, sym, ap, ◌∙◌, arith, append_assoc, append-nil, subst, Option}
+use Rattle.std.proofs.Common.{Some, None, cond, not, ◌||◌, nat_lt}
+use Rattle.std.proofs.Math.Seq.{drop-cons}
+use Rattle.std.proofs.lemmas.List.{at_drop_all, get_or-map, length-map, take-map}
+use Rattle.std.proofs.lemmas.Bool.Decides.{nat_tests}
+use Rattle.std.specs.List.{enumerate_from, flat_map, list_any, position_or_len}
+use Rattle.std.specs.Option.{is_some}
+use Rattle.std.specs.Prelude.{position, slice_get}
+use Rattle.noteplaces.specs.BodyMentions.{MentionedAt, mentioned_at}
+use Rattle.noteplaces.specs.declared.places.Places.{Places}
+use Rattle.ruletable.specs.Rules as table
+use Rattle.ruletable.specs.Rules.{same_name}
+use Rattle.ruletable.specs.declared.table.NameCase.{NameCase}
+use Rattle.ruletable.specs.declared.table.NameCase.TheVariants.{Fold}
+use Rattle.abnfread.specs.AbnfTable.{IsCoreTable}
+use Rattle.abnfread.specs.AbnfViews.{rule_of}
+use Rattle.abnfread.specs.CoreRules.{core_names}
+use Rattle.abnfread.specs.Element.{Rule}
+use Rattle.abnfread.specs.declared.elem.Elem.{Elem}
+use Rattle.abnfexplain.specs.AbnfNoteLines.{AreAbnfPlaces}
+use Rattle.abnfblocks.specs.TextBlocks.{block_text}
+use Rattle.abnfjoin.specs.GivenRules.{RuleGiven}
+use Rattle.abnftexts.specs.JoinedGrammar.{ordered_rules}
+use Rattle.abnftexts.specs.CodeUses.{AddsUses, name_used}
+use Rattle.abnftexts.specs.RulesGathered.{RuleLines}
+use Rattle.abnftexts.specs.UsedNames.{AreNameUses, UsedName, next_uses, no_rules, undefined_told, use_told, used_at}
+use Rattle.abnftexts.specs.declared.uses.NameUse.{NameUse}
+use Rattle.abnftexts.proofs.RulesTakenLemmas.{one-behind}
+
+-- what the uses from that number on tell
+abbrev pub told-from : List RuleGiven → List UsedName → ℕ → List UsedName → List ℕ
+told-from rules uses n some = flat_map (λ p. use_told rules (take p.0 uses) p.1) (enumerate_from n some)
+
+use-behind : (uses : List NameUse) (n : ℕ) (x : NameUse) → n < length uses → x ≡ get_or uses n x
+    → drop n (map name_used uses) ≡ name_used x ∷ drop (n + 1) (map name_used uses)
+use-behind uses n x lt e =
+    let next : suc n ≡ n + 1 = omega arith in
+    let here : get_or (map name_used uses) n (name_used x) ≡ name_used x =
+    get_or-map name_used uses n x (name_used x) lt ∙ ap name_used (sym e) in
+    drop-cons (map name_used uses) n (name_used x) (omega (arith, length-map uses name_used))
+    ∙ ap (λ (u : UsedName). u ∷ drop (suc n) (map name_used uses)) here
+    ∙ ap (λ (k : ℕ). name_used x ∷ drop k (map name_used uses)) next
+
+pub told-more : (rules : List RuleGiven) (uses : List NameUse) (n : ℕ) (x : NameUse) (old new all : List ℕ)
+    → n < length uses → x ≡ get_or uses n x
+    → new ≡ old ++ use_told rules (map name_used (take n uses)) (name_used x)
+    → old ++ told-from rules (map name_used uses) n (drop n (map name_used uses)) ≡ all
+    → new ++ told-from rules (map name_used uses) (n + 1) (drop (n + 1) (map name_used uses)) ≡ all
+told-more rules uses n x old new all lt e more h =
+    let rows : List UsedName = map name_used uses in
+    let rest = told-from rules rows (n + 1) (drop (n + 1) rows) in
+    let same : map name_used (take n uses) ≡ take n rows = sym (take-map name_used n uses) in
+    let here = use_told rules (take n rows) (name_used x) in
+    let step : told-from rules rows n (drop n rows) ≡ here ++ rest =
+    ap (λ (us : List UsedName). told-from rules rows n us) (use-behind uses n x lt e) in
+    ap (λ (z : List ℕ). z ++ rest) (more ∙ ap (λ (us : List UsedName). old ++ use_told rules us (name_used x)) same)
+    ∙ append_assoc old here rest ∙ ap (λ (z : List ℕ). old ++ z) (sym step) ∙ h
+
+pub told-all : (rules : List RuleGiven) (uses : List NameUse) (n : ℕ) (start now : List ℕ) → length uses ≤ n
+    → now ++ told-from rules (map name_used uses) n (drop n (map name_used uses))
+    ≡ start ++ undefined_told rules (map name_used uses)
+    → now ≡ start ++ undefined_told rules (map name_used uses)
+told-all rules uses n start now le h =
+    let rows : List UsedName = map name_used uses in
+    let done : drop n rows ≡ [] = at_drop_all (λ xs. xs) rows n (omega (arith, length-map uses name_used)) in
+    let none : told-from rules rows n (drop n rows) ≡ [] =
+    ap (λ (us : List UsedName). told-from rules rows n us) done in
+    sym (append-nil now) ∙ ap (λ (z : List ℕ). now ++ z) (sym none) ∙ h
+
+-- a place is found where some element passes
+found-some : {A : Type 0} (p : A → Bool) (xs : List A) → is_some (position p xs) ≡ list_any p xs
+found-some {A} p xs = there (nat_lt (position_or_len p xs) (length xs)) (position_or_len p xs) ∙ below xs
+  where
+    there : (b : Bool) (k : ℕ) → is_some (cond b (Some k) None) ≡ b
+    there true k = refl
+    there false k = refl
+
+    step : (b c : Bool) (k n : ℕ) → nat_lt k n ≡ c → nat_lt (cond (not b) (1 + k) 0) (suc n) ≡ (b || c)
+    step true c k n h = grind (arith, nat_tests)
+    step false true k n h = grind (arith, nat_tests)
+    step false false k n h = grind (arith, nat_tests)
+
+    below : (xs : List A) → nat_lt (position_or_len p xs) (length xs) ≡ list_any p xs
+    below [] = refl
+    below (x ∷ xs) = step (p x) (list_any p xs) (position_or_len p xs) (length xs) (below xs)
+
+any-named : (name : List ℕ) (rules : List (table.Rule Elem))
+    → list_any (λ rule. same_name Fold name rule.name) rules
+    ≡ list_any (same_name Fold name) (map (λ (rule : Rule). rule.name) (map rule_of rules))
+any-named name [] = refl
+any-named name (rule ∷ rules) = ap (λ (b : Bool). same_name Fold name rule.name || b) (any-named name rules)
+
+pub core-any : (name : List ℕ) (core : table.Rules Elem) (found : Option ℕ) → IsCoreTable core
+    → found ≡ table.find_in core name → is_some found ≡ list_any (same_name Fold name) core_names
+core-any name core found is e =
+    ap (λ (o : Option ℕ). is_some o)
+    (e ∙ ap (λ (c : NameCase). position (λ rule. same_name c name rule.name) core.rules) is.names)
+    ∙ found-some (λ rule. same_name Fold name rule.name) core.rules ∙ any-named name core.rules
+    ∙ ap (λ (rules : List Rule). list_any (same_name Fold name) (map (λ rule. rule.name) rules)) is.listed
+
+-- the uses of a rule
+pub uses-added : (place : RuleLines) (text : List ℕ) (places : Places) (mentions : List MentionedAt)
+    (old new : List UsedName) → AreAbnfPlaces text places → text ≡ block_text place.margin place.lines
+    → mentions ≡ map mentioned_at places.mentions.items
+    → new ≡ old ++ flat_map (used_at place) mentions → AddsUses place old new
+uses-added place text places mentions old new are same all more =
+    let here : AreAbnfPlaces (block_text place.margin place.lines) places =
+    subst (λ (t : List ℕ). AreAbnfPlaces t places) same are in (
+      flat_map (used_at place) mentions,
+      record {
+        tokens = here.tokens;
+        are_tokens = here.are_tokens;
+        are = ap (λ (ms : List MentionedAt). flat_map (used_at place) ms) (all ∙ here.mentions_are);
+      },
+      more,
+    )
+
+module _ (places : List RuleLines) (order : List ℕ) (i : ℕ) where
+  pub place-used : (place : RuleLines) (old new more : List UsedName) → i < length order
+      → slice_get places (get_or order i 0) ≡ Some place → AddsUses place old new
+      → ((rest : List UsedName) → AreNameUses (ordered_rules places (drop i order)) rest
+      → AreNameUses (ordered_rules places order) (old ++ rest))
+      → AreNameUses (ordered_rules places (drop (i + 1) order)) more
+      → AreNameUses (ordered_rules places order) (new ++ more)
+  place-used place old new more lt is added before rest =
+      let rows = ordered_rules places (drop (i + 1) order) in
+      let front : ordered_rules places (drop i order) ≡ ordered_rules places (get_or order i 0 ∷ drop (i + 1) order) =
+      ap (λ (ns : List ℕ). ordered_rules places ns) (one-behind order i 0 lt) in
+      let here : ordered_rules places (get_or order i 0 ∷ drop (i + 1) order) ≡ place ∷ rows = rw is refl in
+      let whole : AreNameUses (ordered_rules places (drop i order)) (added.0 ++ more) =
+      subst (λ (ps : List RuleLines). AreNameUses ps (added.0 ++ more)) (sym (front ∙ here)) (next_uses added.1 rest) in
+      subst (λ (us : List UsedName). AreNameUses (ordered_rules places order) us)
+      (sym (ap (λ (us : List UsedName). us ++ more) added.2 ∙ append_assoc old added.0 more))
+      (before (added.0 ++ more) whole)
+
+  pub no_place-used : (old new more : List UsedName) → i < length order
+      → slice_get places (get_or order i 0) ≡ None → new ≡ old
+      → ((rest : List UsedName) → AreNameUses (ordered_rules places (drop i order)) rest
+      → AreNameUses (ordered_rules places order) (old ++ rest))
+      → AreNameUses (ordered_rules places (drop (i + 1) order)) more
+      → AreNameUses (ordered_rules places order) (new ++ more)
+  no_place-used old new more lt is same before rest =
+      let rows = ordered_rules places (drop (i + 1) order) in
+      let front : ordered_rules places (drop i order) ≡ ordered_rules places (get_or order i 0 ∷ drop (i + 1) order) =
+      ap (λ (ns : List ℕ). ordered_rules places ns) (one-behind order i 0 lt) in
+      let here : ordered_rules places (get_or order i 0 ∷ drop (i + 1) order) ≡ rows = rw is refl in
+      subst (λ (us : List UsedName). AreNameUses (ordered_rules places order) (us ++ more)) (sym same)
+      (before more (subst (λ (ps : List RuleLines). AreNameUses ps more) (sym (front ∙ here)) rest))
+
+  pub uses-done : (old : List UsedName) → length order ≤ i
+      → ((rest : List UsedName) → AreNameUses (ordered_rules places (drop i order)) rest
+      → AreNameUses (ordered_rules places order) (old ++ rest)) → AreNameUses (ordered_rules places order) old
+  uses-done old le before =
+      let none : AreNameUses (ordered_rules places (drop i order)) [] =
+      subst (λ (ns : List ℕ). AreNameUses (ordered_rules places ns) []) (sym (at_drop_all (λ xs. xs) order i le))
+      no_rules in
+      subst (λ (us : List UsedName). AreNameUses (ordered_rules places order) us) (append-nil old) (before [] none)
+
+-- four pieces, one behind another
+pub four-behind : (out a b c d one two three four : List ℕ) → one ≡ out ++ a → two ≡ one ++ b → three ≡ two ++ c
+    → four ≡ three ++ d → four ≡ out ++ (a ++ (b ++ (c ++ d)))
+four-behind out a b c d one two three four h i j k =
+    k ∙ ap (λ (z : List ℕ). z ++ d) (j ∙ ap (λ (z : List ℕ). z ++ c) (i ∙ ap (λ (z : List ℕ). z ++ b) h))
+    ∙ append_assoc ((out ++ a) ++ b) c d ∙ append_assoc (out ++ a) b (c ++ d) ∙ append_assoc out a (b ++ (c ++ d))

@@ -1,0 +1,27 @@
+use Rattle.abnftexts.proofs.JoinedReplyLemmas.{joined-same, stated-same}
+use Rattle.abnftexts.proofs.TextRulesLemmas.{OneReading}
+use Rattle.abnftexts.proofs.laws.one_joining.Goals as goal
+
+pub returns-clause-joined : goal.returns-clause-joined
+returns-clause-joined c = λ texts a b x y.
+    let one : OneReading = record {
+      definitions = c.one_reading.ensures.definitions;
+      no_fault = c.one_reading.ensures.no_fault;
+      one_fault = c.one_reading.ensures.one_fault;
+      kept = c.one_keeping.ensures;
+      found = c.one_finding.ensures;
+      tokens = c.one_list.ensures;
+    } in
+    joined-same one texts a b x y
+
+pub returns-clause-stated : goal.returns-clause-stated
+returns-clause-stated c = λ texts form input notes others a b x y p q.
+    let one : OneReading = record {
+      definitions = c.one_reading.ensures.definitions;
+      no_fault = c.one_reading.ensures.no_fault;
+      one_fault = c.one_reading.ensures.one_fault;
+      kept = c.one_keeping.ensures;
+      found = c.one_finding.ensures;
+      tokens = c.one_list.ensures;
+    } in
+    stated-same one texts x y p q

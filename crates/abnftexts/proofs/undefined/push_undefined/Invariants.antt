@@ -1,0 +1,14 @@
+use Rattle.std.proofs.Common.{◌≡◌, ◌++◌, map, drop}
+use Rattle.abnfjoin.specs.GivenRules.{text_rule}
+use Rattle.abnftexts.specs.CodeUses.{name_used}
+use Rattle.abnftexts.specs.UsedNames.{undefined_told}
+use Rattle.abnftexts.proofs.UndefinedLemmas.{told-from}
+use Rattle.abnftexts.proofs.undefined.push_undefined.Given as goal
+
+-- what the uses to come tell completes what is told so far
+abbrev pub invariant-loop-number : goal.invariant-loop-number
+invariant-loop-number l =
+    let rules = map text_rule l.rules in
+    let uses = map name_used l.uses in
+    l.out.items ++ told-from rules uses l.number (drop l.number uses)
+    ≡ l.fn.out.items ++ undefined_told rules uses

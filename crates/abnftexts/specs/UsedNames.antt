@@ -1,0 +1,62 @@
+-- The names that rules use, and those that are not defined.
+use Rattle.std.specs.Prelude.{◌≡◌, ℕ, ◌||◌, ◌&&◌, not, Bool, List, [], ◌∷◌, ◌++◌, None, codes, map, take, if◌then◌else◌}
+use Rattle.std.specs.List.{enumerate_from, flat_map, list_any}
+use Rattle.lexer.specs.TokenLists.{Tok}
+use Rattle.ruletable.specs.Rules.{same_name}
+use Rattle.ruletable.specs.declared.lines.LineRule.TheVariants.{Lf}
+use Rattle.ruletable.specs.declared.table.NameCase.TheVariants.{Fold}
+use Rattle.noteplaces.specs.BodyMentions.{MentionedAt, mentions_in}
+use Rattle.noteplaces.specs.DefinitionHeads.{sign_at}
+use Rattle.abnfread.specs.CoreRules.{core_names}
+use Rattle.abnfread.specs.MarkedTokens.{AreTokens}
+use Rattle.abnfread.specs.declared.kind.AbnfKind.{AbnfKind}
+use Rattle.abnfexplain.specs.AbnfNoteLines.{sign_of}
+use Rattle.abnfblocks.specs.TextBlocks.{block_text}
+use Rattle.abnfjoin.specs.GivenRules.{RuleGiven}
+use Rattle.abnftexts.specs.RulesGathered.{RuleLines}
+use Rattle.abnftexts.specs.TextPlaces.{number_at, place_shown}
+
+-- a name that a rule uses: the name of the text, the line, and the name as it is spelled there
+pub record UsedName : Type 0 where
+  pub text : List ℕ
+  pub line : ℕ
+  pub name : List ℕ
+
+-- the use that a mention in the lines of a rule is, unless it is prose
+abbrev pub used_at : RuleLines → MentionedAt → List UsedName
+used_at place m = if m.is_prose then [] else
+    record { text = place.name; line = number_at place.lines m.line; name = m.text } ∷ []
+
+-- the names that a rule uses, in order: those of the tokens of its lines that stand before no `=` or `=/`
+pub record AreRuleUses (place : RuleLines) (uses : List UsedName) : Type 0 where
+  pub tokens : List (Tok AbnfKind)
+  pub are_tokens : AreTokens (block_text place.margin place.lines) tokens
+  pub are : uses ≡ flat_map (used_at place)
+      (mentions_in Lf (block_text place.margin place.lines) None (map (sign_at sign_of) tokens))
+
+-- those that rules use, one behind another
+pub data AreNameUses : List RuleLines → List UsedName → Type 0 where
+  no_rules : AreNameUses [] []
+  next_uses : {place : RuleLines} {places : List RuleLines} {here behind : List UsedName} → AreRuleUses place here
+      → AreNameUses places behind → AreNameUses (place ∷ places) (here ++ behind)
+
+-- a rule has the name, or a core rule (RFC 5234, appendix B.1)
+abbrev pub is_known_name : List RuleGiven → List ℕ → Bool
+is_known_name rules name = list_any (λ rule. same_name Fold name rule.name) rules
+    || list_any (same_name Fold name) core_names
+
+-- a use tells that the name is not defined, if no use before it has the name
+abbrev pub tells_undefined : List RuleGiven → List UsedName → UsedName → Bool
+tells_undefined rules before u = not (is_known_name rules u.name)
+    && not (list_any (λ other. same_name Fold u.name other.name) before)
+
+abbrev pub undefined_line : UsedName → List ℕ
+undefined_line u = place_shown u.text u.line ++ (codes ": '" ++ (u.name ++ codes "' is not defined\n"))
+
+-- the line of a use that tells so
+abbrev pub use_told : List RuleGiven → List UsedName → UsedName → List ℕ
+use_told rules before u = if tells_undefined rules before u then undefined_line u else []
+
+-- what is told of names that are not defined: the first use of each, in the order of the uses
+abbrev pub undefined_told : List RuleGiven → List UsedName → List ℕ
+undefined_told rules uses = flat_map (λ p. use_told rules (take p.0 uses) p.1) (enumerate_from 0 uses)

@@ -1,0 +1,97 @@
+//! The names that rules use.
+ghost use Rattle.std.specs.Prelude.{◌≡◌, ◌++◌, map, IfOk, OnOk};
+ghost use Rattle.std.specs.List.{flat_map};
+ghost use Rattle.noteplaces.specs.BodyMentions.{mentioned_at};
+ghost use Rattle.abnftexts.specs.JoinedGrammar.{ordered_rules};
+ghost use Rattle.abnftexts.specs.CodeUses.{AddsUses, name_used};
+ghost use Rattle.abnftexts.specs.RulesGathered.{lines_placed};
+ghost use Rattle.abnftexts.specs.UsedNames.{AreNameUses, used_at};
+
+use crate::gathered::RulePlace;
+use crate::told::number_at;
+use abnfblocks::joined_text;
+use abnfexplain::abnf_places;
+use noteplaces::Mention;
+use ruletable::Memory;
+use std::alloc::Global;
+
+/// A name that a rule uses: the name of the text, the line, and the name as it is spelled there.
+#[derive(Drop)]
+pub(crate) struct NameUse<'a> {
+    pub(crate) text: &'a [u8],
+    pub(crate) line: usize,
+    pub(crate) name: Vec<u8>,
+}
+
+// Adds the use that a mention in the lines of a rule is, unless it is prose.
+fn push_use<'a>(
+    alloc: Global,
+    uses: &mut Vec<NameUse<'a>>,
+    place: &RulePlace<'a>,
+    mention: &Mention,
+) -> Result<(), Memory>
+    ensures { OnOk result (map name_used uses.new.items
+        ≡ map name_used uses.old.items ++ used_at (lines_placed place.now) (mentioned_at mention.now)) }
+{
+    if mention.is_prose {
+        return Ok(());
+    }
+    let name = Vec::from_slice(alloc, &mention.text)?;
+    uses.push(NameUse {
+        text: place.name,
+        line: number_at(&place.lines, mention.line),
+        name,
+    })?;
+    Ok(())
+}
+
+// Adds those of all mentions in the lines of a rule.
+fn push_mentions<'a>(
+    alloc: Global,
+    uses: &mut Vec<NameUse<'a>>,
+    place: &RulePlace<'a>,
+    mentions: &[Mention],
+) -> Result<(), Memory>
+    ensures { OnOk result (map name_used uses.new.items ≡ map name_used uses.old.items
+        ++ flat_map (used_at (lines_placed place.now)) (map mentioned_at mentions.now)) }
+{
+    for mention in mentions {
+        push_use(alloc, uses, place, mention)?;
+    }
+    Ok(())
+}
+
+// Adds the names that a rule uses.
+fn push_uses<'a>(
+    alloc: Global,
+    uses: &mut Vec<NameUse<'a>>,
+    place: &RulePlace<'a>,
+) -> Result<(), Memory>
+    ensures { OnOk result (AddsUses (lines_placed place.now)
+        (map name_used uses.old.items) (map name_used uses.new.items)) }
+{
+    let text = joined_text(alloc, place.margin, &place.lines)?;
+    let found = abnf_places(alloc, &text)?;
+    push_mentions(alloc, uses, place, &found.mentions)
+}
+
+/// Returns the names that the rules with these numbers use, in that order.
+///
+/// # Errors
+/// `Memory` if an allocation fails.
+pub(crate) fn uses_in<'a>(
+    alloc: Global,
+    places: &[RulePlace<'a>],
+    order: &[usize],
+) -> Result<Vec<NameUse<'a>>, Memory>
+    ensures { IfOk result (λ uses. AreNameUses (ordered_rules (map lines_placed places.now) order.now)
+        (map name_used uses.items)) }
+{
+    let mut uses = Vec::new(alloc);
+    for number in order {
+        if let Some(place) = places.get(*number) {
+            push_uses(alloc, &mut uses, place)?;
+        }
+    }
+    Ok(uses)
+}

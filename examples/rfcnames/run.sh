@@ -1,0 +1,1 @@
+abnfx -l core.txt adds.txt

@@ -1,0 +1,1 @@
+abnfx paged.txt crlf.txt

@@ -1,0 +1,1 @@
+abnfx first.txt second.txt

@@ -1,0 +1,1 @@
+abnfx sections.txt tables.txt
