@@ -1,5 +1,5 @@
 -- Members of rows of bits.
--- Serves: BitRow::common, BitRow::insert, BitRow::len, BitRow::merge, BitRow::next
+-- Serves: BitRow::common, has_all, insert, join, last, len, merge, next
 use Rattle.std.proofs.Common.{◌≡◌, ◌≢◌, ℕ, zero, suc, ◌+◌, ◌-◌, ◌*◌, ◌/◌, ◌%◌, ◌^◌, ◌<◌, ◌≤◌, ◌⊎◌, inl, inr, Bool, true}
 use Rattle.std.proofs.Common.{false, ◌==◌, List, [], ◌∷◌, length, cond, Contains, refl, sym, ap}
 use Rattle.std.proofs.Common.{subst, ◌∙◌, arith, ◌↔◌, bit_and, bit_or, max, min, nat_le, set, slice_index_or, Vec}
@@ -184,51 +184,36 @@ members_missing f' f a g words' words more known small each x =
         (missing_to v k r (small (x / 64)) (rest_lt x) (bit_of_member a more x h)
         (λ set. not (member_of_bit g known x set))))
 
--- a row whose words have each bit of the words of another
-pub members_covered : (f a : ℕ) (words more : List ℕ) → f ≤ a → ((n : ℕ) → slice_index_or words n 0 < 2 ^ 64)
-    → ((n : ℕ) → n < length more → bit_and (slice_index_or more n 0) (bit_not w64 (slice_index_or words (a - f + n) 0))
-    ≡ 0)
-    → (x : ℕ) → Contains (members a more) x → Contains (members f words) x
-members_covered f a words more fa small none x h = by (word_cases a more (x / 64))
-  where
-    r : ℕ
-    r = x % 64
+-- a bit of a word of another row that the row's own word lacks, and a word that lacks none
+module _ (f a : ℕ) (words more : List ℕ) (s u v : ℕ) (more_is : u ≡ word_in a more s) (is : v ≡ word_in f words s)
+    (small : v < 2 ^ 64) where
+  pub word_missing : (bit : ℕ) → bit < 64 → bit_at (bit_and u (bit_not w64 v)) bit ≡ 1
+      → Contains (members a more) (s * 64 + bit) × (Contains (members f words) (s * 64 + bit) → ⊥)
+  word_missing bit lt h =
+      let two = missing_of u v bit small lt h in
+      let word : (s * 64 + bit) / 64 ≡ s = omega (arith, lt) in
+      let rest : (s * 64 + bit) % 64 ≡ bit = omega (arith, lt) in (
+        member_of_bit a more (s * 64 + bit) (ap (λ q. bit_at (word_in a more q) ((s * 64 + bit) % 64)) word
+            ∙ ap (λ i. bit_at (word_in a more s) i) rest ∙ sym (ap (λ w. bit_at w bit) more_is) ∙ two.0),
+        λ m. two.1 (ap (λ w. bit_at w bit) is ∙ sym (ap (λ q. bit_at (word_in f words q) ((s * 64 + bit) % 64)) word
+            ∙ ap (λ i. bit_at (word_in f words s) i) rest) ∙ bit_of_member f words (s * 64 + bit) m),
+      )
 
-    n : ℕ
-    n = x / 64 - a
+  pub word_covered : ((i : ℕ) → bit_at (bit_and u (bit_not w64 v)) i ≡ 0) → (x : ℕ) → x / 64 ≡ s
+      → Contains (members a more) x → Contains (members f words) x
+  word_covered none x word h = by (eqb_tells (bit_at v (x % 64)) 1)
+    where
+      found : bit_at u (x % 64) ≡ 1
+      found = ap (λ w. bit_at w (x % 64)) more_is
+          ∙ sym (ap (λ q. bit_at (word_in a more q) (x % 64)) word) ∙ bit_of_member a more x h
 
-    u : ℕ
-    u = slice_index_or more n 0
-
-    v : ℕ
-    v = slice_index_or words (a - f + n) 0
-
-    is_set : bit_at (word_in a more (x / 64)) r ≡ 1
-    is_set = bit_of_member a more x h
-
-    by : (word_in a more (x / 64) ≡ 0) ⊎ ((a ≤ x / 64) × (x / 64 < a + length more)) → Contains (members f words) x
-    by (inl zero_word) =
-        let zero_bit = bit_at-zero r in
-        absurd (omega (arith, sym (ap (λ w. bit_at w r) zero_word ∙ zero_bit) ∙ is_set))
-    by (inr (low, short)) = known (eqb_tells (bit_at v r) 1)
-      where
-        found : bit_at u r ≡ 1
-        found = sym (ap (λ w. bit_at w r) (word_from a more (x / 64) low)) ∙ is_set
-
-        place : x / 64 - f ≡ a - f + n
-        place = omega (arith, fa, low)
-
-        from : f ≤ x / 64
-        from = omega (arith, fa, low)
-
-        known : (((bit_at v r == 1) ≡ true) × (bit_at v r ≡ 1)) ⊎ (((bit_at v r == 1) ≡ false) × (bit_at v r ≢ 1))
-            → Contains (members f words) x
-        known (inl is) = member_of_bit f words x (ap (λ w. bit_at w r) (word_from f words (x / 64) from
-            ∙ ap (λ i. slice_index_or words i 0) place) ∙ is.1)
-        known (inr is_not) =
-            let there = missing_to u v r (small (a - f + n)) (rest_lt x) found is_not.1 in
-            let zero_bit = ap (λ w. bit_at w r) (none n (omega (arith, low, short))) ∙ bit_at-zero r in
-            absurd (omega (arith, sym zero_bit ∙ there))
+      by : (((bit_at v (x % 64) == 1) ≡ true) × (bit_at v (x % 64) ≡ 1))
+          ⊎ (((bit_at v (x % 64) == 1) ≡ false) × (bit_at v (x % 64) ≢ 1)) → Contains (members f words) x
+      by (inl is_set) = member_of_bit f words x (ap (λ q. bit_at (word_in f words q) (x % 64)) word
+          ∙ sym (ap (λ w. bit_at w (x % 64)) is) ∙ is_set.1)
+      by (inr is_not) =
+          let there = missing_to u v (x % 64) small (rest_lt x) found is_not.1 in
+          absurd (omega (arith, sym (none (x % 64)) ∙ there))
 
 -- a bit of both
 both_bits : (u v r : ℕ) → bit_at (bit_and u v) r ≡ 1 → (bit_at u r ≡ 1) × (bit_at v r ≡ 1)
@@ -376,6 +361,34 @@ lowest_is f words s bit small set =
     let rest : (s * 64 + bit) % 64 ≡ bit = omega (arith, small) in
     member_of_bit f words (s * 64 + bit) (ap (λ q. bit_at (word_in f words q) ((s * 64 + bit) % 64)) word
     ∙ ap (λ i. bit_at (word_in f words s) i) rest ∙ set)
+
+-- a member before the end of a word stands at its highest bit, or earlier
+pub highest_last : (f : ℕ) (words : List ℕ) (s bit x : ℕ) → ((i : ℕ) → bit < i → bit_at (word_in f words s) i ≡ 0)
+    → Contains (members f words) x → x < (s + 1) * 64 → x ≤ s * 64 + bit
+highest_last f words s bit x none h lt = by (nat_le x (s * 64 + bit)) refl
+  where
+    by : (b : Bool) → nat_le x (s * 64 + bit) ≡ b → x ≤ s * 64 + bit
+    by true is = grind (arith, nat_tests)
+    by false is =
+        let past : s * 64 + bit < x = grind (arith, nat_tests) in
+        let word : x / 64 ≡ s = omega (arith, lt, past) in
+        let set = bit_of_member f words x h in
+        let zero_bit = none (x % 64) (omega (arith, past, word)) in
+        absurd (omega (arith, sym zero_bit ∙ sym (ap (λ q. bit_at (word_in f words q) (x % 64)) word) ∙ set))
+
+-- a member before the end of a word stands in an earlier word, if the word has no bit
+pub none_highest : (f : ℕ) (words : List ℕ) (s x : ℕ) → ((i : ℕ) → bit_at (word_in f words s) i ≡ 0)
+    → Contains (members f words) x → x < (s + 1) * 64 → x < s * 64
+none_highest f words s x none h lt = by (nat_le (s * 64) x) refl
+  where
+    by : (b : Bool) → nat_le (s * 64) x ≡ b → x < s * 64
+    by false is = grind (arith, nat_tests)
+    by true is =
+        let le : s * 64 ≤ x = grind (arith, nat_tests) in
+        let word : x / 64 ≡ s = omega (arith, le, lt) in
+        let set = bit_of_member f words x h in
+        let zero_bit = none (x % 64) in
+        absurd (omega (arith, sym zero_bit ∙ sym (ap (λ q. bit_at (word_in f words q) (x % 64)) word) ∙ set))
 
 -- no member stands past the window
 pub members_within : (f : ℕ) (words : List ℕ) (x : ℕ) → Contains (members f words) x → x < (f + length words) * 64

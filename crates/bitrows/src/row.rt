@@ -3,7 +3,7 @@ ghost use Rattle.std.specs.Prelude.{◌≡◌, ◌↔◌, ◌⊎◌, ◌<◌, �
 ghost use Rattle.std.specs.Prelude.{IfNone, IsTrue, OnErr};
 ghost use Rattle.std.specs.List.Sorted.{IsStrictlyIncreasing};
 
-use crate::words::{count_bits, cover, have_words, lowest_bit, or_missing, or_words, word};
+use crate::words::{count_bits, cover, highest_bit, lowest_bit, or_missing, or_words, word};
 use ruletable::Memory;
 use std::alloc::Global;
 use std::marker::Model;
@@ -90,21 +90,33 @@ impl BitRow {
         Ok(())
     }
 
-    /// Tells whether it surely has each member of another set.
-    pub(crate) fn covers(&self, found: &BitRow) -> bool
-        ensures { IsTrue result → (x : ℕ) → Contains found.now x → Contains self.now x }
+    /// Adds the members of another set. `Memory` if an allocation fails; the set stays as it is then.
+    pub fn join(&mut self, found: &BitRow) -> Result<(), Memory>
+        ensures members { IfOk result (λ done. (x : ℕ) → Contains self.new x ↔ (Contains self.old x
+            ⊎ Contains found.now x)) }
+        ensures err { OnErr result (self.new ≡ self.old) }
     {
         if found.words.is_empty() {
-            return true;
+            return Ok(());
         }
-        if found.first < self.first {
-            return false;
+        let low = found.first;
+        let high = found.first + found.words.len();
+        cover(self.alloc, &mut self.first, &mut self.words, low, high)?;
+        or_words(&mut self.words, low - self.first, &found.words);
+        Ok(())
+    }
+
+    /// Tells whether it has each member of another set.
+    pub fn has_all(&self, found: &BitRow) -> bool
+        ensures { IsTrue result ↔ ((x : ℕ) → Contains found.now x → Contains self.now x) }
+    {
+        for i in found.first..found.first + found.words.len() {
+            let more = word(found.first, &found.words, i);
+            if let Some(_bit) = lowest_bit(more & !word(self.first, &self.words, i), 0) {
+                return false;
+            }
         }
-        let at = found.first - self.first;
-        if self.words.len() < at + found.words.len() {
-            return false;
-        }
-        have_words(&self.words, at, &found.words)
+        true
     }
 
     /// Returns the set of the members that both sets have. `Memory` if an allocation fails.
@@ -138,6 +150,22 @@ impl BitRow {
         for i in (start + 1).max(self.first)..self.first + self.words.len() {
             if let Some(bit) = lowest_bit(word(self.first, &self.words, i), 0) {
                 return Some(i * 64 + bit as usize);
+            }
+        }
+        None
+    }
+
+    /// Returns the greatest member.
+    pub fn last(&self) -> Option<usize>
+        ensures found { IfSome result (λ k. Contains self.now k) }
+        ensures last { IfSome result (λ k. (x : ℕ) → Contains self.now x → x ≤ k) }
+        ensures none { IfNone result ((x : ℕ) → Contains self.now x → ⊥) }
+    {
+        let mut end = self.first + self.words.len();
+        while end > self.first {
+            end -= 1;
+            if let Some(bit) = highest_bit(word(self.first, &self.words, end)) {
+                return Some(end * 64 + bit as usize);
             }
         }
         None

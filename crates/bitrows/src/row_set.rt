@@ -85,7 +85,7 @@ impl RowSet {
         requires { place < length self.old.all }
         ensures { IfOk result (λ done. AddsAt place (λ k. Contains found.now k) self.old self.new) }
     {
-        if self.rows[place].covers(found) {
+        if self.rows[place].has_all(found) {
             return Ok(());
         }
         enqueue(&mut self.queue, &self.pending, place)?;

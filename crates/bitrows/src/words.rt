@@ -103,20 +103,6 @@ pub(crate) fn or_missing(words: &mut [u64], at: usize, more: &[u64], known: &[u6
     }
 }
 
-/// Tells whether words have each bit of more words, the first of which is word `at`.
-pub(crate) fn have_words(words: &[u64], at: usize, more: &[u64]) -> bool
-    requires { at + length more.now ≤ length words.now }
-    ensures none { IsTrue result → (n : ℕ) → n < length more.now → bit_and (slice_index_or more.now n 0)
-        (bit_not w64 (slice_index_or words.now (at + n) 0)) ≡ 0 }
-    ensures words { (n : ℕ) → slice_index_or words.now n 0 < 2 ^ 64 }
-{
-    let mut missing = 0;
-    for i in 0..more.len() {
-        missing |= more[i] & !words[at + i];
-    }
-    missing == 0
-}
-
 /// Returns the place of the lowest bit of a word from bit `from` on.
 pub(crate) fn lowest_bit(word: u64, from: u32) -> Option<u32>
     requires { from < 64 }
@@ -129,6 +115,18 @@ pub(crate) fn lowest_bit(word: u64, from: u32) -> Option<u32>
         return None;
     }
     Some(from + high.trailing_zeros())
+}
+
+/// Returns the place of the highest bit of a word.
+pub(crate) fn highest_bit(word: u64) -> Option<u32>
+    ensures found { IfSome result (λ bit. (bit < 64) × (bit_at word bit ≡ 1)) }
+    ensures last { IfSome result (λ bit. (i : ℕ) → bit < i → bit_at word i ≡ 0) }
+    ensures none { IfNone result ((i : ℕ) → bit_at word i ≡ 0) }
+{
+    if word == 0 {
+        return None;
+    }
+    Some(63 - word.leading_zeros())
 }
 
 /// Returns how many bits are set.

@@ -49,6 +49,19 @@ gains_as spots P Q old new to back p = record {
   within = p.within;
 }
 
+-- under a name for more, all of which is there
+pub gains_more : (spots : List Spot) (P Q : Item → Type 0) (old new : Rows) → ((a : Item) → P a → Q a)
+    → ((a : Item) → Q a → P a ⊎ IsRowItem spots new.all a) → Gains spots P old new → Gains spots Q old new
+gains_more spots P Q old new to cases p = record {
+  count = p.count;
+  all = λ a h. ⊎_elim (λ g. p.all a g) (λ g. g) (cases a h);
+  only = λ a h. ⊎_elim (λ g. inl g) (λ g. inr (to a g)) (p.only a h);
+  kept = p.kept;
+  still = p.still;
+  fresh = p.fresh;
+  within = p.within;
+}
+
 -- the numbers that one place got
 pub gains_at : (spots : List Spot) (p : ℕ) (P : ℕ → Type 0) (old new : Rows) → AddsAt p P old new
     → Gains spots (λ a. (slice_get spots p ≡ Some (spot a.node a.step)) × P a.origin) old new

@@ -1,6 +1,6 @@
 -- What calls lead to in the sets of the numbers of a row.
 -- Serves: judge
-use Rattle.std.proofs.Common.{◌≡◌, ◌↔◌, ◌⊎◌, inl, inr, ⊎_elim, ℕ, zero, suc, ◌+◌, ◌<◌, ◌≤◌, List, [], ◌∷◌, length, take}
+use Rattle.std.proofs.Common.{◌≡◌, ◌↔◌, inl, inr, ⊎_elim, ℕ, zero, suc, ◌+◌, ◌<◌, ◌≤◌, List, [], ◌∷◌, length, take}
 use Rattle.std.proofs.Common.{slice_get, slice_index_or, Some, None, Contains, refl, sym, subst, arith}
 use Rattle.std.proofs.lemmas.Bool.{cases_lt}
 use Rattle.bitrows.specs.RowSets.{Rows, HasAt, AddsAt}
@@ -12,13 +12,13 @@ use Rattle.flatgrammar.specs.declared.flat_item.Item.{Item}
 use Rattle.flatgrammar.specs.declared.tables.Tables as code_flat
 use Rattle.earley.specs.PlaceTables.{AreSteps, AreCallsTo}
 use Rattle.earley.specs.RowCharts.{row_views}
-use Rattle.earley.specs.RowIndexes.{rows_at, AreIndexed, IsAfterIn, IsAfterOwn, IsAfterSome}
-use Rattle.earley.specs.RowItems.{row_items, Gains, IsAfterCall, IsCompletedBy}
+use Rattle.earley.specs.RowIndexes.{rows_at, AreIndexed, IsAfterIn, IsAfterLast, IsAfterOwn, IsAfterSome}
+use Rattle.earley.specs.RowItems.{row_items, Gains, IsRowItem, IsAfterCall, IsCompletedBy}
 use Rattle.earley.specs.declared.place_table.Call.{Call}
 use Rattle.earley.specs.declared.place_table.Step.{Step}
 use Rattle.earley.specs.declared.row_index.FilledSets.{FilledSets}
 use Rattle.earley.specs.declared.row_sets.KeptRows.{KeptRows}
-use Rattle.earley.proofs.GainsLemmas.{gains_none, gains_both, gains_as, gains_at}
+use Rattle.earley.proofs.GainsLemmas.{gains_none, gains_both, gains_as, gains_more, gains_at}
 use Rattle.earley.proofs.RowItemsLemmas.{none_contains}
 use Rattle.earley.proofs.RowStepLemmas.{front_cases, front_old, front_new, get_index, get_no_index}
 use Rattle.earley.proofs.RowStepLemmas.{none_advanced, called_advanced, advanced_called}
@@ -80,10 +80,41 @@ set_within [] o p k h = absurd (none_contains k h)
 set_within (s ∷ sets) zero p k h = omega arith
 set_within (s ∷ sets) (suc o) p k h = let lt = set_within sets o p k h in omega (arith, lt)
 
--- the place's own sets, and the rest
+-- the set of the greatest number of a row
+module _ (spots : List Spot) (call : Call) (sets : List KeptRows) (row : List ℕ) (old new : Rows) where
+  abbrev Last : Item → Type 0
+  Last = IsAfterLast spots call sets row (length sets)
+
+  pub last_none : ((k : ℕ) → Contains row k → ⊥) → Gains spots Last old old
+  last_none none = gains_none spots Last old (λ a h. absurd (none h.after.origin h.after.has))
+
+  pub last_past : (o : ℕ) → Contains row o → length sets ≤ o → Gains spots Last old old
+  last_past o has past = gains_none spots Last old
+      (λ a h. let le = h.last o has in let lt = h.after.under in absurd (omega (arith, past, le, lt)))
+
+  pub last_added : (o : ℕ) → Contains row o → ((k : ℕ) → Contains row k → k ≤ o) → o < length sets
+      → Gains spots (IsAfterCall spots call (rows_at sets o)) old new → Gains spots Last old new
+  last_added o has last lt gains = gains_as spots (IsAfterCall spots call (rows_at sets o)) Last old new
+      (λ a h. record { after = record { origin = o; has = has; under = lt; after = h }; last = last })
+      (λ a h. let le = h.last o has in let ge = last h.after.origin h.after.has in
+      let same : h.after.origin ≡ o = omega (arith, le, ge) in
+      subst (λ v. IsAfterCall spots call (rows_at sets v) a) same h.after.after)
+      gains
+
+  -- of one number at most
+  pub last_single : ((j k : ℕ) → Contains row j → Contains row k → j ≡ k) → Gains spots Last old new
+      → Gains spots (IsAfterIn spots call sets row (length sets)) old new
+  last_single single gains = gains_as spots Last (IsAfterIn spots call sets row (length sets)) old new
+      (λ a h. h.after)
+      (λ a h. record {
+        after = h;
+        last = λ k has. let same = single k h.origin has h.has in omega (arith, same);
+      })
+      gains
+
+-- the rest, where the place's own sets are done
 module _ (spots : List Spot) (places : ℕ) (filled : FilledSets) (are : AreIndexed places filled) (call : Call)
-    (row : List ℕ) (old mid new : Rows)
-    (own : Gains spots (IsAfterOwn spots call filled.own.items row) old mid) where
+    (row : List ℕ) where
   abbrev count : ℕ
   count = length filled.sets.items
 
@@ -98,46 +129,65 @@ module _ (spots : List Spot) (places : ℕ) (filled : FilledSets) (are : AreInde
         after = (h.after, there);
       }
 
-  own_or : (a : Item) → (h : IsAfterIn spots call filled.sets.items row count a)
-      → IsAfterOwn spots call filled.own.items row a ⊎ HasAt filled.rest.items call.from h.origin
-  own_or a h = ⊎_elim
-      (λ g. let same : a.origin ≡ h.origin = (are.own call.from h.origin a.origin g).0 h.after.1 in
-      inl (record {
+  is_own : (a : Item) → (h : IsAfterIn spots call filled.sets.items row count a)
+      → HasAt filled.own.items call.from h.origin → IsAfterOwn spots call filled.own.items row a
+  is_own a h own =
+      let same : a.origin ≡ h.origin = (are.own call.from h.origin a.origin own).0 h.after.1 in record {
         after = h.after.0;
         has = subst (λ v. Contains row v) (sym same) h.has;
-        own = subst (λ v. HasAt filled.own.items call.from v) (sym same) g;
-      }))
-      (λ g. inr g) (are.there call.from h.origin a.origin h.after.1)
+        own = subst (λ v. HasAt filled.own.items call.from v) (sym same) own;
+      }
 
-  pub rest_added : (rest both : List ℕ) → slice_get filled.rest.items call.from ≡ Some rest
-      → ((k : ℕ) → Contains both k ↔ (Contains row k × Contains rest k))
-      → Gains spots (IsAfterIn spots call filled.sets.items both count) mid new
+  pub own_and_rest : (old mid new : Rows) → Gains spots (IsAfterOwn spots call filled.own.items row) old mid
+      → Gains spots (IsAfterIn spots call filled.sets.items row count) mid new
       → Gains spots (IsAfterIn spots call filled.sets.items row count) old new
-  rest_added rest both is two gains =
-      let same = get_index filled.rest.items call.from rest is in
-      gains_both spots (IsAfterOwn spots call filled.own.items row) (IsAfterIn spots call filled.sets.items both count)
-      (IsAfterIn spots call filled.sets.items row count) old mid new own gains
-      (λ a h. ⊎_elim (λ g. inl g)
-      (λ g. inr (record {
-        origin = h.origin;
-        has = (two h.origin).1 (h.has, subst (λ v. Contains v h.origin) same g);
-        under = h.under;
-        after = h.after;
-      }))
-      (own_or a h))
-      (λ a h. of_own a h)
-      (λ a h. record { origin = h.origin; has = ((two h.origin).0 h.has).0; under = h.under; after = h.after })
+  own_and_rest old mid new own gains = gains_both spots (IsAfterOwn spots call filled.own.items row)
+      (IsAfterIn spots call filled.sets.items row count) (IsAfterIn spots call filled.sets.items row count) old mid new
+      own gains (λ a h. inr h) (λ a h. of_own a h) (λ a h. h)
 
-  pub no_rest : slice_get filled.rest.items call.from ≡ None
-      → Gains spots (IsAfterIn spots call filled.sets.items row count) old mid
-  no_rest is = gains_as spots (IsAfterOwn spots call filled.own.items row)
-      (IsAfterIn spots call filled.sets.items row count) old mid
-      (λ a h. of_own a h)
-      (λ a h. ⊎_elim (λ g. g)
-      (λ g. absurd (none_contains h.origin
-      (subst (λ v. Contains v h.origin) (get_no_index filled.rest.items call.from is) g)))
-      (own_or a h))
-      own
+  module _ (old : Rows)
+      (own : (a : Item) → IsAfterOwn spots call filled.own.items row a → IsRowItem spots old.all a) where
+    pub rest_none : slice_get filled.rest.items call.from ≡ None
+        → Gains spots (IsAfterIn spots call filled.sets.items row count) old old
+    rest_none is = gains_none spots (IsAfterIn spots call filled.sets.items row count) old
+        (λ a h. ⊎_elim (λ g. own a (is_own a h g))
+        (λ g. absurd (none_contains h.origin
+        (subst (λ v. Contains v h.origin) (get_no_index filled.rest.items call.from is) g)))
+        (are.there call.from h.origin a.origin h.after.1))
+
+    module _ (rest both : List ℕ) (is : slice_get filled.rest.items call.from ≡ Some rest)
+        (two : (k : ℕ) → Contains both k ↔ (Contains row k × Contains rest k)) where
+      wider : (a : Item) → IsAfterIn spots call filled.sets.items both count a
+          → IsAfterIn spots call filled.sets.items row count a
+      wider a h = record { origin = h.origin; has = ((two h.origin).0 h.has).0; under = h.under; after = h.after }
+
+      pub rest_covered : (new : Rows) → Gains spots (IsAfterLast spots call filled.sets.items both count) old new
+          → ((k : ℕ) → HasAt filled.union.items call.from k → HasAt new.all call.after k)
+          → Gains spots (IsAfterIn spots call filled.sets.items row count) old new
+      rest_covered new gains covered = gains_more spots (IsAfterLast spots call filled.sets.items both count)
+          (IsAfterIn spots call filled.sets.items row count) old new (λ a h. wider a h.after)
+          (λ a h. ⊎_elim (λ g. inr (gains.kept a (own a (is_own a h g))))
+          (λ g. inr (record { place = call.after; is = h.after.0; has = covered a.origin g }))
+          (are.united call.from h.origin a.origin h.after.1))
+          gains
+
+      pub rest_added : (mid new : Rows) → Gains spots (IsAfterLast spots call filled.sets.items both count) old mid
+          → Gains spots (IsAfterIn spots call filled.sets.items both count) mid new
+          → Gains spots (IsAfterIn spots call filled.sets.items row count) old new
+      rest_added mid new last gains = gains_more spots (IsAfterIn spots call filled.sets.items both count)
+          (IsAfterIn spots call filled.sets.items row count) old new (λ a h. wider a h)
+          (λ a h. ⊎_elim (λ g. inr (gains.kept a (last.kept a (own a (is_own a h g)))))
+          (λ g. inl (record {
+            origin = h.origin;
+            has = (two h.origin).1
+                (h.has, subst (λ v. Contains v h.origin) (get_index filled.rest.items call.from rest is) g);
+            under = h.under;
+            after = h.after;
+          }))
+          (are.there call.from h.origin a.origin h.after.1))
+          (gains_both spots (IsAfterLast spots call filled.sets.items both count)
+          (IsAfterIn spots call filled.sets.items both count) (IsAfterIn spots call filled.sets.items both count) old
+          mid new last gains (λ a h. inr h) (λ a h. h.after) (λ a h. h))
 
 -- the calls as far as a loop has come
 module _ (spots : List Spot) (calls : List Call) (sets : List KeptRows) (row : List ℕ) (below : ℕ) (old : Rows) where

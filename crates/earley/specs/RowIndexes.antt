@@ -1,5 +1,5 @@
 -- The filled sets of a line, told apart by the rows of a place.
-use Rattle.std.specs.Prelude.{◌≡◌, ◌↔◌, ◌⊎◌, ℕ, ◌<◌, List, [], length, Option, Some, None, slice_get, Contains}
+use Rattle.std.specs.Prelude.{◌≡◌, ◌↔◌, ◌⊎◌, ℕ, ◌<◌, ◌≤◌, List, [], length, Option, Some, None, slice_get, Contains}
 use Rattle.bitrows.specs.RowSets.{HasAt}
 use Rattle.flatgrammar.specs.Blocks.{spot}
 use Rattle.flatgrammar.specs.Places.{In}
@@ -23,27 +23,37 @@ abbrev pub HasAlone : List ℕ → ℕ → Type 0
 HasAlone row number = (k : ℕ) → Contains row k ↔ (k ≡ number)
 
 -- a set is told apart by its row at a place
-pub record Indexes (number place : ℕ) (row : List ℕ) (mine others mine' others' : List (List ℕ)) : Type 0 where
+pub record Indexes (number place : ℕ) (row : List ℕ) (mine others union mine' others' union' : List (List ℕ))
+    : Type 0 where
   pub own : (p o : ℕ) → HasAt mine' p o → HasAt mine p o ⊎ ((p ≡ place) × (o ≡ number) × HasAlone row number)
   pub own_kept : (p o : ℕ) → HasAt mine p o → HasAt mine' p o
   pub rest_kept : (p o : ℕ) → HasAt others p o → HasAt others' p o
+  pub union_kept : (p k : ℕ) → HasAt union p k → HasAt union' p k
   pub there : (k : ℕ) → Contains row k → HasAt mine' place number ⊎ HasAt others' place number
+  pub united : (k : ℕ) → Contains row k → HasAt mine' place number ⊎ HasAt union' place k
 
 -- a set is told apart by its rows at the places below one
-pub record AreIndexedBelow (number below : ℕ) (rows mine others mine' others' : List (List ℕ)) : Type 0 where
+pub record AreIndexedBelow (number below : ℕ) (rows mine others union mine' others' union' : List (List ℕ))
+    : Type 0 where
   pub own : (p o : ℕ) → HasAt mine' p o
       → HasAt mine p o ⊎ ((o ≡ number) × ((k : ℕ) → HasAt rows p k ↔ (k ≡ number)))
   pub own_kept : (p o : ℕ) → HasAt mine p o → HasAt mine' p o
   pub rest_kept : (p o : ℕ) → HasAt others p o → HasAt others' p o
+  pub union_kept : (p k : ℕ) → HasAt union p k → HasAt union' p k
   pub there : (p k : ℕ) → p < below → HasAt rows p k → HasAt mine' p number ⊎ HasAt others' p number
+  pub united : (p k : ℕ) → p < below → HasAt rows p k → HasAt mine' p number ⊎ HasAt union' p k
 
--- each set whose row at a place is not empty is told apart there
+-- each set whose row at a place is not empty is told apart there, and what it has there is in the union if it is not
+-- its number alone
 pub record AreIndexed (places : ℕ) (filled : FilledSets) : Type 0 where
   pub own_count : length filled.own.items ≡ places
   pub rest_count : length filled.rest.items ≡ places
+  pub union_count : length filled.union.items ≡ places
   pub own : (p o k : ℕ) → HasAt filled.own.items p o → HasAt (rows_at filled.sets.items o) p k ↔ (k ≡ o)
   pub there : (p o k : ℕ) → HasAt (rows_at filled.sets.items o) p k
       → HasAt filled.own.items p o ⊎ HasAt filled.rest.items p o
+  pub united : (p o k : ℕ) → HasAt (rows_at filled.sets.items o) p k
+      → HasAt filled.own.items p o ⊎ HasAt filled.union.items p k
 
 -- the place after a call, with the origins of the place that calls, in the set of each number of a row that is below
 -- one
@@ -53,6 +63,12 @@ pub record IsAfterIn (spots : List Spot) (call : Call) (sets : List KeptRows) (r
   pub has : Contains row origin
   pub under : origin < below
   pub after : IsAfterCall spots call (rows_at sets origin) a
+
+-- the same in the set of the greatest number of the row
+pub record IsAfterLast (spots : List Spot) (call : Call) (sets : List KeptRows) (row : List ℕ) (below : ℕ) (a : Item)
+    : Type 0 where
+  pub after : IsAfterIn spots call sets row below a
+  pub last : (k : ℕ) → Contains row k → k ≤ after.origin
 
 -- the place after a call, with those numbers of a row that are in its own row too
 pub record IsAfterOwn (spots : List Spot) (call : Call) (mine : List (List ℕ)) (row : List ℕ) (a : Item) : Type 0 where

@@ -172,6 +172,7 @@ fn row_sets<L: Letter>(
         sets,
         own: _,
         rest: _,
+        union: _,
     } = filled;
     Ok(sets)
 }

@@ -10,12 +10,13 @@ use ruletable::Memory;
 use std::alloc::Global;
 
 /// The filled sets of a line. Of each place, `own` has the sets whose row at that place has the set's number alone,
-/// and `rest` the other sets whose row is not empty.
+/// `rest` the other sets whose row is not empty, and `union` all numbers of the rows of these.
 #[derive(Drop)]
 pub(crate) struct FilledSets {
     pub(crate) sets: Vec<KeptRows>,
     pub(crate) own: Vec<BitRow>,
     pub(crate) rest: Vec<BitRow>,
+    pub(crate) union: Vec<BitRow>,
 }
 
 /// Returns no sets, for so many places. `Memory` if an allocation fails.
@@ -25,10 +26,12 @@ pub(crate) fn no_sets(alloc: Global, places: usize) -> Result<FilledSets, Memory
 {
     let own = empty_rows(alloc, places)?;
     let rest = empty_rows(alloc, places)?;
+    let union = empty_rows(alloc, places)?;
     Ok(FilledSets {
         sets: Vec::new(alloc),
         own,
         rest,
+        union,
     })
 }
 
@@ -61,6 +64,17 @@ fn insert_at(rows: &mut [BitRow], place: usize, number: usize) -> Result<(), Mem
     Ok(())
 }
 
+// Adds numbers to the row of a place.
+fn join_at(rows: &mut [BitRow], place: usize, found: &BitRow) -> Result<(), Memory>
+    requires { place < length rows.old }
+    ensures count { length rows.new ≡ length rows.old }
+    ensures members { IfOk result (λ done. (p x : ℕ) → HasAt rows.new p x
+        ↔ (HasAt rows.old p x ⊎ ((p ≡ place) × Contains found.now x))) }
+{
+    rows[place].join(found)?;
+    Ok(())
+}
+
 // Tells a set apart by its row at a place.
 fn index_row(
     number: usize,
@@ -68,13 +82,17 @@ fn index_row(
     row: &BitRow,
     own: &mut [BitRow],
     rest: &mut [BitRow],
+    union: &mut [BitRow],
 ) -> Result<(), Memory>
     requires number { number < 2 ^ 63 }
     requires own { place < length own.old }
     requires rest { place < length rest.old }
+    requires union { place < length union.old }
     ensures own { length own.new ≡ length own.old }
     ensures rest { length rest.new ≡ length rest.old }
-    ensures indexes { IfOk result (λ done. Indexes number place row.now own.old rest.old own.new rest.new) }
+    ensures union { length union.new ≡ length union.old }
+    ensures indexes { IfOk result (λ done. Indexes number place row.now own.old rest.old union.old own.new rest.new
+        union.new) }
 {
     if is_alone(row, number) {
         insert_at(own, place, number)?;
@@ -83,6 +101,7 @@ fn index_row(
     match row.next(0) {
         Some(_) => {
             insert_at(rest, place, number)?;
+            join_at(union, place, row)?;
             Ok(())
         }
         None => Ok(()),
@@ -95,17 +114,20 @@ fn index_rows(
     rows: &[BitRow],
     own: &mut [BitRow],
     rest: &mut [BitRow],
+    union: &mut [BitRow],
 ) -> Result<(), Memory>
     requires number { number < 2 ^ 63 }
     requires own { length rows.now ≤ length own.old }
     requires rest { length rows.now ≤ length rest.old }
+    requires union { length rows.now ≤ length union.old }
     ensures own { length own.new ≡ length own.old }
     ensures rest { length rest.new ≡ length rest.old }
-    ensures indexes { IfOk result (λ done. AreIndexedBelow number (length rows.now) rows.now own.old rest.old own.new
-        rest.new) }
+    ensures union { length union.new ≡ length union.old }
+    ensures indexes { IfOk result (λ done. AreIndexedBelow number (length rows.now) rows.now own.old rest.old union.old
+        own.new rest.new union.new) }
 {
     for place in 0..rows.len() {
-        index_row(number, place, &rows[place], own, rest)?;
+        index_row(number, place, &rows[place], own, rest, union)?;
     }
     Ok(())
 }
@@ -119,7 +141,13 @@ pub(crate) fn keep_set(places: usize, kept: KeptRows, filled: &mut FilledSets) -
     ensures indexed { IfOk result (λ done. AreIndexed places filled.new) }
 {
     let number = filled.sets.len();
-    index_rows(number, &kept.rows, &mut filled.own, &mut filled.rest)?;
+    index_rows(
+        number,
+        &kept.rows,
+        &mut filled.own,
+        &mut filled.rest,
+        &mut filled.union,
+    )?;
     filled.sets.push(kept)?;
     Ok(())
 }

@@ -1,13 +1,15 @@
 //! What the items of a row predict, advance and complete.
-ghost use Rattle.std.specs.Prelude.{◌≡◌, ◌↔◌, ◌<◌, ℕ, List, [], IfOk, length, Contains};
+ghost use Rattle.std.specs.Prelude.{◌≡◌, ◌↔◌, ◌<◌, ℕ, List, [], IsTrue, IfOk, length, Contains};
+ghost use Rattle.bitrows.specs.RowSets.{HasAt};
 ghost use Rattle.itemsets.specs.ItemSets.{IsPredicted, IsCompleted};
 ghost use Rattle.itemsets.specs.Worklist.{AdvancesNullable, IsWork};
 ghost use Rattle.flatgrammar.specs.Blocks.{begin_count};
 ghost use Rattle.flatgrammar.specs.declared.block.Spot.{Spot as code_spot};
+ghost use Rattle.flatgrammar.specs.declared.flat_item.Item as code_item;
 ghost use Rattle.earley.specs.PlaceTables.{IsPlaceTable, IsReached};
 ghost use Rattle.earley.specs.RowCharts.{row_views};
-ghost use Rattle.earley.specs.RowIndexes.{AreIndexed, IsAfterIn, IsAfterOwn};
-ghost use Rattle.earley.specs.RowItems.{Gains, IsAfterCall, IsCompletedBy, IsFor};
+ghost use Rattle.earley.specs.RowIndexes.{AreIndexed, IsAfterIn, IsAfterLast, IsAfterOwn};
+ghost use Rattle.earley.specs.RowItems.{Gains, IsAfterCall, IsCompletedBy, IsFor, IsRowItem};
 
 use crate::place_table::{Call, PlaceTable};
 use crate::row_index::FilledSets;
@@ -140,7 +142,77 @@ fn complete_each(
     Ok(())
 }
 
-// Advances over a call the set of each number of a row, those of the place's own sets at once.
+// Advances over a call the set of the greatest number of a row.
+fn complete_last(
+    sets: &[KeptRows],
+    call: Call,
+    row: &BitRow,
+    set: &mut RowSet,
+) -> Result<(), Memory>
+    requires { call.after < length set.old.all }
+    ensures { IfOk result (λ done. (spots : List code_spot) → Gains spots (IsAfterLast spots call sets.now row.now
+        (length sets.now)) set.old set.new) }
+{
+    let Some(origin) = row.last() else {
+        return Ok(());
+    };
+    if origin >= sets.len() {
+        return Ok(());
+    }
+    advance_call(&sets[origin].rows, call, set)?;
+    Ok(())
+}
+
+// Tells whether the place after a call has all numbers that one of these rows has at the place that calls.
+fn has_union(union: &[BitRow], call: Call, set: &RowSet) -> bool
+    requires { call.after < length set.now.all }
+    ensures { IsTrue result → (k : ℕ) → HasAt union.now call.from k → HasAt set.now.all call.after k }
+{
+    match union.get(call.from) {
+        Some(union) => set.row(call.after).has_all(union),
+        None => true,
+    }
+}
+
+// Advances over a call the set of each number of a row, where those of the place's own sets are done. The set of the
+// greatest number comes first: in a dense line it mostly has what all of them have, and then the others add nothing.
+fn complete_rest(
+    places: usize,
+    filled: &FilledSets,
+    call: Call,
+    row: &BitRow,
+    set: &mut RowSet,
+) -> Result<(), Memory>
+    requires indexed { AreIndexed places filled.now }
+    requires after { call.after < length set.old.all }
+    requires own { (spots : List code_spot) (a : code_item.Item) → IsAfterOwn spots call filled.now.own.items row.now a
+        → IsRowItem spots set.old.all a }
+    ensures { IfOk result (λ done. (spots : List code_spot) → Gains spots (IsAfterIn spots call filled.now.sets.items
+        row.now (length filled.now.sets.items)) set.old set.new) }
+{
+    let Some(rest) = filled.rest.get(call.from) else {
+        return Ok(());
+    };
+    let both = row.common(rest)?;
+    complete_last(&filled.sets, call, &both, set)?;
+    if has_union(&filled.union, call, set) {
+        return Ok(());
+    }
+    complete_each(&filled.sets, call, &both, set)?;
+    Ok(())
+}
+
+// Tells whether a row has one number at most.
+fn is_single(row: &BitRow) -> bool
+    ensures { IsTrue result → (j k : ℕ) → Contains row.now j → Contains row.now k → j ≡ k }
+{
+    match (row.next(0), row.last()) {
+        (Some(least), Some(last)) => least == last,
+        _ => false,
+    }
+}
+
+// Advances over a call the set of each number of a row.
 fn complete_call(
     places: usize,
     filled: &FilledSets,
@@ -153,15 +225,13 @@ fn complete_call(
     ensures { IfOk result (λ done. (spots : List code_spot) → Gains spots (IsAfterIn spots call filled.now.sets.items
         row.now (length filled.now.sets.items)) set.old set.new) }
 {
-    complete_own(&filled.own, call, row, set)?;
-    match filled.rest.get(call.from) {
-        Some(rest) => {
-            let both = row.common(rest)?;
-            complete_each(&filled.sets, call, &both, set)?;
-            Ok(())
-        }
-        None => Ok(()),
+    if is_single(row) {
+        complete_last(&filled.sets, call, row, set)?;
+        return Ok(());
     }
+    complete_own(&filled.own, call, row, set)?;
+    complete_rest(places, filled, call, row, set)?;
+    Ok(())
 }
 
 /// Completes a root with each origin of a row: advances the rows that call it there.

@@ -190,7 +190,7 @@ fn fill_sets<L: Letter>(
         let items = &mut kept.items;
         predict_start(flat, sets.len(), heads)?;
         scan_last(flat, line, sets, &kept.postdot.readers, items)?;
-        let blocks = fill(flat, line, sets, heads, items, &mut kept.postdot)?;
+        let blocks = fill(flat, sets, heads, items, &mut kept.postdot)?;
         beside = beside.saturating_add(items.len());
         let filled = Filled {
             heads,

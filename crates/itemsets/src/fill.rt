@@ -27,7 +27,6 @@ use crate::waiters::Waiter;
 use flatgrammar::{
     Deed, Item, Spot, Tables, call, calls, deed_of, null, passes, sole_caller, spots,
 };
-use letters::Letter;
 use ruletable::Memory;
 
 /// Adds the items of a waiting list from a link on.
@@ -278,9 +277,8 @@ fn process_head(
 /// once.
 /// Returns the number of items of its blocks.
 /// `Memory` if that is no number of 64 bits, or if an allocation fails.
-pub(crate) fn fill<L: Letter>(
+pub(crate) fn fill(
     flat: &Tables,
-    line: &[L],
     sets: &Sets,
     heads: &mut Heads,
     items: &mut Items,
@@ -291,15 +289,15 @@ pub(crate) fn fill<L: Letter>(
     requires tables { AreTables flat.now }
     requires alone { AreAlone flat.now }
     requires waiting { AreWaitingAll flat.now sets.now }
-    requires earlier { HoldAll (flat_of flat.now) (map L.number line.now) (views flat.now 0 sets.now) }
-    requires begun { IsWorklist flat.now (map L.number line.now) (views flat.now 0 sets.now) 0 0 heads.old
-        items.old.items }
+    requires begun { (line : List ℕ) × HoldAll (flat_of flat.now) line (views flat.now 0 sets.now)
+        × IsWorklist flat.now line (views flat.now 0 sets.now) 0 0 heads.old items.old.items }
     requires homes { AreHomes flat.now }
     requires homed { AreSetsHomed flat.now sets.now }
     requires items_homed { AreItemsHomed flat.now (head_rows_with sets.now heads.old) items.old }
-    ensures held { IfOk result (λ blocks. Hold (flat_of flat.now) (map L.number line.now)
-        (length (views flat.now 0 sets.now)) (full (block_of flat.now) (length (views flat.now 0 sets.now)) heads.new
-        items.new.items)) }
+    ensures held { IfOk result (λ blocks. (line : List ℕ) → HoldAll (flat_of flat.now) line (views flat.now 0 sets.now)
+        → IsWorklist flat.now line (views flat.now 0 sets.now) 0 0 heads.old items.old.items
+        → Hold (flat_of flat.now) line (length (views flat.now 0 sets.now))
+        (full (block_of flat.now) (length (views flat.now 0 sets.now)) heads.new items.new.items)) }
     ensures different { IfOk result (λ blocks. AreDifferent
         (full (block_of flat.now) (length (views flat.now 0 sets.now)) heads.new items.new.items)) }
     ensures keeps { IfOk result (λ blocks. Keeps

@@ -18,6 +18,8 @@ mod abnfrun_open;
 #[cfg(test)]
 mod abnftexts_joined;
 #[cfg(test)]
+mod bitrows_calls;
+#[cfg(test)]
 mod earley_dense;
 #[cfg(test)]
 mod earley_judge;

@@ -6,5 +6,6 @@ abbrev pub invariant-loop-place : goal.invariant-loop-place
 invariant-loop-place l = record {
   own : length l.own ≡ length l.initial.own;
   rest : length l.rest ≡ length l.initial.rest;
-  indexes : AreIndexedBelow l.number l.place l.rows l.initial.own l.initial.rest l.own l.rest;
+  union : length l.union ≡ length l.initial.union;
+  indexes : AreIndexedBelow l.number l.place l.rows l.initial.own l.initial.rest l.initial.union l.own l.rest l.union;
 }

@@ -1,11 +1,11 @@
-use Rattle.std.proofs.Common.{[], slice_index_or}
+use Rattle.std.proofs.Common.{◌≡◌, [], slice_index_or}
 use Rattle.bitrows.proofs.WordInLemmas.{default_same}
-use Rattle.earley.proofs.RowIndexesLemmas.{inserted_at}
+use Rattle.earley.proofs.RowIndexesLemmas.{joined_at}
 use Rattle.earley.proofs.row_index.insert_at.Goals as goal
 
 pub returns-clause-members : goal.returns-clause-members
 returns-clause-members c =
     let row = c.index-rows-place.result in
-    inserted_at c.args.rows.now c.args.place c.args.number (slice_index_or c.args.rows.now c.args.place row)
+    joined_at c.args.rows.now c.args.place (λ x. x ≡ c.args.number) (slice_index_or c.args.rows.now c.args.place row)
     c.insert.new.self c.requires.place (default_same c.args.rows.now c.args.place row [] c.requires.place)
     c.in_ok-insert.ensures.members

@@ -20,19 +20,30 @@ use Rattle.itemsets.proofs.chart.fill_sets.Goals as goal
 
 pub fill-requires-clause-begun : goal.fill-requires-clause-begun
 fill-requires-clause-begun g c =
+    let here = c.loop-most.invariant in (
+      map g.L.Letter.number c.args.line.now,
+      here.built.held,
+      going_from c.args.flat.now c.requires.roots c.requires.nulls c.requires.tables
+          (map g.L.Letter.number c.args.line.now) c.loop-most.sets here.built c.len-in-loop-most.result
+          c.len-in-loop-most.ensures c.predict_start.new.heads c.scan_last.new.items.items
+          (subst (λ v. Adds (IsWholeAt c.args.flat.now c.len-in-loop-most.result) v c.predict_start.new.heads)
+          here.no_heads c.in_ok-predict_start.ensures)
+          (subst (λ v. Adds (IsAfter c.args.flat.now (map g.L.Letter.number c.args.line.now)
+          (views c.args.flat.now 0 c.loop-most.sets)) v c.scan_last.new.items.items) here.no_items
+          c.in_ok-scan_last.ensures.added),
+    )
+
+pub loop-most-preserved : goal.loop-most-preserved
+loop-most-preserved g c =
     let here = c.loop-most.invariant in
-    going_from c.args.flat.now c.requires.roots c.requires.nulls c.requires.tables
+    let worklist = going_from c.args.flat.now c.requires.roots c.requires.nulls c.requires.tables
     (map g.L.Letter.number c.args.line.now) c.loop-most.sets here.built c.len-in-loop-most.result
     c.len-in-loop-most.ensures c.predict_start.new.heads c.scan_last.new.items.items
     (subst (λ v. Adds (IsWholeAt c.args.flat.now c.len-in-loop-most.result) v c.predict_start.new.heads) here.no_heads
     c.in_ok-predict_start.ensures)
     (subst (λ v. Adds (IsAfter c.args.flat.now (map g.L.Letter.number c.args.line.now)
     (views c.args.flat.now 0 c.loop-most.sets)) v c.scan_last.new.items.items) here.no_items
-    c.in_ok-scan_last.ensures.added)
-
-pub loop-most-preserved : goal.loop-most-preserved
-loop-most-preserved g c =
-    let here = c.loop-most.invariant in
+    c.in_ok-scan_last.ensures.added) in
     let kept_set : EarleySet = c.in_ok-push.ensures.added.0 in
     let pushed = c.in_ok-push.ensures.added.1.0 in
     let kept = c.in_ok-push.ensures.added.1.1 in
@@ -52,7 +63,8 @@ loop-most-preserved g c =
           (views c.args.flat.now 0 c.loop-most.sets)) v c.scan_last.new.items.items) here.no_items
           c.in_ok-scan_last.ensures.added)
           kept_set c.fill.new.heads c.fill.new.items.items kept.same_heads (kept.same_items ∙ c.list.ensures)
-          c.in_ok-blocks.ensures.held c.in_ok-blocks.ensures.different c.in_ok-blocks.ensures.keeps
+          (c.in_ok-blocks.ensures.held (map g.L.Letter.number c.args.line.now) here.built.held worklist)
+          c.in_ok-blocks.ensures.different c.in_ok-blocks.ensures.keeps
           c.in_ok-blocks.ensures.closed);
       within = (let short : length (c.loop-most.sets ++ kept_set ∷ []) ≤ length c.args.line.now + 1 =
           omega (arith, size, test, len) in

@@ -22,17 +22,18 @@ use Rattle.itemsets.proofs.ItemHomesLemmas.{readers_keep, pass_home}
 use Rattle.itemsets.proofs.fill.fill.Goals as goal
 
 pub loop-item_index-smaller-then-item_index-len : goal.loop-item_index-smaller-then-item_index-len
-loop-item_index-smaller-then-item_index-len g c =
+loop-item_index-smaller-then-item_index-len c =
+    let going = c.loop-item_index.invariant.going c.requires.begun.0 c.requires.begun.1 c.requires.begun.2 in
     measure_falls c.args.flat.now c.requires.roots c.requires.nulls c.requires.tables
-    (map g.L.Letter.number c.args.line.now)
-    (views c.args.flat.now 0 c.args.sets.now) c.requires.earlier
+    c.requires.begun.0
+    (views c.args.flat.now 0 c.args.sets.now) c.requires.begun.1
     c.loop-item_index.item_index c.loop-item_index.head_index (c.loop-item_index.item_index + 1)
-    c.loop-item_index.head_index c.loop-item_index.heads c.loop-item_index.items.items c.loop-item_index.invariant.going
+    c.loop-item_index.head_index c.loop-item_index.heads c.loop-item_index.items.items going
     (omega arith) (inl (let test = c.if-item_index-len.true in let len = c.len.ensures in omega (arith, test, len)))
 
 pub loop-item_index-preserved-then-item_index-len :
     goal.loop-item_index-preserved-then-item_index-len
-loop-item_index-preserved-then-item_index-len g c =
+loop-item_index-preserved-then-item_index-len c =
     let below : c.loop-item_index.item_index < length c.loop-item_index.items.items =
     (let test = c.if-item_index-len.true in let len = c.len.ensures in omega (arith, test, len)) in
     let item_is = index_get c.loop-item_index.items.items c.loop-item_index.item_index c.at-item.result
@@ -49,15 +50,16 @@ loop-item_index-preserved-then-item_index-len g c =
     let here = have c.at-item.result.origin c.home-home.result
     (home_of c.args.flat.now c.at-item.result.node) (c.loop-item_index.invariant.homes c.loop-item_index.item_index
     c.at-item.result c.home-home.result c.at-item.ensures c.home-home.ensures) in
+    let going = c.loop-item_index.invariant.going c.requires.begun.0 c.requires.begun.1 c.requires.begun.2 in
     record {
-      going = item_more c.args.flat.now c.requires.roots c.requires.nulls c.requires.tables
-          (map g.L.Letter.number c.args.line.now) (views c.args.flat.now 0 c.args.sets.now) c.requires.earlier
+      going = λ line earlier begun. item_more c.args.flat.now c.requires.roots c.requires.nulls c.requires.tables
+          line (views c.args.flat.now 0 c.args.sets.now) earlier
           c.loop-item_index.item_index c.loop-item_index.head_index c.loop-item_index.heads
           c.loop-item_index.items.items
-          c.loop-item_index.invariant.going c.at-item.result
+          (c.loop-item_index.invariant.going line earlier begun) c.at-item.result
           c.process_item.new.heads c.process_item.new.items.items below asked further;
       keeps = λ a h. more_keeps c.args.flat.now c.requires.roots c.requires.nulls c.requires.tables
-          (map g.L.Letter.number c.args.line.now) (views c.args.flat.now 0 c.args.sets.now) c.requires.earlier
+          c.requires.begun.0 (views c.args.flat.now 0 c.args.sets.now) c.requires.begun.1
           (length (views c.args.flat.now 0 c.args.sets.now)) c.loop-item_index.heads c.process_item.new.heads
           c.loop-item_index.items.items c.process_item.new.items.items asked further a
           (c.loop-item_index.invariant.keeps a h);
@@ -75,7 +77,7 @@ loop-item_index-preserved-then-item_index-len g c =
       counted = λ j. c.loop-item_index.invariant.counted j ∙ ap (λ v. length (expand (block_of c.args.flat.now) j v))
           (sym (front_same c.loop-item_index.head_index c.loop-item_index.heads asked.added c.process_item.new.heads
           asked.is
-          c.loop-item_index.invariant.going.within_heads));
+          going.within_heads));
       readers = chosen_next (ReadsSome c.args.flat.now) c.loop-item_index.items.items c.process_item.new.items.items
           (items_of c.process_item.new.postdot.readers.items) c.loop-item_index.item_index further c.at-item.result
           below
@@ -95,18 +97,19 @@ loop-item_index-preserved-then-item_index-len g c =
     }
 
 pub loop-item_index-smaller : goal.loop-item_index-smaller
-loop-item_index-smaller g c =
+loop-item_index-smaller c =
+    let going = c.loop-item_index.invariant.going c.requires.begun.0 c.requires.begun.1 c.requires.begun.2 in
     measure_falls c.args.flat.now c.requires.roots c.requires.nulls c.requires.tables
-    (map g.L.Letter.number c.args.line.now)
-    (views c.args.flat.now 0 c.args.sets.now) c.requires.earlier
+    c.requires.begun.0
+    (views c.args.flat.now 0 c.args.sets.now) c.requires.begun.1
     c.loop-item_index.item_index c.loop-item_index.head_index c.loop-item_index.item_index
     (c.loop-item_index.head_index + 1) c.loop-item_index.heads c.loop-item_index.items.items
-    c.loop-item_index.invariant.going
+    going
     (omega arith) (inr (let test = c.if-head_index-len.true in let len = c.len-else-item_index-len.ensures in
     omega (arith, test, len)))
 
 pub loop-item_index-preserved : goal.loop-item_index-preserved
-loop-item_index-preserved g c =
+loop-item_index-preserved c =
     let below : c.loop-item_index.head_index < length c.loop-item_index.heads =
     (let test = c.if-head_index-len.true in let len = c.len-else-item_index-len.ensures in
     omega (arith, test, len)) in
@@ -128,22 +131,23 @@ loop-item_index-preserved g c =
     let at : slice_get c.process_head.new.heads c.loop-item_index.head_index ≡ Some c.at-head.result =
     ap (λ v. slice_get v c.loop-item_index.head_index) called.is
     ∙ keeps_get c.loop-item_index.heads called.added c.loop-item_index.head_index c.at-head.result c.at-head.ensures in
+    let going = c.loop-item_index.invariant.going c.requires.begun.0 c.requires.begun.1 c.requires.begun.2 in
     record {
-      going = head_more c.args.flat.now c.requires.roots c.requires.nulls c.requires.tables
-          (map g.L.Letter.number c.args.line.now) (views c.args.flat.now 0 c.args.sets.now) c.requires.earlier
+      going = λ line earlier begun. head_more c.args.flat.now c.requires.roots c.requires.nulls c.requires.tables
+          line (views c.args.flat.now 0 c.args.sets.now) earlier
           c.loop-item_index.item_index c.loop-item_index.head_index c.loop-item_index.heads
           c.loop-item_index.items.items
-          c.loop-item_index.invariant.going c.at-head.result
+          (c.loop-item_index.invariant.going line earlier begun) c.at-head.result
           c.process_head.new.heads c.process_head.new.items.items below called passed;
       keeps = λ a h. more_keeps c.args.flat.now c.requires.roots c.requires.nulls c.requires.tables
-          (map g.L.Letter.number c.args.line.now) (views c.args.flat.now 0 c.args.sets.now) c.requires.earlier
+          c.requires.begun.0 (views c.args.flat.now 0 c.args.sets.now) c.requires.begun.1
           (length (views c.args.flat.now 0 c.args.sets.now)) c.loop-item_index.heads c.process_head.new.heads
           c.loop-item_index.items.items c.process_head.new.items.items called passed a
           (c.loop-item_index.invariant.keeps a h);
       callers = record {
         chosen = chosen_still (Calls c.args.flat.now) c.loop-item_index.items.items c.process_head.new.items.items
             (callers_of c.loop-item_index.postdot.callers.items) c.loop-item_index.item_index passed
-            c.loop-item_index.invariant.going.within_items c.loop-item_index.invariant.callers.chosen;
+            going.within_items c.loop-item_index.invariant.callers.chosen;
         tell = c.loop-item_index.invariant.callers.tell;
       };
       counted = λ j.
@@ -159,7 +163,7 @@ loop-item_index-preserved g c =
           omega (arith, more, front, was, sum);
       readers = chosen_still (ReadsSome c.args.flat.now) c.loop-item_index.items.items c.process_head.new.items.items
           (items_of c.loop-item_index.postdot.readers.items) c.loop-item_index.item_index passed
-          c.loop-item_index.invariant.going.within_items c.loop-item_index.invariant.readers;
+          going.within_items c.loop-item_index.invariant.readers;
       homes = c.in_ok-process_head.ensures.homes more
           (λ p stands. pass_home c.args.flat.now c.requires.homes more c.process_head.new.heads c.at-head.result
           c.len-then-head_index-len.result c.loop-item_index.head_index p
@@ -173,33 +177,34 @@ loop-item_index-preserved g c =
     }
 
 pub returns-else-head_index-len-clause-held : goal.returns-else-head_index-len-clause-held
-returns-else-head_index-len-clause-held g c =
-    full_held c.args.flat.now c.requires.roots c.requires.nulls c.requires.tables
-    (map g.L.Letter.number c.args.line.now) (views c.args.flat.now 0 c.args.sets.now) c.requires.earlier
-    c.loop-item_index.item_index c.loop-item_index.head_index c.loop-item_index.heads c.loop-item_index.items.items
-    c.loop-item_index.invariant.going
+returns-else-head_index-len-clause-held c = λ line earlier begun.
+    full_held c.args.flat.now c.requires.roots c.requires.nulls c.requires.tables line
+    (views c.args.flat.now 0 c.args.sets.now) earlier c.loop-item_index.item_index c.loop-item_index.head_index
+    c.loop-item_index.heads c.loop-item_index.items.items (c.loop-item_index.invariant.going line earlier begun)
 
 pub returns-else-head_index-len-clause-different :
     goal.returns-else-head_index-len-clause-different
-returns-else-head_index-len-clause-different g c =
+returns-else-head_index-len-clause-different c =
+    let going = c.loop-item_index.invariant.going c.requires.begun.0 c.requires.begun.1 c.requires.begun.2 in
     all_different c.args.flat.now c.requires.roots c.requires.nulls c.requires.tables
-    (map g.L.Letter.number c.args.line.now) (views c.args.flat.now 0 c.args.sets.now) c.requires.earlier
+    c.requires.begun.0 (views c.args.flat.now 0 c.args.sets.now) c.requires.begun.1
     c.loop-item_index.item_index c.loop-item_index.head_index c.loop-item_index.heads c.loop-item_index.items.items
-    c.loop-item_index.invariant.going
+    going
 
 pub returns-else-head_index-len-clause-closed : goal.returns-else-head_index-len-clause-closed
-returns-else-head_index-len-clause-closed g c =
+returns-else-head_index-len-clause-closed c =
+    let going = c.loop-item_index.invariant.going c.requires.begun.0 c.requires.begun.1 c.requires.begun.2 in
     all_closed c.args.flat.now c.requires.roots c.requires.nulls c.requires.tables
-    (map g.L.Letter.number c.args.line.now) (views c.args.flat.now 0 c.args.sets.now) c.requires.earlier
+    c.requires.begun.0 (views c.args.flat.now 0 c.args.sets.now) c.requires.begun.1
     c.loop-item_index.item_index c.loop-item_index.head_index c.loop-item_index.heads c.loop-item_index.items.items
-    c.loop-item_index.invariant.going
+    going
     (let test = c.if-item_index-len.false in let len = c.len.ensures in omega (arith, test, len))
     (let test = c.if-head_index-len.false in let len = c.len-else-item_index-len.ensures in omega (arith, test, len))
     (past_get (views c.args.flat.now 0 c.args.sets.now) (length (views c.args.flat.now 0 c.args.sets.now))
     (omega arith))
 
 pub returns-else-head_index-len-clause-callers : goal.returns-else-head_index-len-clause-callers
-returns-else-head_index-len-clause-callers g c = record {
+returns-else-head_index-len-clause-callers c = record {
   chosen = chosen_end (Calls c.args.flat.now) c.loop-item_index.items.items
       (callers_of c.loop-item_index.postdot.callers.items) c.loop-item_index.item_index
       (let test = c.if-item_index-len.false in let len = c.len.ensures in omega (arith, test, len))
@@ -208,30 +213,30 @@ returns-else-head_index-len-clause-callers g c = record {
 }
 
 pub returns-else-head_index-len-clause-readers : goal.returns-else-head_index-len-clause-readers
-returns-else-head_index-len-clause-readers g c = chosen_end (ReadsSome c.args.flat.now) c.loop-item_index.items.items
+returns-else-head_index-len-clause-readers c = chosen_end (ReadsSome c.args.flat.now) c.loop-item_index.items.items
     (items_of c.loop-item_index.postdot.readers.items) c.loop-item_index.item_index
     (let test = c.if-item_index-len.false in let len = c.len.ensures in omega (arith, test, len))
     c.loop-item_index.invariant.readers
 
 pub process_item-requires-clause-begun : goal.process_item-requires-clause-begun
-process_item-requires-clause-begun g c = begin_all c.args.flat.now (map g.L.Letter.number c.args.line.now)
+process_item-requires-clause-begun c = begin_all c.args.flat.now c.requires.begun.0
     c.args.sets.now
-    c.requires.earlier
+    c.requires.begun.1
 
 pub returns-else-head_index-len-clause-blocks : goal.returns-else-head_index-len-clause-blocks
-returns-else-head_index-len-clause-blocks g c = λ j. c.loop-item_index.invariant.counted j
+returns-else-head_index-len-clause-blocks c = λ j. c.loop-item_index.invariant.counted j
     ∙ ap (λ v. length (expand (block_of c.args.flat.now) j v))
     (take_past c.loop-item_index.heads c.loop-item_index.head_index
     (let test = c.if-head_index-len.false in let len = c.len-else-item_index-len.ensures in omega (arith, test, len)))
 
 pub process_item-requires-clause-home : goal.process_item-requires-clause-home
-process_item-requires-clause-home g c = home_there c.args.flat.now c.args.sets.now c.loop-item_index.heads
+process_item-requires-clause-home c = home_there c.args.flat.now c.args.sets.now c.loop-item_index.heads
     c.at-item.result c.home-home.result
     (c.loop-item_index.invariant.homes c.loop-item_index.item_index c.at-item.result c.home-home.result
     c.at-item.ensures c.home-home.ensures)
 
 pub returns-else-head_index-len-clause-caller_homes : goal.returns-else-head_index-len-clause-caller_homes
-returns-else-head_index-len-clause-caller_homes g c = c.loop-item_index.invariant.caller_homes
+returns-else-head_index-len-clause-caller_homes c = c.loop-item_index.invariant.caller_homes
 
 pub returns-else-head_index-len-clause-reader_homes : goal.returns-else-head_index-len-clause-reader_homes
-returns-else-head_index-len-clause-reader_homes g c = c.loop-item_index.invariant.reader_homes
+returns-else-head_index-len-clause-reader_homes c = c.loop-item_index.invariant.reader_homes

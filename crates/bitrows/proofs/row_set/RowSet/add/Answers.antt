@@ -27,8 +27,8 @@ invariant_of-self-2 c =
     c.enqueue.ensures.only (subst (λ v. Contains c.enqueue.new.queue.items c.args.place ⊎ HasSome v c.args.place)
     c.deref.ensures.value c.in_ok-enqueue.ensures.there)
 
-pub returns-then-covers : goal.returns-then-covers
-returns-then-covers c =
+pub returns-then-has_all : goal.returns-then-has_all
+returns-then-has_all c =
     let all = c.self.inside.rows.items in
     let p = c.args.place in
     let lt : p < length all = subst (λ v. p < length v.all) (sym c.self.view_is) c.requires in
@@ -36,7 +36,7 @@ returns-then-covers c =
     ∙ default_same all p c.index.result.now [] lt in
     adds_none p (λ k. Contains c.args.found.now k) c.args.self.now
     (λ k h. subst (λ v. HasAt v.all p k) c.self.view_is
-    (subst (λ r. Contains r k) row (c.covers.ensures c.if-covers.true k h)))
+    (subst (λ r. Contains r k) row (c.has_all.ensures.0 c.if-has_all.true k h)))
 
 pub returns : goal.returns
 returns c =
