@@ -13,6 +13,7 @@ changed.
 """
 import argparse
 import collections
+import functools
 import pathlib
 import random
 import subprocess
@@ -68,7 +69,7 @@ def peg_case(r, may_be_explained=False):
         return None
     case = Case(words, text, given, tuple(wanted), count)
     if may_be_explained and r.random() < 0.5:
-        return explained(r, case, start, slow_faults.peg, slow_notes.peg)
+        return explained(r, case, start, slow_faults.peg, functools.partial(slow_notes.peg, grammar=rules))
     return case
 
 

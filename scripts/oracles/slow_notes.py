@@ -1,13 +1,15 @@
 """Slow answers to what explains the notes on a grammar. It shares nothing with the crates."""
 import re
 
+import random_peg
 import slow_abnf
 import slow_faults
+import slow_peg
 
 # The parts of messages round the name, and how a note of the kind is explained.
 KINDS = [("rule '", "' redefined", "redefined"), ("rule '", "' extended before it is defined", "early"),
          ("rule '", "' used but not defined", "undefined"), ("prose in rule '", "'", "prose"),
-         ("rule '", "' defined but not used", "unused")]
+         ("rule '", "' defined but not used", "unused"), ("possible infinite loop in rule '", "'", "loop")]
 SHOWN, AGAIN, CHAIN = 60, 8, 8
 
 
@@ -20,13 +22,15 @@ class Places:
     """Where a text defines and uses its rules; `key` is what names of one rule have in common."""
 
     def __init__(self, text, tokens, signs, line_end, key):
-        self.key, self.named, self.bodies, within = key, {}, {}, None
+        self.key, self.named, self.bodies, self.repeats, within = key, {}, {}, {}, None
         for token, behind in zip(tokens, tokens[1:]):
             line = len(re.findall(line_end, text[:token.start])) + 1
             if token.kind in ("Ident", "Name") and behind.kind in signs:
                 within = self.begin(token.text, line, behind.kind == "Adds")
             elif token.kind in ("Ident", "Name", "Prose") and within is not None:
                 self.bodies[within].append((token.kind == "Prose", token.text, line))
+            elif token.kind in ("Star", "Plus") and within is not None:
+                self.repeats.setdefault(within, []).append(line)
 
     def begin(self, name, line, adds):
         """Begins a definition. Returns the rule to whose bodies it belongs; none where it does not stand."""
@@ -61,6 +65,70 @@ class Places:
         if kind == "undefined":
             return self.use(name, start)
         return self.prose(name) if kind == "prose" else self.definitions(kind, name)
+
+
+def byte_text(byte, in_octal, marked):
+    """Returns a byte as the canonical text of a literal or a class spells it."""
+    if byte in random_peg.ESCAPES:
+        return random_peg.ESCAPES[byte]
+    if not 32 <= byte <= 126 or chr(byte) in in_octal:
+        return "\\%03o" % byte
+    return "\\" * (chr(byte) in marked) + chr(byte)
+
+
+def set_text(members):
+    """Returns a class as it is printed: by runs of its members, or of the other bytes if 255 is a member."""
+    some, text = set(range(256)) - members if 255 in members else members, ""
+    for first in sorted(it for it in some if it - 1 not in some):
+        last = next(it for it in range(first, 256) if it + 1 not in some)
+        run = [first] if last == first else [first, last]
+        text += ("-" if last > first + 1 else "").join(byte_text(it, "-^", "[\\]") for it in run)
+    return "[" + "^" * (255 in members) + text + "]"
+
+
+def canonical(e, within="body"):
+    """Returns an expression's canonical text."""
+    kind = e[0]
+    if random_peg.needs_brackets(e, within):
+        return "(" + canonical(e) + ")"
+    if kind in ("any", "open", "close"):
+        return {"any": ".", "open": "<", "close": ">"}[kind]
+    if kind == "bytes":
+        return '"' + "".join(byte_text(it, "", '"\\') for it in e[1]) + '"'
+    if kind in ("name", "act"):
+        return e[1] if kind == "name" else "{" + e[1].decode() + "}"
+    if kind == "set":
+        return set_text(e[1])
+    if kind in ("seq", "choice"):
+        return (" " if kind == "seq" else " / ").join(canonical(it, kind) for it in e[1])
+    if kind in ("and", "not"):
+        return "&" + canonical(e[1], "and") if kind == "and" else "!" + canonical(e[1], "prefix")
+    return canonical(e[1], "suffix") + {"star": "*", "plus": "+", "opt": "?"}[kind]
+
+
+def repeats(e):
+    """Yields the repetitions in an expression, in the order of their marks."""
+    for part in slow_peg.parts(e):
+        yield from repeats(part)
+    if e[0] in ("star", "plus"):
+        yield e
+
+
+class PegPlaces(Places):
+    """Of a text of peg(1) also what the bodies of the rules are."""
+
+    def __init__(self, text, tokens, grammar):
+        super().__init__(text, tokens, ("Arrow",), rb"\r\n|\r|\n", lambda name: name)
+        self.rules, _ = slow_peg.first_bodies(grammar)
+        self.nullable = slow_peg.nullable_rules(self.rules)
+
+    def loop(self, name):
+        line, e = next((line, e) for line, e in zip(self.repeats[name], repeats(self.rules[name.decode()]))
+                       if slow_peg.is_nullable(e[1], self.nullable))
+        return f"  line {line}: {cut(canonical(e).encode())} repeats what may take nothing\n"
+
+    def lines_on(self, kind, name, start):
+        return self.loop(name) if kind == "loop" else super().lines_on(kind, name, start)
 
 
 class AbnfPlaces(Places):
@@ -122,11 +190,10 @@ def explained(message, places, start):
     return told.encode("latin-1")
 
 
-def peg(text, message, start):
+def peg(text, message, start, grammar):
     """Returns the messages of pegi on a grammar and an input, with what explains the notes."""
     tokens = slow_faults.tokens_of(text, slow_faults.PEG_WHITE, slow_faults.PEG_TOKENS, True)
-    places = Places(text, tokens, ("Arrow",), rb"\r\n|\r|\n", lambda name: name)
-    return explained(message, places, start and start.encode())
+    return explained(message, PegPlaces(text, tokens, grammar), start and start.encode())
 
 
 def abnf(text, message, judged):

@@ -1,11 +1,13 @@
 -- What the marks of nodes say of rules.
--- Serves: check_peg
+-- Serves: check_peg, nullable_rules
 use Rattle.std.proofs.Common.{◌≡◌, ℕ, Bool, false, List, length, map, get_or, sym, ap, arith, ◌∙◌, Some}
 use Rattle.std.specs.Prelude.{slice_get}
 use Rattle.std.proofs.lemmas.List.{get_or-map, length-map}
 use Rattle.std.proofs.lemmas.Option.{slice_get_within, slice_get-get_or, get_or_from_slice_get}
 use Rattle.pegread.specs.Pattern.{Rule}
 use Rattle.gramcheck.specs.Analysis.{IsAnalysed}
+use Rattle.gramcheck.specs.GrammarNotes.{AreMarks}
+use Rattle.gramcheck.specs.Left.{Nullable}
 use Rattle.pegnodes.specs.Bodies.{AreBodies}
 use Rattle.gramcheck.specs.Loops.{LoopsTo, AreLoopMarks}
 use Rattle.pegnodes.specs.Nodes as node
@@ -56,3 +58,20 @@ module _ (nodes : List Shape) (nulls marks : List Bool) (i : ℕ) (all : i ≡ l
             node.Spells rules nodes (get_or bodies id 0) rule.body
         spelled id rule at = body_spelled rules nodes bodies nulls are marked id
             (get_or bodies id 0) rule at (body_at id rule at)
+
+-- the marks of the bodies' nodes are those of rules whose bodies are nullable
+pub null_rules : (rules : List Rule) (nodes : List Shape) (bodies : List ℕ) (marks found : List Bool)
+    → AreBodies rules nodes bodies → AreNullMarks rules nodes marks
+    → found ≡ map (λ k. get_or marks k false) bodies → AreMarks (λ rule. Nullable rules rule.body) rules found
+null_rules rules nodes bodies marks found are marked is = record {
+  count = ap length is ∙ length-map bodies (λ k. get_or marks k false) ∙ are.count;
+  exact = λ id rule at.
+      let lt = slice_get_within rules id rule at in
+      let c = are.count in
+      let b = slice_get-get_or bodies id 0 (omega (arith, lt, c)) in
+      let same = body_mark bodies marks found id (get_or bodies id 0) is b in
+      let spelled = body_spelled rules nodes bodies marks are marked id (get_or bodies id 0) rule at b in (
+        λ h. marked.sound (get_or bodies id 0) rule.body spelled (sym same ∙ h),
+        λ d. same ∙ marked.whole (get_or bodies id 0) rule.body spelled d,
+      );
+}

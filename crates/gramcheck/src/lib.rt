@@ -20,6 +20,7 @@ pub use laws::{
     some_outcome, some_outcome_of_start,
 };
 pub use notes::{one_list_of_notes, redefinitions};
+pub use nullable::nullable_rules;
 pub use ranked_laws::{
     exactly_one_outcome, exactly_one_outcome_of_start, ranks_fall, some_outcome_of_ranked,
 };

@@ -5,11 +5,16 @@ ghost use Rattle.pegnodes.specs.Bodies.{AreBodies, IsBuilt};
 ghost use Rattle.leastset.specs.Demands.{demand_of, demands_of};
 ghost use Rattle.leastset.specs.NumberMarks.{AreBelow};
 ghost use Rattle.pegnodes.specs.Nodes.{shape_of, shapes_of};
+ghost use Rattle.pegread.specs.PegViews.{rules_of};
+ghost use Rattle.gramcheck.specs.GrammarNotes.{AreMarks};
+ghost use Rattle.gramcheck.specs.Left.{Nullable};
 ghost use Rattle.gramcheck.specs.Nulls.{null_demand, null_demands, AreNullMarks};
 
+use crate::loops::body_marks;
 use leastset::{Need, least};
-use pegnodes::{Node, body_of};
-use ruletable::Memory;
+use pegnodes::{Node, body_of, cut_grammar};
+use pegread::Expr;
+use ruletable::{Memory, NameCase, RuleTable};
 use std::alloc::Global;
 use std::slice::from_ref;
 
@@ -64,4 +69,19 @@ pub(crate) fn nullable(alloc: Global, nodes: &[Node], bodies: &[usize]) -> Resul
     let needs = needs(alloc, nodes, bodies)?;
     let marks = least(alloc, &needs)?;
     Ok(marks)
+}
+
+/// Returns a mark for each rule, set exactly for those whose bodies may take nothing.
+///
+/// # Errors
+/// `Memory` if an allocation fails.
+pub fn nullable_rules(alloc: Global, rules: &RuleTable<Expr>) -> Result<Vec<bool>, Memory>
+    requires { rules.now.names ≡ NameCase.Exact }
+    ensures { IfOk result (λ found. AreMarks (λ rule. Nullable (rules_of rules.now) rule.body) (rules_of rules.now)
+        found.items) }
+{
+    let cut = cut_grammar(alloc, rules)?;
+    let marks = nullable(alloc, &cut.nodes, &cut.bodies)?;
+    let found = body_marks(alloc, &cut.bodies, &marks)?;
+    Ok(found)
 }

@@ -2,7 +2,7 @@
 use std::alloc::Global;
 use std::process::Abort;
 use std::test::Fail;
-use stepchains::{Chains, chains_from, one_chain};
+use stepchains::{Chains, chains_from, one_chain, one_way_back};
 
 // The steps from each number, where chains begin, and of each number the chain to it; none stands for no chain.
 static CHAINS: [(&[&[usize]], usize, &[&[usize]]); 5] = [
@@ -29,6 +29,44 @@ static CHAINS: [(&[&[usize]], usize, &[&[usize]]); 5] = [
         &[&[0], &[0, 3, 1], &[0, 2], &[0, 3], &[0, 2, 4]],
     ),
 ];
+
+// The steps from each number, where a way begins, and the way back there; none stands for no way.
+static WAYS_BACK: [(&[&[usize]], usize, &[usize]); 6] = [
+    // a step to itself is shorter than any other way
+    (&[&[1, 0], &[0]], 0, &[0]),
+    (&[&[1], &[0]], 0, &[0, 1]),
+    // no way back, though steps lead there from a number that is not reached
+    (&[&[1], &[], &[0]], 0, &[]),
+    // of two ways of one length that by the least number at the end, and before it
+    (&[&[4, 3], &[0], &[0], &[2, 1], &[2, 1]], 0, &[0, 3, 1]),
+    // the nearest number is not the least
+    (&[&[3, 2], &[0], &[1], &[0]], 0, &[0, 3]),
+    // from the middle of a table
+    (&[&[0, 2], &[2], &[0, 3], &[1]], 2, &[2, 0]),
+];
+
+// Returns whether the way back is that one, where none stands for no way.
+fn is_way_back(
+    alloc: Global,
+    steps: &[&[usize]],
+    from: usize,
+    way: &[usize],
+) -> Result<bool, Fail> {
+    let chains = chains_from(alloc, steps, from)?;
+    match chains.way_back(alloc, steps, from)? {
+        Some(found) => Ok(found.as_slice() == way),
+        None => Ok(way.is_empty()),
+    }
+}
+
+#[test]
+fn finds_ways_back(rt: HostRuntime) -> Result<(), Fail> {
+    one_way_back();
+    for row in &WAYS_BACK {
+        assert!(rt; is_way_back(rt.alloc(), row.0, row.1, row.2)?);
+    }
+    Ok(())
+}
 
 // Returns whether the chain to a number is that one, where none stands for no chain.
 fn is_chain(alloc: Global, chains: &Chains, n: usize, chain: &[usize]) -> Result<bool, Fail> {

@@ -244,7 +244,7 @@ fn a_grammar_too_long_is_explained(rt: HostRuntime) -> Result<(), Fail> {
 }
 
 // What is told of the notes on a grammar that is refused.
-static NOTED: [ExplainRow; 8] = [
+static NOTED: [ExplainRow; 9] = [
     ExplainRow {
         program: Program::Pegi,
         grammar: b"sum <- term ('+' term)*\r\nterm <- [0-9]+\rname <- .\n# a comment\nterm <- name",
@@ -253,6 +253,22 @@ static NOTED: [ExplainRow; 8] = [
   line 5: 'term' is defined again
 rule 'name' defined but not used
   line 3: 'name' is defined
+",
+    },
+    // the marks of repetitions in the order of the text; an operand may take nothing by a rule that stands, and a
+    // repetition is told as it is printed
+    ExplainRow {
+        program: Program::Pegi,
+        grammar: b"S <- ('a'+\n  ( T\n 'x'* )+ / B* )*\nB <- 'b'*\nT <- 't'? !'u'\nT <- 't'\nU <- (\n'c'\n*)\r+ \"'\"*",
+        told: b"rule 'T' redefined
+  line 5: 'T' is defined
+  line 6: 'T' is defined again
+rule 'U' defined but not used
+  line 7: 'U' is defined
+possible infinite loop in rule 'S'
+  line 3: (T \"x\"*)+ repeats what may take nothing
+possible infinite loop in rule 'U'
+  line 10: (\"c\"*)+ repeats what may take nothing
 ",
     },
     // what adds to a rule stands, also in another spelling, and a rule may begin so

@@ -8,6 +8,8 @@ use Rattle.ruletable.specs.declared.lines.LineRule.{LineRule}
 use Rattle.ruletable.specs.declared.table.NameCase.{NameCase}
 use Rattle.noteplaces.specs.DefinitionHeads.{definitions_in, sign_at}
 use Rattle.noteplaces.specs.ExplainedNotes.{ArePlaces, IsNoteExplained, note_lines, told_by}
+use Rattle.noteplaces.specs.FirstMentions.{rule_named}
+use Rattle.noteplaces.specs.RepeatLines.{repeats_by, repeats_of, repeats_told}
 use Rattle.noteplaces.specs.UseLines.{lines_behind}
 use Rattle.noteplaces.specs.declared.places.Places.{Places}
 use Rattle.noteplaces.specs.declared.sign.Sign.{Sign}
@@ -36,3 +38,15 @@ module _ {K : Type 0} (White : List ℕ → List ℕ → Type 0) (First : K → 
   explained-one one start note a b g h =
       g.is ∙ ap (λ ts. note_lines rule names text (map (sign_at sign_of) ts) start note)
       (one g.tokens h.tokens g.are_tokens h.are_tokens) ∙ sym h.is
+
+  -- the lines of repetitions that places tell are those of the tokens
+  pub places-repeat : (places : Places) (name : List ℕ)
+      (are : ArePlaces White First is_end sign_of rule names text places)
+      → repeats_by places name ≡ repeats_told rule names text (map (sign_at sign_of) are.tokens) name
+  places-repeat places name are =
+      ap (λ ds. repeats_of (rule_named places.names ds name) (map mentioned_at places.mentions.items)) are.heads_are
+      ∙ ap (λ ms. repeats_of (rule_named places.names
+      (definitions_in rule text (map (sign_at sign_of) are.tokens)) name) ms) are.mentions_are
+      ∙ ap (λ (c : NameCase). repeats_of (rule_named c
+      (definitions_in rule text (map (sign_at sign_of) are.tokens)) name)
+      (mentions_in rule text None (map (sign_at sign_of) are.tokens))) are.names_are

@@ -1,6 +1,6 @@
 mod LineEndsLemmas
 mod HeadsTakenLemmas
 mod MentionsTakenLemmas
-mod AgainLinesLemmas
+pub mod AgainLinesLemmas
 pub mod ExplainedNoteLemmas
 mod MentionOrderLemmas

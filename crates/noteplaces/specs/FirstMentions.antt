@@ -1,10 +1,10 @@
 -- Which mention a note is told of.
-use Rattle.std.specs.Prelude.{ℕ, ◌==◌, ◌||◌, nat_lt, not, Bool, false, List, [], ◌∷◌, Option, Some, None, ◌&&◌}
+use Rattle.std.specs.Prelude.{ℕ, ◌==◌, ◌||◌, nat_lt, Bool, false, List, [], ◌∷◌, Option, Some, None, ◌&&◌}
 use Rattle.std.specs.Prelude.{if◌then◌else◌}
 use Rattle.std.specs.List.{filter, find}
 use Rattle.ruletable.specs.Rules.{same_name}
 use Rattle.ruletable.specs.declared.table.NameCase.{NameCase}
-use Rattle.noteplaces.specs.BodyMentions.{MentionedAt}
+use Rattle.noteplaces.specs.BodyMentions.{MentionedAt, kind_is_prose, kind_uses}
 use Rattle.noteplaces.specs.DefinitionHeads.{DefinedAt}
 
 -- the rule of a definition: the first definition of its name
@@ -46,7 +46,7 @@ earliest names definitions (m ∷ ms) other =
 
 -- the uses of a name, and the prose
 abbrev pub uses_of : NameCase → List ℕ → List MentionedAt → List MentionedAt
-uses_of names name mentions = filter (λ m. not m.is_prose && same_name names name m.text) mentions
+uses_of names name mentions = filter (λ m. kind_uses m.kind && same_name names name m.text) mentions
 
 abbrev pub is_rule : NameCase → List ℕ → Option DefinedAt → Bool
 is_rule names name None = false
@@ -55,4 +55,4 @@ is_rule names name (Some r) = same_name names name r.name
 -- the prose in a rule
 abbrev pub prose_of : NameCase → List DefinedAt → List ℕ → List MentionedAt → List MentionedAt
 prose_of names definitions name mentions =
-    filter (λ m. m.is_prose && is_rule names name (rule_standing_at names definitions m.within)) mentions
+    filter (λ m. kind_is_prose m.kind && is_rule names name (rule_standing_at names definitions m.within)) mentions

@@ -5,4 +5,5 @@ pub mod FirstMentions
 pub mod FoundMentions
 pub mod NoteLines
 pub mod Openings
+pub mod RepeatLines
 pub mod UseLines

@@ -5,10 +5,12 @@ mod heads;
 mod lines;
 mod mentions;
 mod places;
+mod repeats;
 mod sign;
 mod uses;
 
 pub use heads::Head;
-pub use mentions::Mention;
+pub use mentions::{Mention, MentionKind};
 pub use places::{Places, explain_note, places_of};
+pub use repeats::repeat_lines;
 pub use sign::{Sign, Signs};

@@ -1,4 +1,4 @@
-//! The names and the prose in the bodies of a grammar's rules.
+//! The names, the prose and the repetitions in the bodies of a grammar's rules.
 ghost use Rattle.std.specs.Prelude.{◌≡◌, ◌++◌, map, IfOk, OnOk, option_map};
 ghost use Rattle.ruletable.specs.Lines.{line_at};
 ghost use Rattle.noteplaces.specs.BodyMentions.{AreMentions, mention_of, mentioned_at};
@@ -10,17 +10,28 @@ use lexer::{Kind, have_tokens, tokens, tokens_make_up};
 use ruletable::{LineRule, Memory};
 use std::alloc::Global;
 
-/// A name that is used in a body, or prose.
+/// What a mention is.
+#[derive(Clone, Copy, Debug, PartialEq, Eq)]
+pub enum MentionKind {
+    /// A name that is used.
+    Use,
+    /// Prose.
+    Prose,
+    /// The mark behind what is repeated.
+    Repeat,
+}
+
+/// A name that is used in a body, prose, or the mark of a repetition.
 #[derive(Drop)]
 pub struct Mention {
-    /// The name as it is spelled, or the prose.
+    /// The name as it is spelled, the prose, or the mark.
     pub text: Vec<u8>,
     /// The line on which it stands, from 1.
     pub line: usize,
     /// Where the name of the definition stands in whose body it does.
     pub within: usize,
-    /// Whether it is prose.
-    pub is_prose: bool,
+    /// Which of them it is.
+    pub kind: MentionKind,
 }
 
 // Adds what a token mentions in the body of the definition at a place, if it mentions anything.
@@ -37,9 +48,10 @@ fn push_mention(
     let Some(within) = within else {
         return Ok(());
     };
-    let is_prose = match token.sign {
-        Sign::Name => false,
-        Sign::Prose => true,
+    let kind = match token.sign {
+        Sign::Name => MentionKind::Use,
+        Sign::Prose => MentionKind::Prose,
+        Sign::Repeats => MentionKind::Repeat,
         Sign::Defines | Sign::Adds | Sign::Other => return Ok(()),
     };
     let text = Vec::from_slice(alloc, token.slice)?;
@@ -47,7 +59,7 @@ fn push_mention(
         text,
         line,
         within,
-        is_prose,
+        kind,
     })?;
     Ok(())
 }

@@ -21,7 +21,7 @@ pub struct Places {
     pub names: NameCase,
     /// The definitions, in order.
     pub heads: Vec<Head>,
-    /// The names and the prose in their bodies, in order.
+    /// The names, the prose and the marks of repetitions in their bodies, in order.
     pub mentions: Vec<Mention>,
 }
 

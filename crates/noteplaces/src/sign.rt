@@ -12,6 +12,8 @@ pub enum Sign {
     Adds,
     /// Prose.
     Prose,
+    /// It stands right behind what it repeats.
+    Repeats,
     /// It is none of these.
     Other,
 }

@@ -1,8 +1,8 @@
 //! The mention that a note is told of.
-ghost use Rattle.std.specs.Prelude.{◌≡◌, ◌++◌, ◌==◌, ◌&&◌, not, None, map, option_map, IfOk, OnOk, option_copied};
+ghost use Rattle.std.specs.Prelude.{◌≡◌, ◌++◌, ◌==◌, ◌&&◌, None, map, option_map, IfOk, OnOk, option_copied};
 ghost use Rattle.std.specs.List.{find};
 ghost use Rattle.ruletable.specs.Rules.{same_name};
-ghost use Rattle.noteplaces.specs.BodyMentions.{mentioned_at};
+ghost use Rattle.noteplaces.specs.BodyMentions.{kind_is_prose, kind_uses, mentioned_at};
 ghost use Rattle.noteplaces.specs.DefinitionHeads.{defined_at};
 ghost use Rattle.noteplaces.specs.FirstMentions.{earlier, earliest, is_rule, prose_of, rule_named};
 ghost use Rattle.noteplaces.specs.FirstMentions.{rule_standing_at, uses_of};
@@ -11,7 +11,7 @@ ghost use Rattle.noteplaces.specs.UseLines.{is_given, prose_line, prose_lines, u
 
 use crate::heads::Head;
 use crate::lines::{is_named, is_same_name};
-use crate::mentions::Mention;
+use crate::mentions::{Mention, MentionKind};
 use crate::places::Places;
 use picture::{push_cut, push_number};
 use ruletable::{Memory, NameCase};
@@ -37,8 +37,8 @@ fn head_at(heads: &[Head], place: usize) -> Option<&Head>
     None
 }
 
-// The rule of a name: its first definition.
-fn rule_of_name<'a>(heads: &'a [Head], names: NameCase, name: &[u8]) -> Option<&'a Head>
+/// Returns the rule of a name: its first definition.
+pub(crate) fn rule_of_name<'a>(heads: &'a [Head], names: NameCase, name: &[u8]) -> Option<&'a Head>
     ensures { option_map (λ h. defined_at h.now) result ≡ rule_named names (map defined_at heads.now) name.now }
 {
     for head in heads {
@@ -103,12 +103,12 @@ fn earliest_of<'a>(
 
 // Whether a mention is a use of the name.
 fn is_use(names: NameCase, name: &[u8], mention: &Mention) -> bool
-    ensures { result ≡ (not mention.now.is_prose && same_name names name.now mention.now.text.items) }
+    ensures { result ≡ (kind_uses mention.now.kind && same_name names name.now mention.now.text.items) }
 {
-    if mention.is_prose {
-        return false;
+    match mention.kind {
+        MentionKind::Use => is_same_name(names, name, mention.text.as_slice()),
+        MentionKind::Prose | MentionKind::Repeat => false,
     }
-    is_same_name(names, name, mention.text.as_slice())
 }
 
 // The uses of a name.
@@ -132,15 +132,15 @@ fn uses_named<'a>(
 
 // Whether a mention is prose in the rule of the name.
 fn is_prose_in(heads: &[Head], names: NameCase, name: &[u8], mention: &Mention) -> bool
-    ensures { result ≡ (mention.now.is_prose
+    ensures { result ≡ (kind_is_prose mention.now.kind
         && is_rule names name.now (rule_standing_at names (map defined_at heads.now) mention.now.within)) }
 {
-    if !mention.is_prose {
-        return false;
-    }
-    match rule_around(heads, names, mention.within) {
-        Some(rule) => is_named(names, name, rule),
-        None => false,
+    match mention.kind {
+        MentionKind::Prose => match rule_around(heads, names, mention.within) {
+            Some(rule) => is_named(names, name, rule),
+            None => false,
+        },
+        MentionKind::Use | MentionKind::Repeat => false,
     }
 }
 

@@ -3,3 +3,6 @@ pub mod CanStandLemmas
 pub mod TakenTokensLemmas
 pub mod PegExplainedLemmas
 pub mod PegWhyLemmas
+mod NullTestsLemmas
+pub mod ExplainedLoopLemmas
+mod RepeatsLemmas

@@ -1,6 +1,9 @@
+pub mod FoundRepeats
+pub mod NullTests
 pub mod PegDecisions
 pub mod PegExpected
 pub mod PegExplained
 pub mod PegStands
 pub mod PhraseRows
+pub mod PegLoops
 pub mod PegNotes

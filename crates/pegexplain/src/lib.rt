@@ -1,13 +1,17 @@
-//! What explains a fault of a grammar's text in the syntax of peg(1).
+//! What explains a fault of a grammar's text in the syntax of peg(1), and notes on its grammar.
 #![tactic(auto)]
 
 mod deciding_token;
 mod explain;
 mod laws;
+mod loops;
 mod notes;
+mod nulls;
 mod phrases;
+mod places;
 mod stand;
 
 pub use explain::explain_fault;
 pub use laws::one_explanation;
-pub use notes::{PegSigns, explain_peg_note, one_note_explanation, peg_places};
+pub use notes::{explain_peg_note, one_note_explanation};
+pub use places::{PegPlaces, PegSigns, peg_places};

@@ -1,55 +1,77 @@
 //! What explains notes.
-ghost use Rattle.std.specs.Prelude.{◌≡◌, ℕ, List, Option, IfOk, option_copied};
+ghost use Rattle.std.specs.Prelude.{◌≡◌, ◌++◌, ℕ, List, Option, IfOk, OnOk, option_copied};
 ghost use Rattle.ruletable.specs.Notes.{Said, said_of};
-ghost use Rattle.pegexplain.specs.PegNotes.{ArePegPlaces, ExplainsNote, sign_of as the_sign};
+ghost use Rattle.pegexplain.specs.PegNotes.{ArePegPlaces, ExplainsNote, IsLineBehind, IsLoopTold};
 
+use crate::loops::push_first_loop;
+use crate::places::PegPlaces;
 use lexer::one_list;
-use noteplaces::{Places, Sign, Signs, explain_note, places_of};
-use pegread::Kind;
-use ruletable::{LineRule, Memory, NameCase, Note};
+use noteplaces::{explain_note, repeat_lines};
+use pegread::{Kind, one_reading};
+use ruletable::{Memory, Note, NoteKind};
 use std::alloc::Global;
 
-/// What the tokens of peg(1) are to the definitions of a grammar.
-pub struct PegSigns;
+// Adds the line of the first repetition of what may take nothing in the rule of a name.
+fn push_loop(
+    alloc: Global,
+    out: &mut Vec<u8>,
+    places: &PegPlaces,
+    name: &[u8],
+) -> Result<(), Memory>
+    ensures { OnOk result ((text : List ℕ) → ArePegPlaces text places.now → (line : List ℕ)
+        × IsLoopTold text name.now line × (out.new.items ≡ out.old.items ++ line)) }
+{
+    let Some(id) = places.rules.find(name)? else {
+        return Ok(());
+    };
+    let lines = repeat_lines(alloc, &places.places, name)?;
+    push_first_loop(
+        alloc,
+        out,
+        &places.rules,
+        &places.nulls,
+        places.rules.body(id),
+        &lines,
+    )?;
+    Ok(())
+}
 
-impl Signs<Kind> for PegSigns {
-    ghost sign_of = { the_sign };
-
-    fn sign(kind: Kind) -> Sign {
-        match kind {
-            Kind::Ident => Sign::Name,
-            Kind::Arrow => Sign::Defines,
-            _ => Sign::Other,
+// Adds the line that stands behind those of a note, if one does.
+fn push_behind(
+    alloc: Global,
+    out: &mut Vec<u8>,
+    places: &PegPlaces,
+    note: &Note,
+) -> Result<(), Memory>
+    ensures { OnOk result ((text : List ℕ) → ArePegPlaces text places.now → (line : List ℕ)
+        × IsLineBehind text note.now.kind note.now.name.items line × (out.new.items ≡ out.old.items ++ line)) }
+{
+    match note.kind {
+        NoteKind::Loop => {
+            push_loop(alloc, out, places, note.name.as_slice())?;
+            Ok(())
         }
+        _ => Ok(()),
     }
 }
 
-/// Returns where a grammar's text defines its rules.
-///
-/// # Errors
-/// `Memory` if an allocation fails.
-pub fn peg_places(alloc: Global, text: &[u8]) -> Result<Places, Memory>
-    ensures { IfOk result (λ places. ArePegPlaces text.now places) }
-{
-    places_of::<Kind, PegSigns>(alloc, text, LineRule::Any, NameCase::Exact)
-}
-
 /// Returns the lines that explain a note on a grammar, where a name may be given for the start rule: where the note's
-/// rule is first defined, and where it is defined again; the use by which a name is noted that no rule has. There are
-/// none for notes of other kinds.
+/// rule is first defined, and where it is defined again; the use by which a name is noted that no rule has; what a rule
+/// repeats that may take nothing. There are none for notes of other kinds.
 ///
 /// # Errors
 /// `Memory` if an allocation fails.
 pub fn explain_peg_note(
     alloc: Global,
-    places: &Places,
+    places: &PegPlaces,
     start: Option<&str>,
     note: &Note,
 ) -> Result<Vec<u8>, Memory>
     ensures { IfOk result (λ why. (text : List ℕ) → ArePegPlaces text places.now
         → ExplainsNote text (option_copied start.entry) (said_of note.now) why.items) }
 {
-    let why = explain_note(alloc, places, start, note)?;
+    let mut why = explain_note(alloc, &places.places, start, note)?;
+    push_behind(alloc, &mut why, places, note)?;
     Ok(why)
 }
 
@@ -59,4 +81,5 @@ pub fn one_note_explanation()
         → ExplainsNote text start note b → a ≡ b }
 {
     one_list::<Kind>();
+    one_reading();
 }

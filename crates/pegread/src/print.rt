@@ -67,9 +67,12 @@ fn print_prefixed<W: Sink>(
     }
 }
 
-// An expression as a rule's body.
+/// Writes an expression's canonical text, as it stands as a rule's body. `WriteFault` where the writer fails; then a
+/// beginning of the text is written.
+///
+/// It takes no memory, and recurses no deeper than the expression.
 #[cycle(printing)]
-fn print_expr<W: Sink>(e: &Expr, w: &mut W) -> Result<(), WriteFault>
+pub fn print_expr<W: Sink>(e: &Expr, w: &mut W) -> Result<(), WriteFault>
     requires { W.failed w.old ≡ false }
     ensures bytes { Writes (W.contents w.old) (W.contents w.new) (canon.text_of (pattern_of e.now)) result }
     ensures flag { Flags (W.failed w.old) (W.failed w.new) result }

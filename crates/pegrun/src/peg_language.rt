@@ -11,9 +11,8 @@ ghost use Rattle.pegrun.specs.PegReply.{RunStates};
 use crate::engine::run_units;
 use feed::Source;
 use gramcheck::{SoundPeg, check_peg, redefinitions};
-use noteplaces::Places;
 use packrat::Packrat;
-use pegexplain::{explain_fault, explain_peg_note, peg_places};
+use pegexplain::{PegPlaces, explain_fault, explain_peg_note, peg_places};
 use pegread::{Peg, print_peg, read_peg};
 use ruletable::{Memory, Note, ReadFault, Sink, WriteFault};
 use std::alloc::Global;
@@ -27,7 +26,7 @@ impl Language for PegLanguage {
 
     type Sound = SoundPeg;
 
-    type Places = Places;
+    type Places = PegPlaces;
 
     ghost states = { States };
 
@@ -57,13 +56,13 @@ impl Language for PegLanguage {
         explain_fault(alloc, text, fault)
     }
 
-    fn places(alloc: Global, text: &[u8], _start: Option<&str>) -> Result<Places, Memory> {
+    fn places(alloc: Global, text: &[u8], _start: Option<&str>) -> Result<PegPlaces, Memory> {
         peg_places(alloc, text)
     }
 
     fn explain_note(
         alloc: Global,
-        places: &Places,
+        places: &PegPlaces,
         start: Option<&str>,
         note: &Note,
     ) -> Result<Vec<u8>, Memory> {

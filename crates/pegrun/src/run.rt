@@ -19,8 +19,9 @@ use toolrun::{Settings, Status, run_tool};
 ///   the token that decides, its column, exactly the kinds of tokens that could stand there, and a usual mistake.
 /// - If it is to be printed, its canonical text is written on `out`, `Done`; but if it defines a rule again, the notes
 ///   on that are written on `err`, `Refused`. Nothing is read, and no other check is made. If the settings ask for
-///   explanations, behind a note on a rule that is defined again, or not used, stand the lines of its definitions, and
-///   behind one on a name that is not defined its first use.
+///   explanations, behind a note on a rule that is defined again, or not used, stand the lines of its definitions,
+///   behind one on a name that is not defined its first use, and behind one on a loop the first repetition of what may
+///   take nothing.
 /// - Else the notes on it are written on `err`. If one of them refuses it, or it is only to be checked, that is all:
 ///   `Refused`, or `Done`, and nothing is read.
 /// - A unit is one success of the start rule, the one named in the settings or else the first; it begins where the one

@@ -1,6 +1,6 @@
 -- The numbers told before others, number by number.
 -- Serves: chains_from
-use Rattle.std.proofs.Common.{◌≡◌, ℕ, zero, suc, ◌+◌, ◌<◌, ◌≤◌, List, [], ◌∷◌, ◌++◌, length, take, set, get_or}
+use Rattle.std.proofs.Common.{◌≡◌, ℕ, suc, ◌+◌, ◌<◌, List, [], ◌∷◌, ◌++◌, length, take, set, get_or}
 use Rattle.std.proofs.Common.{Option, Some, None, Contains, refl, sym, subst, ap, arith, ⊎_elim, inl, inr, ◌⊎◌, ◌∙◌}
 use Rattle.std.proofs.Common.{add-one, replicate}
 use Rattle.std.proofs.lemmas.Bool.{cases_lt}
@@ -12,9 +12,9 @@ use Rattle.leastset.specs.StepRows.{Step, row_at}
 use Rattle.leastset.specs.Way.{At}
 use Rattle.leastset.proofs.AtLemmas.{at_one, set_same, set_other, set_cases}
 use Rattle.leastset.proofs.ContainsLemmas.{none_of, only_one, in_first}
-use Rattle.stepchains.specs.Distances.{Distance, AreDistances}
+use Rattle.stepchains.specs.Distances.{AreDistances}
 use Rattle.stepchains.specs.Fills.{AreBacksTo, IsNext, SetsBacks}
-use Rattle.stepchains.specs.ShortChains.{AreBacks, Back, Nearer}
+use Rattle.stepchains.specs.ShortChains.{AreBacks, Back}
 use Rattle.stepchains.proofs.DistanceLemmas.{distance_told}
 use Rattle.stepchains.proofs.FillsLemmas.{none_told, told_at}
 

@@ -1,7 +1,7 @@
 -- Chains of so many steps, and distances.
 -- Serves: chains_from, chain_to, one_chain
-use Rattle.std.proofs.Common.{◌≡◌, ℕ, zero, suc, ◌+◌, ◌<◌, ◌≤◌, List, length, refl, sym, subst, arith, ◌∙◌}
-use Rattle.std.proofs.Common.{Option, Some, ap}
+use Rattle.std.proofs.Common.{◌≡◌, ℕ, suc, List, refl, subst, arith}
+use Rattle.std.proofs.Common.{Option, Some}
 use Rattle.leastset.specs.StepRows.{Step}
 use Rattle.leastset.specs.Way.{At}
 use Rattle.stepchains.specs.Distances.{Steps, no_step, one_more, Distance, AreDistances}

@@ -7,12 +7,12 @@ use Rattle.std.proofs.lemmas.List.{length-set, append-nil}
 use Rattle.std.proofs.lemmas.List.Elements.{Contains-push, Contains-push_cases, Contains-append_left}
 use Rattle.std.proofs.lemmas.Option.{slice_get_within, slice_get-get_or}
 use Rattle.std.proofs.Math.Seq.{take-suc}
-use Rattle.leastset.specs.StepRows.{Step, row_at}
+use Rattle.leastset.specs.StepRows.{row_at}
 use Rattle.leastset.specs.Way.{At}
-use Rattle.leastset.proofs.AtLemmas.{at_one, at_append_left, at_append_right, at_append_cases, at_push, set_same}
-use Rattle.leastset.proofs.AtLemmas.{set_other, set_cases, only_at}
+use Rattle.leastset.proofs.AtLemmas.{at_one, at_append_left, at_append_right, at_append_cases, set_same}
+use Rattle.leastset.proofs.AtLemmas.{set_other, set_cases}
 use Rattle.leastset.proofs.ContainsLemmas.{none_of, only_one, in_first, in_get, get_in}
-use Rattle.stepchains.specs.Distances.{Steps, no_step, one_more, Distance, AreDistances}
+use Rattle.stepchains.specs.Distances.{Steps, no_step, one_more, AreDistances}
 use Rattle.stepchains.specs.Fills.{untold_count, Queues, IsFilling, LeadsNear, Waits}
 
 some_of : (o : Option ℕ) → (o ≡ None → ⊥) → (n : ℕ) × (o ≡ Some n)

@@ -2,3 +2,4 @@ mod BacksLemmas
 mod DistanceLemmas
 mod FillsLemmas
 mod ShortChainsLemmas
+mod RoundsLemmas

@@ -1,13 +1,12 @@
 -- The chain that is told.
 -- Serves: one_chain, chain_to
-use Rattle.std.proofs.Common.{◌≡◌, ℕ, zero, suc, ◌+◌, ◌<◌, ◌≤◌, List, [], ◌∷◌, ◌++◌, length, reverse, Option, Some}
+use Rattle.std.proofs.Common.{◌≡◌, ℕ, suc, ◌+◌, List, [], ◌∷◌, ◌++◌, length, reverse, Option, Some}
 use Rattle.std.proofs.Common.{None, refl, sym, subst, ap, arith, ◌∙◌, length-append, append_assoc}
 use Rattle.std.proofs.lemmas.List.{append-nil, reverse-append}
-use Rattle.leastset.specs.StepRows.{Step}
 use Rattle.leastset.specs.Way.{At}
-use Rattle.stepchains.specs.Distances.{Steps, no_step, one_more, Distance, AreDistances}
+use Rattle.stepchains.specs.Distances.{Steps, no_step, Distance}
 use Rattle.stepchains.specs.Fills.{Down, top, below}
-use Rattle.stepchains.specs.ShortChains.{AreBacks, Back, ChainTo, at_start, behind, IsChainIfReached, Nearer}
+use Rattle.stepchains.specs.ShortChains.{AreBacks, Back, ChainTo, at_start, behind, IsChainIfReached}
 use Rattle.stepchains.proofs.DistanceLemmas.{distance_is_one, last_is_nearer, last_step, no_step_stays, start_is_near}
 
 module _ (rows : List (List ℕ)) (s : ℕ) where

@@ -1,10 +1,11 @@
 -- Distances and chains that are not whole yet. It serves private helpers alone.
 use Rattle.std.specs.Prelude.{◌≡◌, ◌⊎◌, ◌↔◌, ℕ, suc, ◌+◌, ◌<◌, ◌≤◌, List, [], ◌∷◌, ◌++◌, length, Option, Some, None}
-use Rattle.std.specs.Prelude.{Contains}
+use Rattle.std.specs.Prelude.{Contains, MatchOption}
 use Rattle.leastset.specs.StepRows.{Step}
 use Rattle.leastset.specs.Way.{At}
-use Rattle.stepchains.specs.Distances.{Distance, Steps}
+use Rattle.stepchains.specs.Distances.{Steps}
 use Rattle.stepchains.specs.ShortChains.{Back, Nearer}
+use Rattle.stepchains.specs.declared.rounds.Near.{Near}
 
 -- how many numbers have no distance
 abbrev pub untold_count : List (Option ℕ) → ℕ
@@ -71,6 +72,24 @@ pub record SetsBacks (far : List (Option ℕ)) (n : ℕ) (row : List ℕ) (backs
 pub data Down (rows : List (List ℕ)) (s n : ℕ) : ℕ → List ℕ → Type 0 where
   top : Down rows s n n []
   below : {at u : ℕ} {ns : List ℕ} → Down rows s n at ns → Back rows s at u → Down rows s n u (ns ++ at ∷ [])
+
+-- of the numbers below i from which a step leads to s the one that is nearest, and of these the least
+pub record IsNearestBelow (rows : List (List ℕ)) (s : ℕ) (far : List (Option ℕ)) (i u n : ℕ) : Type 0 where
+  pub below : u < i
+  pub at : At far u (Some n)
+  pub step : Step rows u s
+  pub nearest : (w m : ℕ) → w < i → At far w (Some m) → Step rows w s → n ≤ m
+  pub first : (w : ℕ) → w < i → At far w (Some n) → Step rows w s → u ≤ w
+
+-- the distance is less than that of the one so far, if there is one
+abbrev pub IsLess : ℕ → Option Near → Type 0
+IsLess far None = Unit {0}
+IsLess far (Some best) = far < best.far
+
+-- if there is one
+abbrev pub IsNearestIfAny : List (List ℕ) → ℕ → List (Option ℕ) → ℕ → Option Near → Type 0
+IsNearestIfAny rows s far i near = MatchOption near
+    ((w m : ℕ) → w < i → At far w (Some m) → Step rows w s → ⊥) (λ u. IsNearestBelow rows s far i u.number u.far)
 
 -- what a list tells of a number
 abbrev pub EntryIs : List (Option ℕ) → ℕ → Option ℕ → Type 0

@@ -37,3 +37,25 @@ module _ (rows : List (List ℕ)) (s : ℕ) where
   -- the chain to v, if one reaches it
   abbrev pub IsChainIfReached : ℕ → Option (List ℕ) → Type 0
   IsChainIfReached v chain = MatchOption chain ((n : ℕ) → Steps rows s v n → ⊥) (ChainTo v)
+
+  -- a step leads back to s from u, to which n steps lead from s at least
+  pub record IsWayBack (u n : ℕ) : Type 0 where
+    pub far : Distance rows s u n
+    pub step : Step rows u s
+
+  -- u stands last on a shortest way back: it is the least of the nearest
+  pub record IsLastBack (u : ℕ) : Type 0 where
+    pub n : ℕ
+    pub way : IsWayBack u n
+    pub nearest : (w m : ℕ) → IsWayBack w m → n ≤ m
+    pub first : (w : ℕ) → IsWayBack w n → u ≤ w
+
+  -- the chain to it
+  pub record IsRound (chain : List ℕ) : Type 0 where
+    pub last : ℕ
+    pub is_last : IsLastBack last
+    pub is_chain : ChainTo last chain
+
+  -- the way from s back to it, without the s at its end, if there is one
+  abbrev pub IsRoundIfAny : Option (List ℕ) → Type 0
+  IsRoundIfAny chain = MatchOption chain ((u n : ℕ) → IsWayBack u n → ⊥) IsRound

@@ -2,10 +2,11 @@
 ghost use Rattle.std.specs.Prelude.{◌≡◌, ℕ, ◌<◌, List, length, IfOk, option_map};
 ghost use Rattle.leastset.specs.StepRows.{slices_of, AreStepsWithin};
 ghost use Rattle.stepchains.specs.Fills.{EntryIs};
-ghost use Rattle.stepchains.specs.ShortChains.{AreChains, IsChainIfReached};
+ghost use Rattle.stepchains.specs.ShortChains.{AreChains, IsChainIfReached, IsRoundIfAny};
 
 use crate::backs::backs_of;
 use crate::distances::distances;
+use crate::rounds::nearest_before;
 use std::alloc::{AllocError, Global};
 
 /// Of all numbers how far they are from one, and which number stands before each.
@@ -33,8 +34,8 @@ pub fn chains_from(alloc: Global, steps: &[&[usize]], from: usize) -> Result<Cha
     Ok(Chains { far, backs })
 }
 
-// Returns what a list tells of a number, if it tells anything.
-fn told(list: &[Option<usize>], n: usize) -> Option<usize>
+/// Returns what a list tells of a number, if it tells anything.
+pub(crate) fn told(list: &[Option<usize>], n: usize) -> Option<usize>
     ensures { EntryIs list.now n result }
 {
     match list.get(n) {
@@ -68,5 +69,28 @@ impl Chains {
         chain.push(at)?;
         chain.reverse();
         Ok(Some(chain))
+    }
+
+    /// Returns the numbers on the way from `from` back to itself, the first one at its beginning alone, if steps lead
+    /// back: of the shortest ways the one that has the least number before each. `steps` are those of the chains.
+    ///
+    /// # Errors
+    /// `AllocError` if an allocation fails.
+    pub fn way_back(
+        &self,
+        alloc: Global,
+        steps: &[&[usize]],
+        from: usize,
+    ) -> Result<Option<Vec<usize>>, AllocError>
+        ensures { IfOk result (λ chain. AreChains (slices_of steps.now) from self.now
+            → IsRoundIfAny (slices_of steps.now) from (option_map (λ v. v.items) chain)) }
+    {
+        match nearest_before(&self.far, steps, from) {
+            Some(last) => {
+                let chain = self.chain_to(alloc, last.number)?;
+                Ok(chain)
+            }
+            None => Ok(None),
+        }
     }
 }

@@ -8,6 +8,7 @@ mod backs;
 mod chains;
 mod distances;
 mod laws;
+mod rounds;
 
 pub use chains::{Chains, chains_from};
-pub use laws::one_chain;
+pub use laws::{one_chain, one_way_back};

@@ -9,5 +9,13 @@ use Rattle.pegexplain.specs.PegNotes.{sign_of}
 use Rattle.pegexplain.proofs.notes.explain_peg_note.Goals as goal
 
 pub returns : goal.returns
-returns c = λ text are. places-explain White First is_end sign_of Any Exact text c.args.places.now
-    (option_copied c.args.start) (said_of c.args.note.now) c.in_ok-why.why.items are c.in_ok-why.ensures
+returns c = λ text are.
+    let w = c.in_ok-push_behind.ensures text are in
+    record {
+      lines = c.in_ok-why.why.items;
+      line = w.0;
+      explains = places-explain White First is_end sign_of Any Exact text c.args.places.now.places
+          (option_copied c.args.start) (said_of c.args.note.now) c.in_ok-why.why.items are.places c.in_ok-why.ensures;
+      behind = w.1;
+      is = w.2;
+    }

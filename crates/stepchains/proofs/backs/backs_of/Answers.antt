@@ -1,4 +1,4 @@
-use Rattle.std.proofs.Common.{◌≡◌, ◌<◌, ◌∙◌, None, ℕ, Option, length, ap, arith, rules, sym, subst, Contains, replicate}
+use Rattle.std.proofs.Common.{◌≡◌, ◌∙◌, None, length, ap, arith, rules, sym, subst, Contains, replicate}
 use Rattle.std.proofs.lemmas.List.{length-replicate}
 use Rattle.leastset.proofs.IsMarkedLemmas.{take_written}
 use Rattle.leastset.proofs.RowsOfLemmas as t

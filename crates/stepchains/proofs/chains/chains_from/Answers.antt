@@ -1,4 +1,4 @@
-use Rattle.std.proofs.Common.{arith, ap, length, ◌∙◌}
+use Rattle.std.proofs.Common.{ap, length, ◌∙◌}
 use Rattle.leastset.proofs.RowsOfLemmas as t
 use Rattle.stepchains.proofs.chains.chains_from.Goals as goal
 

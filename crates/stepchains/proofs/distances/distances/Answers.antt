@@ -1,10 +1,9 @@
-use Rattle.std.proofs.Common.{◌≡◌, ◌<◌, ◌∙◌, ℕ, None, Some, Option, length, ap, arith, rules, sym, subst, Contains}
-use Rattle.std.proofs.Common.{replicate, get_or, ⊎_elim}
+use Rattle.std.proofs.Common.{◌≡◌, ◌∙◌, ℕ, None, Some, Option, length, ap, arith, rules, sym, subst, Contains}
+use Rattle.std.proofs.Common.{replicate}
 use Rattle.std.proofs.lemmas.List.{length-replicate}
-use Rattle.std.proofs.lemmas.Option.{slice_get_within, slice_get-get_or}
+use Rattle.std.proofs.lemmas.Option.{slice_get-get_or}
 use Rattle.leastset.proofs.IsMarkedLemmas.{take_written}
 use Rattle.leastset.proofs.RowsOfLemmas as t
-use Rattle.leastset.specs.Way.{At}
 use Rattle.stepchains.proofs.FillsLemmas as f
 use Rattle.stepchains.proofs.distances.distances.Goals.{in-Some+in_ok-meet_all, in_default}
 use Rattle.stepchains.proofs.distances.distances.Goals as goal

@@ -1,4 +1,4 @@
-use Rattle.std.proofs.Common.{◌≡◌, ◌<◌, ◌∙◌, ◌+◌, ◌-◌, ℕ, suc, List, Option, Some, None, ap, arith, rules, sym, subst}
+use Rattle.std.proofs.Common.{◌≡◌, ◌+◌, ◌-◌, suc, arith, subst}
 use Rattle.std.proofs.Common.{refl}
 use Rattle.stepchains.specs.Distances.{Distance}
 use Rattle.stepchains.specs.Fills.{top, below}

@@ -1,0 +1,128 @@
+-- The line of a rule's first loop, and that what explains a note is one text.
+-- Serves: explain_peg_note, one_note_explanation
+use Rattle.std.proofs.Common.{◌≡◌, ℕ, List, [], ◌++◌, length, Option, Some, None, refl, sym, ◌∙◌, ap, subst}
+use Rattle.std.proofs.Common.{⊎_elim}
+use Rattle.std.specs.Prelude.{slice_get}
+use Rattle.std.proofs.lemmas.Bool.{cases_order}
+use Rattle.noteplaces.specs.ExplainedNotes.{IsNoteExplained}
+use Rattle.noteplaces.specs.RepeatLines.{repeats_by}
+use Rattle.noteplaces.proofs.ExplainedNoteLemmas.{places-repeat}
+use Rattle.pegread.specs.Definitions.{firsts}
+use Rattle.pegread.specs.Kinds.{is_end}
+use Rattle.pegread.specs.Pattern.{Pattern, Rule, body_of}
+use Rattle.pegread.specs.PegViews.{pattern_of, rules_of}
+use Rattle.pegread.specs.Reading.{Reads}
+use Rattle.pegread.specs.Slices.{White, First}
+use Rattle.pegread.specs.Tokens.{Tok, AreTokens}
+use Rattle.pegread.specs.declared.expr.Expr.{Expr}
+use Rattle.ruletable.specs.Notes.{Said}
+use Rattle.ruletable.specs.Rules.{bodies_of, find_in}
+use Rattle.ruletable.specs.declared.lines.LineRule.TheVariants.{Any}
+use Rattle.ruletable.specs.declared.note.NoteKind.{NoteKind}
+use Rattle.ruletable.specs.declared.note.NoteKind.TheVariants.{Redefined, ExtendedEarly, Undefined, Prose, Unused}
+use Rattle.ruletable.specs.declared.note.NoteKind.TheVariants.{LeftRecursion, Loop}
+use Rattle.ruletable.specs.declared.table.NameCase.TheVariants.{Exact}
+use Rattle.pegexplain.specs.NullTests.{IsLoopBy, null_mark_of}
+use Rattle.pegexplain.specs.PegLoops.{IsFirstLoop, IsLoopLineIf, IsLoopOf, RepeatAt, repeat_told, repeats_in}
+use Rattle.pegexplain.specs.PegNotes.{ArePegPlaces, ExplainsNote, IsLineBehind, IsLoopTold, marked_lines, sign_of}
+use Rattle.pegexplain.specs.declared.places.PegPlaces.{PegPlaces}
+use Rattle.pegexplain.proofs.NullTestsLemmas.{body-none, body-some, loop-told}
+
+module _ (rules : List Rule) (repeats : List Pattern) where
+  first-one : (a b : RepeatAt) → IsFirstLoop rules repeats a → IsFirstLoop rules repeats b → a ≡ b
+  first-one a b g h = ⊎_elim
+      (λ (same : a.place ≡ b.place).
+      let at : Some a.repeat ≡ Some b.repeat = sym g.there ∙ (ap (slice_get repeats) same ∙ h.there) in
+      let e : a.repeat ≡ b.repeat = cc at in
+      rw (same, e) refl)
+      (λ less. ⊎_elim (λ lt. absurd (h.first a.place a.repeat lt g.there g.loops))
+      (λ lt. absurd (g.first b.place b.repeat lt h.there h.loops)) less)
+      (cases_order a.place b.place)
+
+  loop-one : (a b : Option RepeatAt) → IsLoopOf rules repeats a → IsLoopOf rules repeats b → a ≡ b
+  loop-one None None g h = refl
+  loop-one None (Some b) g h = absurd (g b.place b.repeat h.there h.loops)
+  loop-one (Some a) None g h = absurd (h a.place a.repeat g.there g.loops)
+  loop-one (Some a) (Some b) g h = ap Some (first-one a b g h)
+
+line-one : (rules : List Rule) (lines : List ℕ) (body : Option Pattern) (a b : List ℕ)
+    → IsLoopLineIf rules lines body a → IsLoopLineIf rules lines body b → a ≡ b
+line-one rules lines None a b g h = g ∙ sym h
+line-one rules lines (Some body) a b g h =
+    g.is ∙ (ap (repeat_told lines) (loop-one rules _ g.found h.found g.is_first h.is_first) ∙ sym h.is)
+
+-- the lines of places are one text
+abbrev pub LinesAreOne : Type 0
+LinesAreOne = (text : List ℕ) (start : Option (List ℕ)) (note : Said) (a b : List ℕ)
+    → IsNoteExplained White First is_end sign_of Any Exact text start note a
+    → IsNoteExplained White First is_end sign_of Any Exact text start note b → a ≡ b
+
+module _ (listing : (text : List ℕ) (a b : List Tok) → AreTokens (length text) text a → AreTokens (length text) text b
+    → a ≡ b) (reading : (text : List ℕ) (a b : List Rule) → Reads text a → Reads text b → a ≡ b) (text : List ℕ) where
+  told-one : (name a b : List ℕ) → IsLoopTold text name a → IsLoopTold text name b → a ≡ b
+  told-one name a b g h =
+      let tokens = listing text h.tokens g.tokens h.are_tokens g.are_tokens in
+      let rules = reading text h.definitions g.definitions h.reads g.reads in
+      line-one (firsts [] g.definitions) (marked_lines text g.tokens name) (body_of (firsts [] g.definitions) name) a b
+      g.is
+      (subst (λ ds. IsLoopLineIf (firsts [] ds) (marked_lines text g.tokens name) (body_of (firsts [] ds) name) b) rules
+      (subst (λ ts. IsLoopLineIf (firsts [] h.definitions) (marked_lines text ts name)
+      (body_of (firsts [] h.definitions) name) b) tokens h.is))
+
+  behind-one : (kind : NoteKind) (name a b : List ℕ) → IsLineBehind text kind name a → IsLineBehind text kind name b
+      → a ≡ b
+  behind-one Redefined name a b g h = g ∙ sym h
+  behind-one ExtendedEarly name a b g h = g ∙ sym h
+  behind-one Undefined name a b g h = g ∙ sym h
+  behind-one Prose name a b g h = g ∙ sym h
+  behind-one Unused name a b g h = g ∙ sym h
+  behind-one LeftRecursion name a b g h = g ∙ sym h
+  behind-one Loop name a b g h = told-one name a b g h
+
+  pub peg-explained-one : LinesAreOne → (start : Option (List ℕ)) (note : Said) (a b : List ℕ)
+      → ExplainsNote text start note a → ExplainsNote text start note b → a ≡ b
+  peg-explained-one lines start note a b g h =
+      g.is
+      ∙ (ap (λ z. z ++ g.line) (lines text start note g.lines h.lines g.explains h.explains)
+      ∙ (ap (λ z. h.lines ++ z) (behind-one note.kind note.name g.line h.line g.behind h.behind) ∙ sym h.is))
+
+-- the line for a rule that the code finds, or not
+module _ (text : List ℕ) (found : PegPlaces) (name : List ℕ) (are : ArePegPlaces text found) where
+  pub told-none : find_in found.rules name ≡ None → IsLoopTold text name []
+  told-none is = record {
+    tokens = are.places.tokens;
+    are_tokens = are.places.are_tokens;
+    definitions = are.rules.definitions;
+    reads = are.rules.reads;
+    is = subst (λ (rs : List Rule). IsLoopLineIf rs (marked_lines text are.places.tokens name) (body_of rs name) [])
+        are.rules.rules_are
+        (subst (λ (b : Option Pattern). IsLoopLineIf (rules_of found.rules) (marked_lines text are.places.tokens name)
+        b []) (sym (body-none found.rules are.rules.exact name is)) refl);
+  }
+
+  pub told-some : (id : ℕ) (e : Expr) (lines : List ℕ) (loop : Option RepeatAt) → find_in found.rules name ≡ Some id
+      → slice_get (bodies_of found.rules) id ≡ Some e → lines ≡ repeats_by found.places name
+      → IsLoopBy (null_mark_of found.rules found.nulls.items) (repeats_in (pattern_of e)) loop
+      → IsLoopTold text name (repeat_told lines loop)
+  told-some id e lines loop is at marked first = record {
+    tokens = are.places.tokens;
+    are_tokens = are.places.are_tokens;
+    definitions = are.rules.definitions;
+    reads = are.rules.reads;
+    is = subst (λ (rs : List Rule). IsLoopLineIf rs (marked_lines text are.places.tokens name) (body_of rs name)
+        (repeat_told lines loop)) are.rules.rules_are
+        (subst (λ (b : Option Pattern). IsLoopLineIf (rules_of found.rules) (marked_lines text are.places.tokens name)
+        b (repeat_told lines loop)) (sym (body-some found.rules are.rules.exact name id e is at)) (record {
+          found = loop;
+          is_first = loop-told found.rules found.nulls.items are.rules.exact are.marks (repeats_in (pattern_of e)) loop
+              first;
+          is = ap (λ (ls : List ℕ). repeat_told ls loop) (marked
+              ∙ places-repeat White First is_end sign_of Any Exact text
+              found.places name are.places);
+        }));
+  }
+
+-- the line stands behind notes of one kind
+pub line-behind : (text : List ℕ) (kind : NoteKind) (name line : List ℕ) → kind ≡ Loop → IsLoopTold text name line
+    → IsLineBehind text kind name line
+line-behind text kind name line is told = rw is told

@@ -1,0 +1,188 @@
+-- The tests by marks tell which expressions may take nothing.
+-- Serves: explain_peg_note
+use Rattle.std.proofs.Common.{◌≡◌, ◌&&◌, ◌||◌, ℕ, Bool, true, false, List, [], ◌∷◌, length, map, Option, Some, None}
+use Rattle.std.proofs.Common.{refl}
+use Rattle.std.proofs.Common.{sym, ap, subst, ◌∙◌, arith}
+use Rattle.std.specs.Prelude.{slice_get, option_map, unwrap_or}
+use Rattle.std.proofs.lemmas.List.{length-map}
+use Rattle.std.proofs.lemmas.Option.{slice_get-map, slice_get_past}
+use Rattle.ruletable.specs.Rules as table
+use Rattle.ruletable.specs.Rules.{find_in}
+use Rattle.ruletable.specs.declared.table.NameCase.TheVariants.{Exact}
+use Rattle.leastset.specs.NumberMarks.{IsMarked}
+use Rattle.leastset.proofs.IsMarkedLemmas.{marked_lt}
+use Rattle.pegread.specs.Pattern.{Pattern, Patterns, Any, Bytes, Set, Name, Seq, Choice, Star, Plus, Opt, And, Not, Act}
+use Rattle.pegread.specs.Pattern.{Open, Close, none, more, Rule, body_of}
+use Rattle.pegread.specs.PegViews.{pattern_of, rule_of, rules_of}
+use Rattle.pegread.specs.declared.expr.Expr.{Expr}
+use Rattle.pegnodes.specs.Nodes.{id_of}
+use Rattle.pegnodes.proofs.OwnIdLemmas.{body_at_id, body_there, id_found}
+use Rattle.pegnodes.proofs.PushCasesLemmas.{mapped_from}
+use Rattle.gramcheck.specs.GrammarNotes.{AreMarks}
+use Rattle.gramcheck.specs.Left.{Nullable, no_bytes, an_act, an_open, a_close, an_and, a_not, an_opt, a_star, a_plus}
+use Rattle.gramcheck.specs.Left.{a_seq, a_choice, a_name, AllNullable, all_none, all_more, SomeNullable, some_first}
+use Rattle.gramcheck.specs.Left.{some_later}
+use Rattle.pegexplain.specs.NullTests.{IsLoopBy, all_nullable_by, loops_by, null_mark_of, mark_with}
+use Rattle.pegexplain.specs.NullTests.{nullable_by, some_nullable_by}
+use Rattle.pegexplain.specs.PegLoops.{IsLoopOf, RepeatAt, RepeatsNothing, starred, repeated}
+
+both-true : (a b : Bool) → a && b ≡ true → (a ≡ true) × (b ≡ true)
+both-true true b h = (refl, h)
+both-true false b h = absurd (cc h)
+
+one-of : {P : Type 0} (a b : Bool) → a || b ≡ true → (a ≡ true → P) → (b ≡ true → P) → P
+one-of true b h f g = f refl
+one-of false b h f g = g h
+
+true-both : (a b : Bool) → a ≡ true → b ≡ true → a && b ≡ true
+true-both a b g h = rw (g, h) refl
+
+module _ (rules : table.Rules Expr) (exact : rules.names ≡ Exact) where
+  -- the place that the table finds for a name
+  is-id : (name : List ℕ) (found : Option ℕ) → find_in rules name ≡ found
+      → unwrap_or found (length rules.rules) ≡ id_of (rules_of rules) name
+  is-id name found is = id_found rules name found (length rules.rules) exact (sym is) refl
+
+  -- the body of a name's rule
+  pub body-none : (name : List ℕ) → find_in rules name ≡ None → body_of (rules_of rules) name ≡ None
+  body-none name is =
+      let past = is-id name None is in
+      let all = length-map rules.rules rule_of in
+      let bodies = length-map (rules_of rules) (λ (r : Rule). r.body) in
+      body_at_id (rules_of rules) name
+      ∙ slice_get_past (map (λ (r : Rule). r.body) (rules_of rules)) (id_of (rules_of rules) name)
+      (omega (arith, past, all, bodies))
+
+  pub body-some : (name : List ℕ) (id : ℕ) (e : Expr) → find_in rules name ≡ Some id
+      → slice_get (table.bodies_of rules) id ≡ Some e → body_of (rules_of rules) name ≡ Some (pattern_of e)
+  body-some name id e is at =
+      let rule = mapped_from (λ (r : table.Rule Expr). r.body) rules.rules id e at in
+      body_at_id (rules_of rules) name
+      ∙ ap (slice_get (map (λ (r : Rule). r.body) (rules_of rules))) (sym (is-id name (Some id) is))
+      ∙ slice_get-map (λ (r : Rule). r.body) (rules_of rules) id
+      ∙ ap (option_map (λ (r : Rule). r.body)) (slice_get-map rule_of rules.rules id ∙ ap (option_map rule_of) rule.1)
+      ∙ ap (λ (d : Expr). Some (pattern_of d)) rule.2
+
+module _ (rules : table.Rules Expr) (marks : List Bool) (exact : rules.names ≡ Exact)
+    (are : AreMarks (λ rule. Nullable (rules_of rules) rule.body) (rules_of rules) marks) where
+  abbrev may_be : List ℕ → Bool
+  may_be = null_mark_of rules marks
+
+  marked-null : (name : List ℕ) → IsMarked marks (id_of (rules_of rules) name) → Nullable (rules_of rules) (Name name)
+  marked-null name h =
+      let lt = marked_lt marks (id_of (rules_of rules) name) h in
+      let count = are.count in
+      let b = body_there (rules_of rules) name (omega (arith, lt, count)) in
+      let rule = mapped_from (λ (r : Rule). r.body) (rules_of rules) (id_of (rules_of rules) name) b.0 b.2 in
+      a_name b.1 (subst (λ e. Nullable (rules_of rules) e) rule.2
+      ((are.exact (id_of (rules_of rules) name) rule.0 rule.1).0 h))
+
+  null-marked : (name : List ℕ) (e : Pattern) → body_of (rules_of rules) name ≡ Some e → Nullable (rules_of rules) e
+      → IsMarked marks (id_of (rules_of rules) name)
+  null-marked name e is h =
+      let at = sym (body_at_id (rules_of rules) name) ∙ is in
+      let rule = mapped_from (λ (r : Rule). r.body) (rules_of rules) (id_of (rules_of rules) name) e at in
+      (are.exact (id_of (rules_of rules) name) rule.0 rule.1).1
+      (subst (λ d. Nullable (rules_of rules) d) (sym rule.2) h)
+
+  name-sound : (name : List ℕ) (found : Option ℕ) → find_in rules name ≡ found → mark_with marks found ≡ true
+      → Nullable (rules_of rules) (Name name)
+  name-sound name None is h = absurd (cc h)
+  name-sound name (Some id) is h =
+      marked-null name (subst (λ k. IsMarked marks k) (is-id rules exact name (Some id) is) h)
+
+  name-whole : (name : List ℕ) (found : Option ℕ) → find_in rules name ≡ found
+      → IsMarked marks (id_of (rules_of rules) name) → mark_with marks found ≡ true
+  name-whole name None is h =
+      let lt = marked_lt marks (id_of (rules_of rules) name) h in
+      let count = are.count in
+      let all = length-map rules.rules rule_of in
+      let past = is-id rules exact name None is in
+      absurd (omega (arith, lt, count, all, past))
+  name-whole name (Some id) is h = subst (λ k. IsMarked marks k) (sym (is-id rules exact name (Some id) is)) h
+
+  mutual
+    pub null-told : (e : Pattern) → nullable_by may_be e ≡ true → Nullable (rules_of rules) e
+    null-told Any h = absurd (cc h)
+    null-told (Bytes []) h = no_bytes
+    null-told (Bytes (b ∷ bs)) h = absurd (cc h)
+    null-told (Set test) h = absurd (cc h)
+    null-told (Name name) h = name-sound name (find_in rules name) refl h
+    null-told (Seq es) h = a_seq (all-told es h)
+    null-told (Choice es) h = a_choice (some-told es h)
+    null-told (Star e) h = a_star
+    null-told (Plus e) h = a_plus (null-told e h)
+    null-told (Opt e) h = an_opt
+    null-told (And e) h = an_and
+    null-told (Not e) h = a_not
+    null-told (Act template) h = an_act
+    null-told Open h = an_open
+    null-told Close h = a_close
+
+    all-told : (es : Patterns) → all_nullable_by may_be es ≡ true → AllNullable (rules_of rules) es
+    all-told none h = all_none
+    all-told (more e es) h =
+        let b = both-true (nullable_by may_be e) (all_nullable_by may_be es) h in
+        all_more (null-told e b.0) (all-told es b.1)
+
+    some-told : (es : Patterns) → some_nullable_by may_be es ≡ true → SomeNullable (rules_of rules) es
+    some-told none h = absurd (cc h)
+    some-told (more e es) h = one-of (nullable_by may_be e) (some_nullable_by may_be es) h
+        (λ yes. some_first (null-told e yes)) (λ yes. some_later (some-told es yes))
+
+  mutual
+    pub told-null : {e : Pattern} → Nullable (rules_of rules) e → nullable_by may_be e ≡ true
+    told-null no_bytes = refl
+    told-null an_act = refl
+    told-null an_open = refl
+    told-null a_close = refl
+    told-null an_and = refl
+    told-null a_not = refl
+    told-null an_opt = refl
+    told-null a_star = refl
+    told-null (a_plus h) = told-null h
+    told-null (a_seq h) = told-all h
+    told-null (a_choice h) = told-some h
+    told-null (a_name {n} {e} is h) = name-whole n (find_in rules n) refl (null-marked n e is h)
+
+    told-all : {es : Patterns} → AllNullable (rules_of rules) es → all_nullable_by may_be es ≡ true
+    told-all all_none = refl
+    told-all (all_more h hs) = true-both _ _ (told-null h) (told-all hs)
+
+    told-some : {es : Patterns} → SomeNullable (rules_of rules) es → some_nullable_by may_be es ≡ true
+    told-some (some_first {e} {es} h) = ap (λ b. b || some_nullable_by may_be es) (told-null h)
+    told-some (some_later {e} {es} h) = later (nullable_by may_be e) (told-some h)
+      where
+        later : (b : Bool) → some_nullable_by may_be es ≡ true → b || some_nullable_by may_be es ≡ true
+        later true k = refl
+        later false k = k
+
+  repeats-told : (e : Pattern) → loops_by may_be e ≡ true → RepeatsNothing (rules_of rules) e
+  repeats-told (Star e) h = starred (null-told e h)
+  repeats-told (Plus e) h = repeated (null-told e h)
+  repeats-told Any h = absurd (cc h)
+  repeats-told (Bytes bytes) h = absurd (cc h)
+  repeats-told (Set test) h = absurd (cc h)
+  repeats-told (Name name) h = absurd (cc h)
+  repeats-told (Seq es) h = absurd (cc h)
+  repeats-told (Choice es) h = absurd (cc h)
+  repeats-told (Opt e) h = absurd (cc h)
+  repeats-told (And e) h = absurd (cc h)
+  repeats-told (Not e) h = absurd (cc h)
+  repeats-told (Act template) h = absurd (cc h)
+  repeats-told Open h = absurd (cc h)
+  repeats-told Close h = absurd (cc h)
+
+  no-repeat : (e : Pattern) → loops_by may_be e ≡ false → RepeatsNothing (rules_of rules) e → ⊥
+  no-repeat e never (starred h) = (let ever = told-null h in cc)
+  no-repeat e never (repeated h) = (let ever = told-null h in cc)
+
+  -- the first one by the tests is the first one
+  pub loop-told : (repeats : List Pattern) (found : Option RepeatAt) → IsLoopBy may_be repeats found
+      → IsLoopOf (rules_of rules) repeats found
+  loop-told repeats None h = λ k d at. no-repeat d (h k d at)
+  loop-told repeats (Some r) h = record {
+    there = h.there;
+    loops = repeats-told r.repeat h.loops;
+    first = λ k d lt at. no-repeat d (h.first k d lt at);
+  }

@@ -1,0 +1,63 @@
+//! Where a grammar's text says what explains notes.
+ghost use Rattle.std.specs.Prelude.{◌≡◌, IfOk};
+ghost use Rattle.pegexplain.specs.PegNotes.{ArePegPlaces, IsPegRead, sign_of as the_sign};
+
+use gramcheck::nullable_rules;
+use noteplaces::{Places, Sign, Signs, places_of};
+use pegread::{Expr, Kind, read_peg};
+use ruletable::{LineRule, Memory, NameCase, RuleTable};
+use std::alloc::Global;
+
+/// What the tokens of peg(1) are to the definitions of a grammar.
+pub struct PegSigns;
+
+impl Signs<Kind> for PegSigns {
+    ghost sign_of = { the_sign };
+
+    fn sign(kind: Kind) -> Sign {
+        match kind {
+            Kind::Ident => Sign::Name,
+            Kind::Arrow => Sign::Defines,
+            Kind::Star | Kind::Plus => Sign::Repeats,
+            _ => Sign::Other,
+        }
+    }
+}
+
+/// Where a text defines and uses its rules, and what the rules are.
+#[derive(Drop)]
+pub struct PegPlaces {
+    /// Where it defines its rules, and what their bodies mention.
+    pub places: Places,
+    /// The rules.
+    pub rules: RuleTable<Expr>,
+    /// Of each rule whether its body may take nothing.
+    pub nulls: Vec<bool>,
+}
+
+// Returns the rules of a text. A text whose grammar has notes reads, so that it is memory that fails here.
+fn rules_in(alloc: Global, text: &[u8]) -> Result<RuleTable<Expr>, Memory>
+    ensures { IfOk result (λ rules. IsPegRead text.now rules) }
+{
+    match read_peg(alloc, text) {
+        Ok(peg) => Ok(peg.rules),
+        Err(_) => Err(Memory),
+    }
+}
+
+/// Returns where a grammar's text says what explains notes on it.
+///
+/// # Errors
+/// `Memory` if an allocation fails.
+pub fn peg_places(alloc: Global, text: &[u8]) -> Result<PegPlaces, Memory>
+    ensures { IfOk result (λ places. ArePegPlaces text.now places) }
+{
+    let places = places_of::<Kind, PegSigns>(alloc, text, LineRule::Any, NameCase::Exact)?;
+    let rules = rules_in(alloc, text)?;
+    let nulls = nullable_rules(alloc, &rules)?;
+    Ok(PegPlaces {
+        places,
+        rules,
+        nulls,
+    })
+}
