@@ -45,6 +45,8 @@ EXEMPT = (
     "gramcheck: nullable.nullable_rules",
     # They pass on what `stepchains::chains_from` and `Chains::chain_to` return, which have their edits.
     "abnfcheck: reached_names.name_chains", "abnfcheck: NameChains.chain_to",
+    # It passes on what `conclude` does, which has its edit.
+    "toolrun: finish.finish",
     # Another function of the crate has such a body, and its edit shows the same mistake.
     "commands: command.abnfi_command", "mains: mains.abnfi_main", "leastset: needs.are_needs_within",
     "pegmatch: leaves.match_any", "feed: Feed.front", "pegnodes: cut.cut_grammar", "pegnodes: star_tables.find_tables",

@@ -21,7 +21,7 @@ use feed::Source;
 use rulenames::{marks_at, note_marked};
 use ruletable::{Memory, Note, NoteKind, ReadFault, Sink, WriteFault};
 use std::alloc::Global;
-use toolrun::{Checked, Language, Settings, Stop};
+use toolrun::{Checked, Ending, Language, Settings, plain_ending};
 
 /// Returns the notes on the rules that a grammar defines again, alone, by the order of the rules.
 fn redefined_in(alloc: Global, abnf: &Abnf) -> Result<Vec<Note>, Memory>
@@ -108,8 +108,8 @@ impl Language for AbnfLanguage {
         settings: &Settings<'_>,
         reader: &mut R,
         out: &mut O,
-    ) -> Result<Stop, WriteFault> {
-        judge_lines(alloc, grammar, settings, reader, out)
+    ) -> Result<Ending, WriteFault> {
+        plain_ending(judge_lines(alloc, grammar, settings, reader, out))
     }
 
     fn follows() {

@@ -12,6 +12,6 @@ pub use mains::{abnfi_main, end_without_memory, pegi_main, words_of};
 pub use pegrun::{PegLanguage, one_reply, one_statement, run_peg};
 pub use ruletable::{Sink, SinkOf, WriteFault};
 pub use toolrun::{
-    Alphabet, Checked, DEFAULT_LIMIT, Language, MAX_LIMIT, Mode, Settings, Status, Stop, close_run,
-    end_run, run_tool,
+    Alphabet, Checked, DEFAULT_LIMIT, Ending, Language, MAX_LIMIT, Mode, Settings, Status, Stop,
+    close_run, conclude_run, end_run, plain_ending, run_tool,
 };

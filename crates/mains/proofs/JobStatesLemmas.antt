@@ -17,6 +17,7 @@ use Rattle.toolrun.specs.Reply.{Reply}
 use Rattle.toolrun.specs.Right.{Comes, IsRight}
 use Rattle.toolrun.specs.Stream.{Stream}
 use Rattle.toolrun.specs.declared.settings.Settings.{Settings}
+use Rattle.toolrun.specs.declared.ending.Ending.TheVariants.{Plain}
 use Rattle.toolrun.specs.declared.stop.Stop.{Stop}
 use Rattle.toolrun.specs.declared.stop.Stop.TheVariants.{NoMemory, Unreadable}
 use Rattle.toolrun.proofs.IsRightLemmas.{run_is_right, stops_at_once}
@@ -56,7 +57,7 @@ module _ (States : List ℕ → Settings → Input → List ℕ → Reply → Ty
         run_is_right (JobStates States rows) [] (λ input reply. reply ≡ stopped stop)
         (record { stated = λ input reply is. rw is (stated input); some = λ input. (stopped stop, refl) })
         (record { old = r0; new = r0; was = r_was; failed = r_failed })
-        (record { old = out.old; new = out.old; was = false; failed = false }) out err err.old (Ok stop) code
+        (record { old = out.old; new = out.old; was = false; failed = false }) out err err.old (Ok (Plain stop)) code
         (stops_at_once stop r0 out.old r_was r_failed false) refl refl (Appends-same err.old) tells.0
         (λ bad. absurd (cc)) tells.1
 

@@ -8,7 +8,7 @@ use crate::bytes::Bytes;
 use crate::outputs::Outputs;
 use ruletable::SinkOf;
 use std::alloc::Global;
-use toolrun::{Language, Plan, Settings, act_on, end_run};
+use toolrun::{Language, Plan, Settings, act_on, conclude_run};
 
 /// Returns what is written of a plan on an input in memory, behind what the plan tells first. `Status::Fault` also if
 /// an allocation for one of the outputs fails: it then holds a beginning.
@@ -24,8 +24,8 @@ pub fn run_plan<L: Language>(
     let mut reader = Bytes::new(input);
     let mut out = SinkOf::new(Vec::new(alloc));
     let mut err = SinkOf::new(Vec::new(alloc));
-    let stop = act_on::<L, _, _>(&plan.task, alloc, settings, &mut reader, &mut out);
-    let status = end_run(stop, &mut out, &mut err);
+    let ending = act_on::<L, _, _>(&plan.task, alloc, settings, &mut reader, &mut out);
+    let status = conclude_run(ending, &mut out, &mut err);
     Outputs {
         out: out.into_inner(),
         err: err.into_inner(),

@@ -16,7 +16,7 @@ use pegexplain::{PegPlaces, explain_fault, explain_peg_note, peg_places};
 use pegread::{Peg, print_peg, read_peg};
 use ruletable::{Memory, Note, ReadFault, Sink, WriteFault};
 use std::alloc::Global;
-use toolrun::{Checked, Language, Settings, Stop};
+use toolrun::{Checked, Ending, Language, Settings, plain_ending};
 
 /// The language of peg(1).
 pub struct PegLanguage;
@@ -92,9 +92,10 @@ impl Language for PegLanguage {
         settings: &Settings<'_>,
         reader: &mut R,
         out: &mut O,
-    ) -> Result<Stop, WriteFault> {
+    ) -> Result<Ending, WriteFault> {
         let mut matcher = Packrat::new(alloc);
-        run_units(alloc, &mut matcher, grammar, settings, reader, out)
+        let stop = run_units(alloc, &mut matcher, grammar, settings, reader, out);
+        plain_ending(stop)
     }
 
     fn follows() {}

@@ -1,5 +1,5 @@
 -- What the steps at the end of a run tell together.
--- Serves: finish
+-- Serves: finish, conclude
 use Rattle.std.proofs.Common.{◌≡◌, ℕ, ◌≤◌, Option, List, [], ◌++◌, refl, sym, ◌∙◌, ap, true, false, Bool, ◌⊎◌}
 use Rattle.std.specs.Prelude.{Result, Ok, Err}
 use Rattle.std.proofs.lemmas.List.{append-nil}
@@ -9,12 +9,12 @@ use Rattle.ruletable.specs.Writing.{IsBeginning, Writes}
 use Rattle.ruletable.specs.declared.sink.WriteFault.{WriteFault}
 use Rattle.ruletable.proofs.AppendsLemmas.{Appends-join, Appends-kept, IsBeginning-same, IsBeginning-join}
 use Rattle.ruletable.proofs.AppendsLemmas.{IsBeginning-after}
-use Rattle.toolrun.specs.declared.stop.Stop.{Stop}
+use Rattle.toolrun.specs.RunEnd.{ended_status, ended_text}
+use Rattle.toolrun.specs.declared.ending.Ending.{Ending}
 use Rattle.toolrun.specs.Stop.{write_error}
-use Rattle.toolrun.specs.Stop.{message_of, status_of}
 use Rattle.toolrun.specs.Delivery.{IsTold, Reports}
 use Rattle.toolrun.specs.Flush.{Flushes}
-use Rattle.toolrun.specs.Finish.{told_of, ending_of, Finishes}
+use Rattle.toolrun.specs.Finish.{told_of, ending_of, Concludes}
 use Rattle.toolrun.specs.Status.{code_of}
 
 -- what a write that may fail has taken
@@ -76,21 +76,21 @@ module _ (out_was out_now err_told err_flushed err_now : Bool) (e0 e1 : Option (
         high = high;
       }
 
-pub finish_tells : {A E : Type 0} (stop : Result Stop WriteFault)
+pub finish_tells : {A E : Type 0} (ending : Result Ending WriteFault)
     {out_was out_now err_told err_flushed err_now : Bool} (e0 e1 e2 e3 : Option (List ℕ))
     (r : Result A E) (code : ℕ) →
-    Flags false out_was stop → Writes e0 e1 (told_of stop) r → Flags false err_told r →
+    Flags false out_was ending → Writes e0 e1 (told_of ending) r → Flags false err_told r →
     ((more : List ℕ) × Appends e1 e2 more × Flushes out_was out_now err_told err_flushed more) →
     Keeps e2 e3 → (err_flushed ≡ true → err_now ≡ true) → ((out_now ≡ true) ⊎ (err_now ≡ true) → 4 ≤ code) →
-    (out_now ≡ false → err_now ≡ false → code ≡ code_of (ending_of stop)) →
-    (told : List ℕ) × Appends e0 e3 told × Finishes stop out_now err_now told code
-finish_tells (Ok stop) {out_was} {out_now} {err_told} {err_flushed} {err_now} e0 e1 e2 e3 r code
+    (out_now ≡ false → err_now ≡ false → code ≡ code_of (ending_of ending)) →
+    (told : List ℕ) × Appends e0 e3 told × Concludes ending out_now err_now told code
+finish_tells (Ok ending) {out_was} {out_now} {err_told} {err_flushed} {err_now} e0 e1 e2 e3 r code
     was w flag m kept stays high same =
-    let f = first_told e0 e1 err_told (message_of stop) r w flag in (
+    let f = first_told e0 e1 err_told (ended_text ending) r w flag in (
       f.told ++ m.0,
       Appends-kept e0 e2 e3 (f.told ++ m.0) (Appends-join e0 e1 e2 f.told m.0 f.taken m.1) kept,
-      reports_stop out_was out_now err_told err_flushed err_now e0 e1 m.0 code m.2 stays high (message_of stop)
-          (code_of (status_of stop)) was f same,
+      reports_stop out_was out_now err_told err_flushed err_now e0 e1 m.0 code m.2 stays high (ended_text ending)
+          (code_of (ended_status ending)) was f same,
     )
 finish_tells (Err fault) {out_was} {out_now} {err_told} {err_flushed} {err_now} e0 e1 e2 e3 r code
     was w flag m kept stays high same =

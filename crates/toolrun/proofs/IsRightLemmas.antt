@@ -14,12 +14,14 @@ use Rattle.toolrun.specs.Input.{Input, input_from}
 use Rattle.toolrun.specs.Reply.{Reply}
 use Rattle.toolrun.specs.Status.{code_of}
 use Rattle.toolrun.specs.Stop.{write_error}
-use Rattle.toolrun.specs.Finish.{Finishes}
+use Rattle.toolrun.specs.RunEnd.{ended_status, ended_text}
+use Rattle.toolrun.specs.Finish.{Concludes}
 use Rattle.toolrun.specs.Plan.{Behind, behind_notes, in_reply, IsPlan, stopped, told_behind}
 use Rattle.toolrun.specs.Right.{IsRight, Comes}
-use Rattle.toolrun.specs.Stop.{message_of, status_of}
-use Rattle.toolrun.specs.Stopped.{StopsAs, Performs}
+use Rattle.toolrun.specs.Stopped.{EndedAs, Fulfils}
 use Rattle.toolrun.specs.Stream.{Stream}
+use Rattle.toolrun.specs.declared.ending.Ending.{Ending}
+use Rattle.toolrun.specs.declared.ending.Ending.TheVariants.{Plain}
 use Rattle.toolrun.specs.declared.stop.Stop.{Stop}
 
 -- what stands before is told before
@@ -30,9 +32,9 @@ told-behind notes text told err_failed t =
 
 -- a run that stops at once reads nothing and writes nothing
 nothing_done : (stop : Stop) (r0 s0 : Option (List ℕ)) →
-    let r : Result Stop WriteFault = Ok stop in
+    let r : Result Ending WriteFault = Ok (Plain stop) in
     IfSome r0 (λ given. (taken wrote : List ℕ) × Consumes r0 r0 taken × Appends s0 s0 wrote
-    × StopsAs (λ reply. reply ≡ stopped stop) taken r wrote)
+    × EndedAs (λ reply. reply ≡ stopped stop) taken r wrote)
 nothing_done stop None s0 = tt
 nothing_done stop (Some given) s0 = (
   [],
@@ -49,18 +51,18 @@ nothing_done stop (Some given) s0 = (
 )
 
 pub stops_at_once : (stop : Stop) (r0 s0 : Option (List ℕ)) (r_was r_failed o_was : Bool) →
-    let r : Result Stop WriteFault = Ok stop in
-    Performs (λ input reply. reply ≡ stopped stop) (record { old = r0; new = r0; was = r_was; failed = r_failed })
+    let r : Result Ending WriteFault = Ok (Plain stop) in
+    Fulfils (λ input reply. reply ≡ stopped stop) (record { old = r0; new = r0; was = r_was; failed = r_failed })
     (record { old = s0; new = s0; was = o_was; failed = o_was }) r
 stops_at_once stop r0 s0 r_was r_failed o_was = record { stopped = nothing_done stop r0 s0; flag = refl }
 
 module _ (States : Input → List ℕ → Reply → Type 0) (notes : List ℕ) (Does : Input → Reply → Type 0)
     (plan : IsPlan States notes Does) where
-  -- the stop and the end, together, behind the notes
+  -- the ending and what is done then, together, behind the notes
   is_right : (given taken wrote told : List ℕ) (read_failed out_was out_failed err_failed : Bool)
-      (stop : Result Stop WriteFault) (code : ℕ) →
-      StopsAs (Does (input_from given taken read_failed)) taken stop wrote →
-      Flags false out_was stop → (out_was ≡ true → out_failed ≡ true) → Finishes stop out_failed err_failed told code →
+      (end : Result Ending WriteFault) (code : ℕ) →
+      EndedAs (Does (input_from given taken read_failed)) taken end wrote →
+      Flags false out_was end → (out_was ≡ true → out_failed ≡ true) → Concludes end out_failed err_failed told code →
       IsRight States given
       (record {
         taken = taken;
@@ -71,7 +73,7 @@ module _ (States : Input → List ℕ → Reply → Type 0) (notes : List ℕ) (
         err_failed = err_failed;
         status = code;
       })
-  is_right given taken wrote told read_failed out_was out_failed err_failed (Ok stop) code s flag stays f = record {
+  is_right given taken wrote told read_failed out_was out_failed err_failed (Ok end) code s flag stays f = record {
     notes = notes;
     stated = s.stated;
     states = plan.stated (input_from given taken read_failed) s.stated s.states;
@@ -80,16 +82,16 @@ module _ (States : Input → List ℕ → Reply → Type 0) (notes : List ℕ) (
       out = λ out_ok stands. s.written.0;
       silent = λ isnt. absurd (isnt (told, refl));
       unread = λ isnt. absurd (isnt (told, refl));
-      told = λ out_ok. rw s.written.1 (told-behind notes (message_of stop) told err_failed (f.told out_ok));
+      told = λ out_ok. rw s.written.1 (told-behind notes (ended_text end) told err_failed (f.told out_ok));
       broken = λ out_bad other. absurd (other s.written.0);
-      unflushed = λ out_bad whole. rw (s.written.1, append_assoc notes (message_of stop) write_error)
-          (told-behind notes (message_of stop ++ write_error) told err_failed (f.fault out_bad));
+      unflushed = λ out_bad whole. rw (s.written.1, append_assoc notes (ended_text end) write_error)
+          (told-behind notes (ended_text end ++ write_error) told err_failed (f.fault out_bad));
       status = λ out_ok err_ok. f.status out_ok err_ok ∙ sym s.written.2;
       high = f.high;
     };
     within = s.within;
     exact = λ out_ok err_ok other. s.exact (λ is. other
-        (f.status out_ok err_ok ∙ ap (λ w. code_of (status_of w)) is));
+        (f.status out_ok err_ok ∙ ap (λ w. code_of (ended_status w)) is));
   }
   is_right given taken wrote told read_failed out_was out_failed err_failed (Err fault) code s flag stays f =
       let bad : out_failed ≡ true = stays flag in
@@ -113,16 +115,16 @@ module _ (States : Input → List ℕ → Reply → Type 0) (notes : List ℕ) (
       }
 
   run_of : (old new s0 s1 s2 e0 e1 e2 : Option (List ℕ)) (read_failed out_was out_failed err_failed : Bool)
-      (stop : Result Stop WriteFault) (code : ℕ) →
+      (end : Result Ending WriteFault) (code : ℕ) →
       IfSome old (λ given. (taken wrote : List ℕ) × Consumes old new taken × Appends s0 s1 wrote
-      × StopsAs (Does (input_from given taken read_failed)) taken stop wrote) →
-      Appends e0 e1 notes → Flags false out_was stop → Keeps s1 s2 → (out_was ≡ true → out_failed ≡ true) →
-      ((told : List ℕ) × Appends e1 e2 told × Finishes stop out_failed err_failed told code) →
+      × EndedAs (Does (input_from given taken read_failed)) taken end wrote) →
+      Appends e0 e1 notes → Flags false out_was end → Keeps s1 s2 → (out_was ≡ true → out_failed ≡ true) →
+      ((told : List ℕ) × Appends e1 e2 told × Concludes end out_failed err_failed told code) →
       Comes States (record { old = old; new = new; was = false; failed = read_failed })
       (record { old = s0; new = s2; was = false; failed = out_failed })
       (record { old = e0; new = e2; was = false; failed = err_failed }) code
-  run_of None new s0 s1 s2 e0 e1 e2 read_failed out_was out_failed err_failed stop code w front flag kept stays f = tt
-  run_of (Some given) new s0 s1 s2 e0 e1 e2 read_failed out_was out_failed err_failed stop code w front flag kept stays
+  run_of None new s0 s1 s2 e0 e1 e2 read_failed out_was out_failed err_failed end code w front flag kept stays f = tt
+  run_of (Some given) new s0 s1 s2 e0 e1 e2 read_failed out_was out_failed err_failed end code w front flag kept stays
       f = (
         w.0,
         w.1,
@@ -130,18 +132,18 @@ module _ (States : Input → List ℕ → Reply → Type 0) (notes : List ℕ) (
         w.2,
         Appends-kept s0 s1 s2 w.1 w.3 kept,
         Appends-join e0 e1 e2 notes f.0 front f.1,
-        is_right given w.0 w.1 f.0 read_failed out_was out_failed err_failed stop code w.4 flag stays f.2,
+        is_right given w.0 w.1 f.0 read_failed out_was out_failed err_failed end code w.4 flag stays f.2,
       )
 
   -- the notes were written, the task was performed, and the run was ended
-  pub run_is_right : (reader mid out err : Stream) (e : Option (List ℕ)) (stop : Result Stop WriteFault) (code : ℕ) →
-      Performs Does reader mid stop → mid.was ≡ false → mid.old ≡ out.old → Appends err.old e notes
+  pub run_is_right : (reader mid out err : Stream) (e : Option (List ℕ)) (end : Result Ending WriteFault) (code : ℕ) →
+      Fulfils Does reader mid end → mid.was ≡ false → mid.old ≡ out.old → Appends err.old e notes
       → Keeps mid.new out.new → (mid.failed ≡ true → out.failed ≡ true) →
-      ((told : List ℕ) × Appends e err.new told × Finishes stop out.failed err.failed told code)
+      ((told : List ℕ) × Appends e err.new told × Concludes end out.failed err.failed told code)
       → Comes States reader out err code
-  run_is_right reader mid out err e stop code p fresh same front kept stays f =
+  run_is_right reader mid out err e end code p fresh same front kept stays f =
       run_of reader.old reader.new out.old mid.new out.new err.old e err.new reader.failed mid.failed out.failed
-      err.failed stop code
+      err.failed end code
       (rw same at p.stopped) front (rw fresh at p.flag) kept stays f
 
   -- the error output failed in the notes

@@ -4,6 +4,7 @@ pub mod IsPlanLemmas
 pub mod IsRightLemmas
 pub mod NotesTextLemmas
 pub mod OneStatementLemmas
+pub mod PlainlyLemmas
 pub mod PrintsLemmas
 pub mod StopsAsLemmas
 pub mod ToldNotesLemmas

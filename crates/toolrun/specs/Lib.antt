@@ -9,6 +9,7 @@ pub mod NotesText
 pub mod Plan
 pub mod Reply
 pub mod Right
+pub mod RunEnd
 pub mod RunSteps
 pub mod Status
 pub mod Stop

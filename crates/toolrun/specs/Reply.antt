@@ -29,3 +29,21 @@ text_alone text = record { out = text; err = []; status = 0; taken = 0 }
 -- an allocation fails after this output and so many bytes of input
 abbrev pub without_memory : List ℕ → ℕ → Reply
 without_memory out taken = record { out = out; err = codes "out of memory\n"; status = 5; taken = taken }
+
+-- behind the message of a reply stand lines that explain it
+abbrev pub explained_reply : Reply → List ℕ → Reply
+explained_reply plain why = record {
+  out = plain.out;
+  err = plain.err ++ why;
+  status = plain.status;
+  taken = plain.taken;
+}
+
+-- an allocation fails in explaining the message of a reply: it stands whole
+abbrev pub unexplained_reply : Reply → Reply
+unexplained_reply plain = record {
+  out = plain.out;
+  err = plain.err ++ codes "out of memory\n";
+  status = 5;
+  taken = plain.taken;
+}

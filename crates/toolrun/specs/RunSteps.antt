@@ -3,9 +3,11 @@ use Rattle.std.specs.Prelude.{◌≡◌, ℕ, ◌≤◌, ◌++◌, List, [], Opt
 use Rattle.std.specs.Io.KnownBytes.{Appends}
 use Rattle.ruletable.specs.Writing.{AppendsPart, IsBeginning}
 use Rattle.ruletable.specs.declared.sink.WriteFault.{WriteFault}
-use Rattle.toolrun.specs.Reply.{Reply, without_memory}
+use Rattle.toolrun.specs.Reply.{Reply, explained_reply, unexplained_reply, without_memory}
 use Rattle.toolrun.specs.Status.{code_of}
 use Rattle.toolrun.specs.Stop.{message_of, status_of}
+use Rattle.toolrun.specs.declared.ending.Ending.{Ending}
+use Rattle.toolrun.specs.declared.ending.Ending.TheVariants.{Plain, Explained, Unexplained}
 use Rattle.toolrun.specs.declared.stop.Stop.{Stop}
 use Rattle.toolrun.specs.declared.stop.Stop.TheVariants.{NoMemory}
 
@@ -47,3 +49,36 @@ module _ {Point : Type 0} (Before : Point → List ℕ → Type 0) (Ends : Point
       × Appends old new (text ++ last) ×
       (taken ≡ taken_at point) × (((stop ≡ NoMemory) × (last ≡ [])) ⊎ Ends point last stop)
   HasRun taken old new (Err fault) = (text : List ℕ) × Begins taken text × AppendsPart old new text
+
+  -- Why says which lines explain how a run ends at a point, none where nothing is explained, and MayLack where an
+  -- allocation may fail in explaining it.
+  module _ (Why : Point → Stop → List ℕ → Type 0) (MayLack : Point → Stop → Type 0) where
+    -- the reply of all steps, and behind its message the lines that explain how the run ends
+    pub record RepliesTold (reply : Reply) : Type 0 where
+      pub plain : Reply
+      pub replies : Replies plain
+      pub why : List ℕ
+      pub explains : Why replies.point replies.stop why
+      pub told : reply ≡ explained_reply plain why
+
+    -- A run states its reply so. Where an allocation fails in explaining it, its message stands whole; where one fails
+    -- before, the text of the first steps does.
+    pub data ToldStates : Reply → Type 0 where
+      replied_told : (reply : Reply) → RepliesTold reply → ToldStates reply
+      unexplained : (plain : Reply) (replies : Replies plain) → MayLack replies.point replies.stop
+          → ToldStates (unexplained_reply plain)
+      cut_short : (point : Point) (out : List ℕ) (reply : Reply) → Before point out → Replies reply
+          → IsBeginning out reply.out → ToldStates (without_memory out reply.taken)
+
+    -- how a run ends there, with what explains it, or for want of memory
+    abbrev pub EndsTold : Point → List ℕ → Ending → Type 0
+    EndsTold point last (Plain stop) = ((stop ≡ NoMemory) × (last ≡ [])) ⊎ (Ends point last stop × Why point stop [])
+    EndsTold point last (Explained stop why) = Ends point last stop × Why point stop why.items
+    EndsTold point last (Unexplained stop) = Ends point last stop × MayLack point stop
+
+    -- after so many bytes were taken: the text of steps and of a last one, after which the run ends so; or a beginning
+    -- of the text that a reply begins with
+    abbrev pub HasToldRun : ℕ → Option (List ℕ) → Option (List ℕ) → Result Ending WriteFault → Type 0
+    HasToldRun taken old new (Ok ending) = (point : Point) × (text last : List ℕ) × Before point text
+        × Appends old new (text ++ last) × (taken ≡ taken_at point) × EndsTold point last ending
+    HasToldRun taken old new (Err fault) = (text : List ℕ) × Begins taken text × AppendsPart old new text

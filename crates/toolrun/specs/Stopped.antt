@@ -1,13 +1,15 @@
--- What a run has written when it stops, before its messages.
+-- What a run has written when it ends, before its messages.
 use Rattle.std.specs.Prelude.{◌≡◌, ◌≢◌, ℕ, ◌≤◌, List, length, Option, Result, Ok, Err, IfOk, IfSome, MatchResult}
 use Rattle.std.specs.Io.KnownBytes.{Appends, Consumes}
 use Rattle.ruletable.specs.Writing.{AppendsPart, Flags, IsProperBeginning}
 use Rattle.ruletable.specs.declared.sink.WriteFault.{WriteFault}
+use Rattle.toolrun.specs.RunEnd.{ended_status, ended_text, plainly}
 use Rattle.toolrun.specs.Input.{Input, input_from}
 use Rattle.toolrun.specs.Reply.{Reply}
 use Rattle.toolrun.specs.Status.{code_of}
-use Rattle.toolrun.specs.Stop.{message_of, status_of}
 use Rattle.toolrun.specs.Stream.{Stream}
+use Rattle.toolrun.specs.declared.ending.Ending.{Ending}
+use Rattle.toolrun.specs.declared.ending.Ending.TheVariants.{Plain}
 use Rattle.toolrun.specs.declared.status.Status.TheVariants.{Done}
 use Rattle.toolrun.specs.declared.stop.Stop.{Stop}
 use Rattle.toolrun.specs.declared.stop.Stop.TheVariants.{NoMemory, Quiet}
@@ -18,23 +20,28 @@ Prints old new text r = MatchResult r (λ stop. (stop ≡ Quiet Done) × Appends
     (λ _. AppendsPart old new text)
 
 -- what is stated has been written, or a beginning of it that is not all where the writer failed
-abbrev pub IsWritten : Result Stop WriteFault → Reply → List ℕ → Type 0
-IsWritten (Ok stop) stated wrote = (wrote ≡ stated.out) × (stated.err ≡ message_of stop)
-    × (stated.status ≡ code_of (status_of stop))
+abbrev pub IsWritten : Result Ending WriteFault → Reply → List ℕ → Type 0
+IsWritten (Ok ending) stated wrote = (wrote ≡ stated.out) × (stated.err ≡ ended_text ending)
+    × (stated.status ≡ code_of (ended_status ending))
 IsWritten (Err fault) stated wrote = IsProperBeginning wrote stated.out
 
--- What a run that stopped so states, and how much of it has been written and taken.
-pub record StopsAs (States : Reply → Type 0) (taken : List ℕ) (stop : Result Stop WriteFault) (wrote : List ℕ) : Type
-    0 where
+-- What a run that ended so states, and how much of it has been written and taken.
+pub record EndedAs (States : Reply → Type 0) (taken : List ℕ) (ending : Result Ending WriteFault)
+    (wrote : List ℕ) : Type 0 where
   pub stated : Reply
   pub states : States stated
-  pub written : IsWritten stop stated wrote
+  pub written : IsWritten ending stated wrote
   pub within : length taken ≤ stated.taken
-  pub exact : IfOk stop (λ why. why ≢ NoMemory → length taken ≡ stated.taken)
+  pub exact : IfOk ending (λ e. e ≢ Plain NoMemory → length taken ≡ stated.taken)
 
--- Where the reader tells its bytes, the run stopped as one that states this.
-pub record Performs (Does : Input → Reply → Type 0) (reader out : Stream) (stop : Result Stop WriteFault) : Type 0 where
+-- Where the reader tells its bytes, the run ended as one that states this.
+pub record Fulfils (Does : Input → Reply → Type 0) (reader out : Stream) (ending : Result Ending WriteFault) : Type
+    0 where
   pub stopped : IfSome reader.old (λ given. (taken wrote : List ℕ) × Consumes reader.old reader.new taken
       × Appends out.old out.new wrote ×
-      StopsAs (Does (input_from given taken reader.failed)) taken stop wrote)
-  pub flag : Flags out.was out.failed stop
+      EndedAs (Does (input_from given taken reader.failed)) taken ending wrote)
+  pub flag : Flags out.was out.failed ending
+
+-- so it did where it stopped and nothing explains that
+abbrev pub Performs : (Input → Reply → Type 0) → Stream → Stream → Result Stop WriteFault → Type 0
+Performs Does reader out stop = Fulfils Does reader out (plainly stop)

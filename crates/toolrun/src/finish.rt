@@ -2,12 +2,13 @@
 ghost use Rattle.std.specs.Prelude.{◌≡◌, ℕ, List, true, false};
 ghost use Rattle.std.specs.Io.KnownBytes.{Appends, Keeps};
 ghost use Rattle.ruletable.specs.Writing.{Flags, Writes};
-ghost use Rattle.toolrun.specs.Finish.{told_of, ending_of, Finishes};
+ghost use Rattle.toolrun.specs.Finish.{told_of, ending_of, Concludes, Finishes};
 ghost use Rattle.toolrun.specs.Flush.{Flushes};
 ghost use Rattle.toolrun.specs.Status.{code_of};
 
+use crate::ending::{Ending, ending_status, plain_ending, write_ending};
 use crate::status::Status;
-use crate::stop::{Stop, status, write_stop};
+use crate::stop::Stop;
 use ruletable::{Sink, WriteFault, write_whole};
 
 /// Flushes the output, and tells a fault on the error output.
@@ -40,25 +41,52 @@ fn flush_err<E: Sink>(err: &mut E)
     let _ = err.flush();
 }
 
-/// Tells the error output of a stop, or of a fault of the output.
-fn tell<E: Sink>(stop: Result<Stop, WriteFault>, err: &mut E) -> Result<(), WriteFault>
+/// Tells the error output how a run ends, or of a fault of the output.
+fn tell<E: Sink>(ending: &Result<Ending, WriteFault>, err: &mut E) -> Result<(), WriteFault>
     requires { E.failed err.old ≡ false }
-    ensures bytes { Writes (E.contents err.old) (E.contents err.new) (told_of stop) result }
+    ensures bytes { Writes (E.contents err.old) (E.contents err.new) (told_of ending.now) result }
     ensures flag { Flags (E.failed err.old) (E.failed err.new) result }
 {
-    match stop {
-        Ok(stop) => write_stop(stop, err),
+    match ending {
+        Ok(ending) => write_ending(ending, err),
         Err(_) => write_whole(err, b"write error\n"),
     }
 }
 
-fn ending(stop: Result<Stop, WriteFault>) -> Status
-    ensures { result ≡ ending_of stop }
+fn status_at_end(ending: &Result<Ending, WriteFault>) -> Status
+    ensures { result ≡ ending_of ending.now }
 {
-    match stop {
-        Ok(stop) => status(stop),
+    match ending {
+        Ok(ending) => ending_status(ending),
         Err(_) => Status::Fault,
     }
+}
+
+/// Concludes a run that ended so, or whose output failed: on `err` a line, and those that explain it, and each writer
+/// that has not failed is flushed once, `out` first.
+pub fn conclude<O: Sink, E: Sink>(
+    ending: Result<Ending, WriteFault>,
+    out: &mut O,
+    err: &mut E,
+) -> Status
+    requires fresh { E.failed err.old ≡ false }
+    requires flag { Flags false (O.failed out.old) ending }
+    ensures kept { Keeps (O.contents out.old) (O.contents out.new) }
+    ensures stays { O.failed out.old ≡ true → O.failed out.new ≡ true }
+    ensures told { (told : List ℕ) × Appends (E.contents err.old) (E.contents err.new) told ×
+        Concludes ending (O.failed out.new) (E.failed err.new) told (code_of result) }
+{
+    let base = status_at_end(&ending);
+    let _ = tell(&ending, err);
+    flush_out(out, err);
+    flush_err(err);
+    if out.has_failed() {
+        return base.at_least_fault();
+    }
+    if err.has_failed() {
+        return base.at_least_fault();
+    }
+    base
 }
 
 /// Ends a run that stopped so, or whose output failed: a line on `err`, and each writer that has not failed is
@@ -71,17 +99,7 @@ pub fn finish<O: Sink, E: Sink>(stop: Result<Stop, WriteFault>, out: &mut O, err
     ensures told { (told : List ℕ) × Appends (E.contents err.old) (E.contents err.new) told ×
         Finishes stop (O.failed out.new) (E.failed err.new) told (code_of result) }
 {
-    let base = ending(stop);
-    let _ = tell(stop, err);
-    flush_out(out, err);
-    flush_err(err);
-    if out.has_failed() {
-        return base.at_least_fault();
-    }
-    if err.has_failed() {
-        return base.at_least_fault();
-    }
-    base
+    conclude(plain_ending(stop), out, err)
 }
 
 /// Ends a run whose error output failed: nothing more is written, and the output is flushed, if it has not failed.

@@ -6,12 +6,12 @@ ghost use Rattle.ruletable.specs.declared.fault.ReadFault.{ReadFault as Fault};
 ghost use Rattle.toolrun.specs.Input.{Input};
 ghost use Rattle.toolrun.specs.Language.{AreStated};
 ghost use Rattle.toolrun.specs.Reply.{Reply};
-ghost use Rattle.toolrun.specs.Stopped.{Performs};
+ghost use Rattle.toolrun.specs.Stopped.{Fulfils};
 ghost use Rattle.toolrun.specs.Stream.{passed};
 ghost use Rattle.toolrun.specs.declared.settings.Settings.{Settings as AllSettings};
 
+use crate::ending::Ending;
 use crate::settings::Settings;
-use crate::stop::Stop;
 use feed::Source;
 use ruletable::{Memory, Note, ReadFault, Sink, WriteFault};
 use std::alloc::Global;
@@ -117,11 +117,11 @@ pub trait Language {
         settings: &Settings<'_>,
         reader: &mut R,
         out: &mut O,
-    ) -> Result<Stop, WriteFault>
+    ) -> Result<Ending, WriteFault>
         requires reader_is_fresh { R.failed reader.old ≡ false }
         requires reader_is_open { R.ended reader.old ≡ false }
         requires out_is_fresh { O.failed out.old ≡ false }
-        ensures { Performs (runs grammar.now settings.now) (passed R.remaining R.failed reader.old reader.new)
+        ensures { Fulfils (runs grammar.now settings.now) (passed R.remaining R.failed reader.old reader.new)
             (passed O.contents O.failed out.old out.new) result };
 
     /// Says that what is stated follows from what is read, checked, printed and run. It does nothing.

@@ -2,6 +2,7 @@
 //! ends.
 #![tactic(auto)]
 
+mod ending;
 mod finish;
 mod first;
 mod language;
@@ -13,7 +14,8 @@ mod stop;
 mod told;
 mod tool;
 
-pub use finish::{close as close_run, finish as end_run};
+pub use ending::{Ending, plain_ending};
+pub use finish::{close as close_run, conclude as conclude_run, finish as end_run};
 pub use first::write_first;
 pub use language::{Checked, Language};
 pub use letters::Alphabet;

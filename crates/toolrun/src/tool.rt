@@ -4,11 +4,12 @@ ghost use Rattle.ruletable.specs.Writing.{Flags};
 ghost use Rattle.toolrun.specs.Plan.{does_of};
 ghost use Rattle.toolrun.specs.Right.{Comes};
 ghost use Rattle.toolrun.specs.Status.{code_of};
-ghost use Rattle.toolrun.specs.Stopped.{Performs, Prints};
+ghost use Rattle.toolrun.specs.Stopped.{Fulfils, Prints};
 ghost use Rattle.toolrun.specs.Stream.{passed};
 ghost use Rattle.toolrun.specs.Tasks.{task_does};
 
-use crate::finish::{close, finish};
+use crate::ending::{Ending, plain_ending};
+use crate::finish::{close, conclude};
 use crate::first::write_first;
 use crate::language::Language;
 use crate::plan::{Task, plan_of};
@@ -41,15 +42,15 @@ fn perform<L: Language, R: Source, O: Sink>(
     settings: &Settings<'_>,
     reader: &mut R,
     out: &mut O,
-) -> Result<Stop, WriteFault>
+) -> Result<Ending, WriteFault>
     requires reader_is_fresh { R.failed reader.old ≡ false }
     requires reader_is_open { R.ended reader.old ≡ false }
     requires out_is_fresh { O.failed out.old ≡ false }
-    ensures { Performs (task_does L.canonical L.runs task.now settings.now)
+    ensures { Fulfils (task_does L.canonical L.runs task.now settings.now)
         (passed R.remaining R.failed reader.old reader.new) (passed O.contents O.failed out.old out.new) result }
 {
     match task {
-        Task::Prints(grammar) => print_grammar::<L, O>(grammar, out),
+        Task::Prints(grammar) => plain_ending(print_grammar::<L, O>(grammar, out)),
         Task::Runs(grammar) => L::run(alloc, grammar, settings, reader, out),
     }
 }
@@ -61,16 +62,16 @@ pub fn act<L: Language, R: Source, O: Sink>(
     settings: &Settings<'_>,
     reader: &mut R,
     out: &mut O,
-) -> Result<Stop, WriteFault>
+) -> Result<Ending, WriteFault>
     requires reader_is_fresh { R.failed reader.old ≡ false }
     requires reader_is_open { R.ended reader.old ≡ false }
     requires out_is_fresh { O.failed out.old ≡ false }
-    ensures { Performs (does_of (λ t. task_does L.canonical L.runs t settings.now) task.now)
+    ensures { Fulfils (does_of (λ t. task_does L.canonical L.runs t settings.now) task.now)
         (passed R.remaining R.failed reader.old reader.new) (passed O.contents O.failed out.old out.new) result }
 {
     match task {
         Ok(task) => perform::<L, R, O>(task, alloc, settings, reader, out),
-        Err(stop) => Ok(*stop),
+        Err(stop) => Ok(Ending::Plain(*stop)),
     }
 }
 
@@ -94,6 +95,6 @@ pub fn run_tool<L: Language, R: Source, O: Sink, E: Sink>(
     if write_first(alloc, &plan.first, err).is_err() {
         return close(out, err);
     }
-    let stop = act::<L, R, O>(&plan.task, alloc, settings, reader, out);
-    finish(stop, out, err)
+    let ending = act::<L, R, O>(&plan.task, alloc, settings, reader, out);
+    conclude(ending, out, err)
 }

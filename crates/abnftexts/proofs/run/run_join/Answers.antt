@@ -4,6 +4,8 @@ use Rattle.std.specs.Result.{is_err}
 use Rattle.ruletable.proofs.AppendsLemmas.{Appends-same}
 use Rattle.toolrun.specs.Status.{code_of}
 use Rattle.toolrun.specs.Stream.{passed}
+use Rattle.toolrun.specs.RunEnd.{plainly}
+use Rattle.toolrun.specs.declared.ending.Ending.TheVariants.{Plain}
 use Rattle.toolrun.specs.declared.stop.Stop.TheVariants.{NoMemory}
 use Rattle.toolrun.proofs.IsRightLemmas.{run_is_right, cut_short, stops_at_once, wrote-all, wrote-part}
 use Rattle.abnftexts.specs.JoinRun.{JoinStates, no_input}
@@ -20,7 +22,7 @@ returns-in-Err g c = record {
       no_input (passed g.O.Sink.contents g.O.Sink.failed c.args.out.now c.args.out.now)
       (passed g.O.Sink.contents g.O.Sink.failed c.args.out.now c.finish.new.out)
       (passed g.E.Sink.contents g.E.Sink.failed c.args.err.now c.finish.new.err)
-      (g.E.Sink.contents c.args.err.now) (Ok NoMemory) (code_of c.finish.result)
+      (g.E.Sink.contents c.args.err.now) (Ok (Plain NoMemory)) (code_of c.finish.result)
       (stops_at_once NoMemory (Some []) (g.O.Sink.contents c.args.out.now) false false
       (g.O.Sink.failed c.args.out.now))
       c.requires.out_is_fresh refl (Appends-same (g.E.Sink.contents c.args.err.now)) c.finish.ensures.kept
@@ -54,7 +56,8 @@ returns g c = record {
       (passed g.O.Sink.contents g.O.Sink.failed c.args.out.now c.write_joined-stop.new.out)
       (passed g.O.Sink.contents g.O.Sink.failed c.args.out.now c.finish-2.new.out)
       (passed g.E.Sink.contents g.E.Sink.failed c.args.err.now c.finish-2.new.err)
-      _ c.write_joined-stop.result (code_of c.finish-2.result) c.write_joined-stop.ensures c.requires.out_is_fresh refl
+      _ (plainly c.write_joined-stop.result) (code_of c.finish-2.result) c.write_joined-stop.ensures
+      c.requires.out_is_fresh refl
       (wrote-all _ _ _ c.write_whole.result fine bytes)
       c.finish-2.ensures.kept c.finish-2.ensures.stays c.finish-2.ensures.told;
 }

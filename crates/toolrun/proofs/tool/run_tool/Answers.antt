@@ -32,18 +32,18 @@ returns g c = record {
   right =
       let fine : is_err c.write_first.result ≡ false = sym c.if-is_err.ensures.value in
       comes_behind (g.L.Language.states c.args.grammar.now c.args.settings.now)
-      (passed g.R.Source.remaining g.R.Source.failed c.args.reader.now c.act-stop.new.reader)
-      (passed g.O.Sink.contents g.O.Sink.failed c.args.out.now c.finish.new.out)
-      (passed g.E.Sink.contents g.E.Sink.failed c.args.err.now c.finish.new.err) (code_of c.finish.result)
+      (passed g.R.Source.remaining g.R.Source.failed c.args.reader.now c.act-ending.new.reader)
+      (passed g.O.Sink.contents g.O.Sink.failed c.args.out.now c.conclude.new.out)
+      (passed g.E.Sink.contents g.E.Sink.failed c.args.err.now c.conclude.new.err) (code_of c.conclude.result)
       (run_is_right (Behind (g.L.Language.states c.args.grammar.now c.args.settings.now))
       (first_text c.plan_of-plan.result.first)
       (does_of (λ t. task_does g.L.Language.canonical g.L.Language.runs t c.args.settings.now)
       c.plan_of-plan.result.task) c.plan_of-plan.ensures
-      (passed g.R.Source.remaining g.R.Source.failed c.args.reader.now c.act-stop.new.reader)
-      (passed g.O.Sink.contents g.O.Sink.failed c.args.out.now c.act-stop.new.out)
-      (passed g.O.Sink.contents g.O.Sink.failed c.args.out.now c.finish.new.out)
-      (passed g.E.Sink.contents g.E.Sink.failed c.args.err.now c.finish.new.err)
-      _ c.act-stop.result (code_of c.finish.result) c.act-stop.ensures c.requires.out_is_fresh refl
+      (passed g.R.Source.remaining g.R.Source.failed c.args.reader.now c.act-ending.new.reader)
+      (passed g.O.Sink.contents g.O.Sink.failed c.args.out.now c.act-ending.new.out)
+      (passed g.O.Sink.contents g.O.Sink.failed c.args.out.now c.conclude.new.out)
+      (passed g.E.Sink.contents g.E.Sink.failed c.args.err.now c.conclude.new.err)
+      _ c.act-ending.result (code_of c.conclude.result) c.act-ending.ensures c.requires.out_is_fresh refl
       (wrote-all _ _ _ c.write_first.result fine c.write_first.ensures.bytes)
-      c.finish.ensures.kept c.finish.ensures.stays c.finish.ensures.told);
+      c.conclude.ensures.kept c.conclude.ensures.stays c.conclude.ensures.told);
 }
