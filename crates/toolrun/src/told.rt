@@ -57,6 +57,9 @@ pub fn told_notes<L: Language>(
     ensures { IsToldOf (L.explains_note text.now (option_copied start.entry)) (map said_of notes.now) result }
 {
     let mut told = Vec::new(alloc);
+    if notes.is_empty() {
+        return Told::Whole(told);
+    }
     let places = match L::places(alloc, text, start) {
         Ok(places) => places,
         Err(Memory) => return Told::Part(told),

@@ -1,5 +1,7 @@
 -- The notes so far, with what explains them.
-use Rattle.std.proofs.Common.{◌≡◌, ◌∙◌, ap, ◌++◌, List, ℕ, map, append_assoc}
+use Rattle.std.proofs.Common.{◌≡◌, ◌∙◌, ap, sym, ◌++◌, List, ℕ, map, append_assoc, length}
+use Rattle.std.proofs.lemmas.Bool.Decides.{Decides-eqb}
+use Rattle.std.proofs.lemmas.List.{nil_from_length}
 use Rattle.ruletable.specs.Notes.{note_text, said_of}
 use Rattle.toolrun.specs.ToldNotes.{begun_notes, no_note}
 use Rattle.toolrun.proofs.ToldNotesLemmas.{begun-here, begun-there, told-there}
@@ -32,3 +34,9 @@ loop-note-preserved g c =
     ∙ append_assoc c.loop-note.told.items (note_text (said_of c.note-item.result)) why.0 in
     rw items (told-there said_of c.args.notes.now c.loop-note.note-index c.loop-note.told.items c.loop-note.invariant
     c.note-item.result why.0 c.loop-note-test.true c.note-item.is why.1)
+
+pub returns-then-is_empty : goal.returns-then-is_empty
+returns-then-is_empty g c =
+    let zero : length c.args.notes.now ≡ 0 =
+        (Decides-eqb (length c.args.notes.now) 0).0 (sym c.is_empty.ensures ∙ c.if-is_empty.true) in
+    rw (c.new-told.ensures.items, nil_from_length c.args.notes.now zero) no_note
