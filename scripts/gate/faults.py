@@ -1,6 +1,6 @@
 #!/usr/bin/env python3
-"""Runs bin/pegi and bin/abnfi as users run them, with memory, writes and reads refused by a library (faults/faults.c),
-and with a stack of 256 KB.
+"""Runs bin/pegi, bin/abnfi and bin/abnfx as users run them, with memory, writes and reads refused by a library
+(faults.c), and with a stack of 256 KB.
 
 usage: faults.py [SWEEP ..]
 
@@ -36,6 +36,10 @@ def peg(name, grammar, given, texts, told=b"", status=0, words=()):
 
 def abnf(name, grammar, given, texts, told=b"", status=0, words=()):
     return Run(name, "abnfi", list(words), grammar, given, texts, told, status)
+
+
+def taken(name, text, texts, told=b"", status=0, words=()):
+    return Run(name, "abnfx", list(words), text, b"", texts, told, status)
 
 
 # Names of runs of abnfi by a grammar that counts how often something nullable is repeated: they have no automaton.
@@ -79,6 +83,17 @@ ALTERNATIVES = b'k = %s"Ab"\n  / "cd"\nK =/ 2*3%x78'
 LINES = b"Ab\nab\nCD\nxx\nxxxx\n"
 ABNF_PRINTED = abnf("a grammar in ABNF printed", ALTERNATIVES, b"", [b'k = %s"Ab" / "cd" / 2*3%x78\n'], words=PRINT)
 
+TEXT = (b"Rules\n\n  a = b /\n      <x>\n\n\nOne [Page 1]\n\f\nTwo 2001\n\n"
+        b'      / c\n  b = "x" ; y\n  B = "X"\nx = 1, 2\n')
+TAKEN_TOLD = b"grammar:14: not ABNF: line 14: syntax error\ngrammar:11: 'c' is not defined\n"
+TAKEN = taken("the rules of a text", TEXT, [b"; grammar:3\na = b /\n    <x>\n    / c\n", b'b = "x" ; y\n'],
+              TAKEN_TOLD)
+TAKEN_PRINTED = taken("the rules of a text, printed", TEXT.replace(b"x = 1, 2", b"c = a"),
+                      [b'a = b / <x> / c\nb = "x"\nc = a\n'], words=["-c"])
+TAKEN_LISTED = taken("the list of the rules of a text", TEXT, [b"grammar:3: 'a' stands\n", b"grammar:12: 'b' stands\n",
+                     b"grammar:13: 'B' is given at grammar:12\n"], TAKEN_TOLD, words=["-l"])
+NONE_TAKEN = taken("a text without rules", b"Rules\n", [], b"no rules found\n", 1)
+
 # The runs in which each allocation fails.
 GROWING = [
     USERNAME,
@@ -101,11 +116,16 @@ GROWING = [
     AGAIN_EXPLAINED,
     EARLY_EXPLAINED,
     REACHED_EXPLAINED,
+    TAKEN,
+    TAKEN_PRINTED,
+    TAKEN_LISTED,
+    NONE_TAKEN,
 ]
 
 
 # The runs whose writes fail.
-WRITTEN = [USERNAME, WORDS, NOTED, ABNF_NOTED, PRINTED, ABNF_PRINTED, CHECKED, ABNF_CHECKED, EXPLAINED, ABNF_EXPLAINED]
+WRITTEN = [USERNAME, WORDS, NOTED, ABNF_NOTED, PRINTED, ABNF_PRINTED, CHECKED, ABNF_CHECKED, EXPLAINED, ABNF_EXPLAINED,
+           TAKEN, TAKEN_PRINTED, TAKEN_LISTED, NONE_TAKEN]
 
 
 class Tools:
@@ -132,8 +152,8 @@ class Tools:
         grammar.write_bytes(run.grammar)
         environment = {"LD_PRELOAD": str(self.library), "FAULT_TOLD": str(told), "FAULT_LEFT": str(left)}
         environment |= {f"FAULT_{it}": str(n) for it, n in faults.items()}
-        ran = subprocess.run([TOP / "bin" / run.program, *run.words, grammar], input=run.given, capture_output=True,
-                             env=os.environ | environment, timeout=120, check=False)
+        ran = subprocess.run([TOP / "bin" / run.program, *run.words, grammar.name], cwd=self.folder, input=run.given,
+                             capture_output=True, env=os.environ | environment, timeout=120, check=False)
         blocks = int(left.read_text()) if left.exists() else -1
         return Ended(ran.stdout, ran.stderr, ran.returncode, told.exists(), blocks)
 
@@ -157,7 +177,7 @@ def may_go_on(run, number):
     """Tells whether a run may go on without that growth. Earley's sets answer where the automaton has no memory, and
     notes are written by pieces where there is none for their lines."""
     has_automaton = run.program == "abnfi" and "-m" not in run.words and run.name not in NO_AUTOMATON
-    has_notes = bool(run.told) and "-x" not in run.words
+    has_notes = bool(run.told) and "-x" not in run.words and run.program != "abnfx"
     return has_automaton or has_notes or number <= len(run.words) + GROWTHS_OF_WORDS
 
 
@@ -175,6 +195,7 @@ def refuse_each(tools, run, **more):
     fronts = [b"".join(run.texts[:k]) for k in range(len(run.texts) + 1)]
     number, good = 1, 0
     messages = explained_beginnings(run.told) if "-x" in run.words else [b""]
+    messages += [run.told] * (run.program == "abnfx")
     stops = [it + b"out of memory\n" for it in messages]
     while (ended := tools.run(run, GROWTH=number, **more)).refused:
         right = ended.out in fronts and ended.err in stops and ended.status == 5
@@ -231,6 +252,19 @@ def reads(tools):
             unread = ended[:3] == (b"", b"cannot read the grammar\n", 4)
             begun = ended.err == run.told + b"read error\n" and whole(run).startswith(ended.out) and ended.status == 4
             tools.expect(run, ended, unread or begun, f"read {number} fails")
+            number += 1
+    text_reads(tools)
+
+
+def text_reads(tools):
+    """Each read of a text failing, and reads of one to three bytes."""
+    for run in (it for it in [TAKEN, TAKEN_PRINTED] if tools.has(it.program)):
+        for most in (1, 2, 3):
+            ended = tools.run(run, PIECE=most)
+            tools.expect(run, ended, is_as_stated(run, ended), f"reads of {most} bytes")
+        number = 1
+        while (ended := tools.run(run, READ=number, PIECE=3)).refused:
+            tools.expect(run, ended, ended[:3] == (b"", b"cannot read grammar\n", 4), f"read {number} fails")
             number += 1
 
 
@@ -372,7 +406,7 @@ def main():
     wanted = words.parse_args().sweep or list(sweeps)
     with tempfile.TemporaryDirectory(prefix="faults-") as folder:
         tools = Tools(folder)
-        for program in ("pegi", "abnfi"):
+        for program in ("pegi", "abnfi", "abnfx"):
             if not tools.has(program):
                 print(f"faults: {program}: not built: skipped")
         built = tools.build()

@@ -1,10 +1,11 @@
 #!/usr/bin/env python3
 """Makes random texts in the manner of RFCs, of rules, prose and pages, and compares what abnfx writes of them with what
-slow_abnfx.py works out.
+slow_abnfx.py works out, and its canonical text with what `abnfi -m print` prints of the grammar, unless abnfi refuses
+that. A grammar that is too long is tried too.
 
 usage: random_texts.py [-n TEXTS] [-s SEED]
 
-It needs bin/abnfx. Prints what differs, and then the status is 1.
+It needs bin/abnfx, and bin/abnfi for canonical texts. Prints what differs, and then the status is 1.
 """
 import argparse
 import pathlib
@@ -16,7 +17,10 @@ import tempfile
 sys.path.insert(0, str(pathlib.Path(__file__).resolve().parent))
 import slow_abnfx
 
-ABNFX = pathlib.Path(__file__).resolve().parents[2] / "bin/abnfx"
+BIN = pathlib.Path(__file__).resolve().parents[2] / "bin"
+ABNFX, ABNFI = BIN / "abnfx", BIN / "abnfi"
+# Two texts that read, whose grammar has more than 1048576 bytes.
+LONG = [(f"{name}.txt", f'{name} = "x" ;'.encode() + b"c" * 600000) for name in ("a", "b")]
 NAMES = ("a", "B", "b", "c-1", "Date", "date")
 PARTS = ("a", "b", "DIGIT", "2*3date", '"x"', '"Y z"', "%x41-5A", "%d13.10", "*c-1", "[ b ]", "<the other text>")
 PROSE = (
@@ -59,27 +63,60 @@ def text(made):
     return (end.join(found) + made.choice(("", end))).encode()
 
 
+class Trials:
+    """Runs of abnfx in a folder, and how many went wrong."""
+
+    def __init__(self, folder):
+        self.folder, self.wrong = pathlib.Path(folder), 0
+
+    def put(self, texts):
+        for name, bytes_of in texts:
+            (self.folder / name).write_bytes(bytes_of)
+
+    def expect(self, texts, option, want, told, status):
+        command = [ABNFX, *option, *(it for it, _ in texts)]
+        ran = subprocess.run(command, cwd=self.folder, capture_output=True, check=False)
+        out = ran.stdout if want is None else want
+        if (ran.stdout, ran.stderr, ran.returncode) != (out, told, status):
+            self.wrong += 1
+            print(f"{option}: {str(texts)[:2000]}\nwrites {ran.stdout}\nwanted {want}\n"
+                  f"tells {ran.stderr}\nwanted {told}\nstatus {ran.returncode}, wanted {status}")
+
+    def canonical(self, grammar):
+        """Returns the canonical text of a grammar, as abnfi prints it; None if it refuses the grammar."""
+        if not grammar:
+            return grammar
+        (self.folder / "grammar").write_bytes(grammar)
+        ran = subprocess.run([ABNFI, "-m", "print", "grammar"], cwd=self.folder, capture_output=True, check=False)
+        return ran.stdout if ran.returncode == 0 else None
+
+    def long_grammar(self):
+        self.put(LONG)
+        for option in ([], ["-c"]):
+            self.expect(LONG, option, b"", b"grammar too long\n", 2)
+        listed = "".join(f"{name}:1: '{name[0]}' stands\n" for name, _ in LONG)
+        self.expect(LONG, ["-l"], listed.encode(), b"", 0)
+
+
 def main():
     asked = argparse.ArgumentParser()
     asked.add_argument("-n", type=int, default=300)
     asked.add_argument("-s", type=int, default=1)
     words = asked.parse_args()
-    made, wrong = random.Random(words.s), 0
+    made = random.Random(words.s)
     with tempfile.TemporaryDirectory() as folder:
-        for number in range(words.n):
+        trials = Trials(folder)
+        trials.long_grammar()
+        for _ in range(words.n):
             texts = [(f"t{it}.txt", text(made)) for it in range(made.choice((1, 1, 2, 3)))]
-            for name, bytes_of in texts:
-                (pathlib.Path(folder) / name).write_bytes(bytes_of)
+            trials.put(texts)
             grammar, listed, told, status = slow_abnfx.joined(texts)
-            for option, want in (([], grammar), (["-l"], listed.encode())):
-                command = [ABNFX, *option, *(it for it, _ in texts)]
-                ran = subprocess.run(command, cwd=folder, capture_output=True, check=False)
-                if (ran.stdout, ran.stderr, ran.returncode) != (want, told.encode(), status):
-                    wrong += 1
-                    print(f"case {number} {option}: {texts}\nwrites {ran.stdout}\nwanted {want}\n"
-                          f"tells {ran.stderr}\nwanted {told}\nstatus {ran.returncode}, wanted {status}")
-    print(f"texts: {words.n} cases, {wrong} wrong")
-    return 1 if wrong else 0
+            trials.expect(texts, [], grammar, told.encode(), status)
+            trials.expect(texts, ["-l"], listed.encode(), told.encode(), status)
+            if ABNFI.exists():
+                trials.expect(texts, ["-c"], trials.canonical(grammar), told.encode(), status)
+    print(f"texts: {words.n} cases, {trials.wrong} wrong")
+    return 1 if trials.wrong else 0
 
 
 if __name__ == "__main__":

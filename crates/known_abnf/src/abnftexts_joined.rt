@@ -97,17 +97,13 @@ fn joins_texts(rt: HostRuntime) {
 }
 
 // A text, with the form; what is written and told of it, and the status.
-type FormRow = (
-    &'static [u8],
-    JoinForm,
-    &'static [u8],
-    &'static [u8],
-    u8,
-);
+type FormRow = (&'static [u8], JoinForm, &'static [u8], &'static [u8], u8);
 
-static AGAIN: &[u8] = b"b  = \"x\"\nB = \"X\" ; again\n";
-static CLASH: &[u8] = b"b = \"x\"\nB = c ; other\n";
-static CLASH_TOLD: &[u8] = b"a:2: 'B' is defined otherwise at a:1\na:2: 'c' is not defined\n";
+const AGAIN: &[u8] = b"b  = \"x\"\nB = \"X\" ; again\n";
+
+const CLASH: &[u8] = b"b = \"x\"\nB = c ; other\n";
+
+const CLASH_TOLD: &[u8] = b"a:2: 'B' is defined otherwise at a:1\na:2: 'c' is not defined\n";
 
 static FORMS: [FormRow; 9] = [
     (AGAIN, JoinForm::Plain, b"; a:1\nb  = \"x\"\n", b"", 0),
@@ -127,13 +123,7 @@ static FORMS: [FormRow; 9] = [
         CLASH_TOLD,
         2,
     ),
-    (
-        CLASH,
-        JoinForm::Canonical,
-        b"b = \"x\"\n",
-        CLASH_TOLD,
-        2,
-    ),
+    (CLASH, JoinForm::Canonical, b"b = \"x\"\n", CLASH_TOLD, 2),
     (
         CLASH,
         JoinForm::Listed,
