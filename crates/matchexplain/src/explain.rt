@@ -9,10 +9,11 @@ ghost use Rattle.matchexplain.specs.NoMatches.{IsNoMatchTold, lines_of_failure, 
 ghost use Rattle.matchexplain.specs.InputPlaces.{place_behind};
 
 use crate::found::{byte_of, failure_before, failure_in};
-use crate::lines::{lines_of_farthest, lines_of_long_unit};
+use crate::lines::lines_of_farthest;
 use crate::place::TextPlace;
 use farthest::{Farthest, Told, told_unit};
 use gramcheck::SoundPeg;
+use picture::push_number;
 use ruletable::Memory;
 use std::alloc::Global;
 
@@ -94,5 +95,11 @@ pub fn explain_no_match(
 pub fn explain_long_unit(alloc: Global, at: TextPlace) -> Result<Vec<u8>, Memory>
     ensures { IfOk result (λ why. why.items ≡ long_unit_lines at) }
 {
-    lines_of_long_unit(alloc, at)
+    let mut out = Vec::new(alloc);
+    out.extend_from_slice(b"  the unit begins on line ")?;
+    push_number(&mut out, at.line)?;
+    out.extend_from_slice(b", column ")?;
+    push_number(&mut out, at.column)?;
+    out.extend_from_slice(b"\n  -l allows at most 16777216\n")?;
+    Ok(out)
 }

@@ -6,7 +6,7 @@ ghost use Rattle.pegnodes.specs.Nodes.{shapes_of};
 ghost use Rattle.pegread.specs.PegViews.{rules_of};
 ghost use Rattle.matchexplain.specs.FittingFailures.{AreFitting, IsFitting};
 ghost use Rattle.matchexplain.specs.NoMatchLines.{begun_at, expected_line, expected_lines, failing_picture};
-ghost use Rattle.matchexplain.specs.NoMatchLines.{failing_place, failure_lines, long_unit_lines, more_expected};
+ghost use Rattle.matchexplain.specs.NoMatchLines.{failing_place, failure_lines, more_expected};
 
 use crate::node_texts::{leaf_at, rule_name};
 use crate::place::TextPlace;
@@ -151,21 +151,5 @@ pub(crate) fn lines_of_farthest(
     push_failing_place(&mut out, at, unit)?;
     push_failing_picture(&mut out, seen, place)?;
     push_expected(alloc, &mut out, peg, unit, place, &farthest.expected)?;
-    Ok(out)
-}
-
-/// Returns the lines that tell where a unit begins that would look at too many bytes.
-///
-/// # Errors
-/// `Memory` if an allocation fails.
-pub(crate) fn lines_of_long_unit(alloc: Global, at: TextPlace) -> Result<Vec<u8>, Memory>
-    ensures { IfOk result (λ why. why.items ≡ long_unit_lines at) }
-{
-    let mut out = Vec::new(alloc);
-    out.extend_from_slice(b"  the unit begins on line ")?;
-    push_number(&mut out, at.line)?;
-    out.extend_from_slice(b", column ")?;
-    push_number(&mut out, at.column)?;
-    out.extend_from_slice(b"\n  -l allows at most 16777216\n")?;
     Ok(out)
 }

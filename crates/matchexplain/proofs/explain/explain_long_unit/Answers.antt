@@ -1,6 +1,6 @@
 use Rattle.std.specs.Prelude.{codes, decimal}
 use Rattle.matchexplain.proofs.PieceJoinsLemmas.{five-only}
-use Rattle.matchexplain.proofs.lines.lines_of_long_unit.Goals as goal
+use Rattle.matchexplain.proofs.explain.explain_long_unit.Goals as goal
 
 pub returns : goal.returns
 returns c =
