@@ -53,7 +53,7 @@ EXEMPT = (
     "pegnodes: template.cut_templates", "fanquber_c: exports.fanquber_abnf",
     # A crate above has such an edit.
     "abnfrun: AbnfJudge.judge", "memoryrun: whole_run.abnf_in_memory", "memoryrun: whole_run.peg_in_memory",
-    "toolrun: plan.plan_of", "toolrun: tool.act", "noteplaces: places.places_of",
+    "itemsets: Chart.spots", "toolrun: plan.plan_of", "toolrun: tool.act", "noteplaces: places.places_of",
 )
 
 

@@ -5,5 +5,6 @@ pub mod PlaceTableLemmas
 pub mod RowChartLemmas
 pub mod RowIndexesLemmas
 pub mod RowItemsLemmas
+pub mod RowSpotsLemmas
 pub mod RowStepLemmas
 pub mod RowWorklistLemmas

@@ -1,6 +1,6 @@
 -- Item sets as rows: of each place, by number, its origins.
-use Rattle.std.specs.Prelude.{◌≡◌, ◌⊎◌, ℕ, ◌+◌, ◌<◌, List, [], ◌∷◌, ◌++◌, length, map, Some, slice_get, Contains}
-use Rattle.bitrows.specs.RowSets.{Rows, HasAt}
+use Rattle.std.specs.Prelude.{◌≡◌, ◌↔◌, ◌⊎◌, ℕ, ◌+◌, ◌<◌, List, [], ◌∷◌, ◌++◌, length, map, Some, slice_get, Contains}
+use Rattle.bitrows.specs.RowSets.{Rows, HasAt, HasSome}
 use Rattle.itemsets.specs.ItemSets.{IsAdvanced, waiting_in}
 use Rattle.flatgrammar.specs.Blocks.{item_at, spot}
 use Rattle.flatgrammar.specs.NodeSteps.{IfSomeSet}
@@ -65,3 +65,14 @@ pub record IsScannedFor (flat : code_flat.Tables) (c : ℕ) (by a : Item) : Type
   pub node : a.node ≡ by.node
   pub step : a.step ≡ by.step + 1
   pub origin : a.origin ≡ by.origin
+
+-- the spot of a place below n that has a number
+pub record HasSpotBelow (spots : List Spot) (rows : List (List ℕ)) (n : ℕ) (s : Spot) : Type 0 where
+  pub place : ℕ
+  pub under : place < n
+  pub is : slice_get spots place ≡ Some s
+  pub some : HasSome rows place
+
+-- the spots of such places
+abbrev pub AreSpotsBelow : List Spot → List (List ℕ) → ℕ → List Spot → Type 0
+AreSpotsBelow spots rows n found = (s : Spot) → In s found ↔ HasSpotBelow spots rows n s

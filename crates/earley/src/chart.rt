@@ -2,7 +2,7 @@
 ghost use Rattle.std.specs.Prelude.{◌≡◌, ◌↔◌, ◌*◌, ◌+◌, ◌≤◌, ℕ, List, [], IsTrue, IfOk, OnErr, length, map};
 ghost use Rattle.abnfcheck.specs.Derivable.{RuleDerives};
 ghost use Rattle.abnfread.specs.Element.{Rule};
-ghost use Rattle.itemsets.specs.ChartSets.{set_at, IsSet};
+ghost use Rattle.itemsets.specs.ChartSets.{set_at, AreSpotsOf, IsSet};
 ghost use Rattle.flatgrammar.specs.Flat.{Place};
 ghost use Rattle.flatgrammar.specs.Holds.{Holds};
 ghost use Rattle.flatgrammar.specs.Lowered.{IsLowered};
@@ -11,7 +11,8 @@ ghost use Rattle.letters.specs.Letters.{has};
 
 use crate::row_chart::judge_rows;
 use crate::row_sets::RowChart;
-use flatgrammar::{Flat, items_tell, values_are_letters};
+use crate::row_spots::row_spots;
+use flatgrammar::{Flat, Spot, items_tell, values_are_letters};
 use itemsets::judge_within;
 use letters::Letter;
 use ruletable::Memory;
@@ -67,6 +68,26 @@ impl Chart {
             Some(rows) => match rows.sets.get(j) {
                 Some(set) => set.size,
                 None => 0,
+            },
+        }
+    }
+
+    /// Returns the spots of the items of set `j`, which may stand there more than once; none if there is no such set.
+    /// `Memory` if an allocation fails.
+    pub fn spots(&self, j: usize) -> Result<Vec<Spot>, Memory>
+        ensures { IfOk result (λ spots. AreSpotsOf (set_at self.now j) spots.items) }
+    {
+        match &self.rows {
+            None => {
+                let spots = self.items.spots(j)?;
+                Ok(spots)
+            }
+            Some(rows) => match rows.sets.get(j) {
+                Some(set) => {
+                    let spots = row_spots(self.alloc, &rows.table.spots, &set.rows)?;
+                    Ok(spots)
+                }
+                None => Ok(Vec::new(self.alloc)),
             },
         }
     }

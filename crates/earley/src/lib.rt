@@ -7,6 +7,7 @@ mod row_chart;
 mod row_fill;
 mod row_index;
 mod row_sets;
+mod row_spots;
 mod row_step;
 mod verdict;
 

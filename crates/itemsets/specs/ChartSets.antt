@@ -1,10 +1,11 @@
 -- A chart as contracts see it: of each set its items, each a place with its origin.
-use Rattle.std.specs.Prelude.{◌≡◌, ℕ, List, [], map, slice_get, slice_index_or, length, Option, Some, None}
+use Rattle.std.specs.Prelude.{◌≡◌, ◌↔◌, ℕ, List, [], map, slice_get, slice_index_or, length, Option, Some, None}
 use Rattle.std.proofs.Common.{Global}
 use Rattle.std.specs.declared.rc.Rc.{Rc}
 use Rattle.flatgrammar.specs.Flat.{Flat, Place, at}
 use Rattle.flatgrammar.specs.Holds.{Holds}
 use Rattle.flatgrammar.specs.Places.{In, AreDifferent}
+use Rattle.flatgrammar.specs.declared.block.Spot.{Spot}
 use Rattle.flatgrammar.specs.declared.flat_item.Item.{Item}
 use Rattle.itemsets.specs.EarleySets.{EarleySet}
 use Rattle.flatgrammar.specs.declared.tables.Tables as code_flat
@@ -22,6 +23,15 @@ chart_of (Some tables) kept_sets = map (λ set. map pair set) (views tables.valu
 -- set j; one that is not there is empty
 abbrev pub set_at : List (List (Place × ℕ)) → ℕ → List (Place × ℕ)
 set_at sets j = slice_index_or sets j []
+
+-- an item of a set stands at a spot
+pub record HasSpot (set : List (Place × ℕ)) (s : Spot) : Type 0 where
+  pub origin : ℕ
+  pub stands : In {A = Place × ℕ} (at s.node s.step, origin) set
+
+-- the spots are those of the items of a set
+abbrev pub AreSpotsOf : List (Place × ℕ) → List Spot → Type 0
+AreSpotsOf set spots = (s : Spot) → In s spots ↔ HasSpot set s
 
 -- a list is exactly the items of set j, each once
 pub record IsSet (flat : Flat) (x : List ℕ) (j : ℕ) (set : List (Place × ℕ)) : Type 0 where

@@ -4,7 +4,7 @@ ghost use Rattle.std.specs.Prelude.{OnErr, length, map, slice_get};
 ghost use Rattle.flatgrammar.specs.NodeSteps.{flat_of};
 ghost use Rattle.flatgrammar.specs.TableViews.{GiveRoots, AreNulls};
 ghost use Rattle.itemsets.specs.Charts.{IsAfter, IsExact};
-ghost use Rattle.itemsets.specs.ChartSets.{chart_of, set_at, IsSet, AreSized};
+ghost use Rattle.itemsets.specs.ChartSets.{chart_of, set_at, IsSet, AreSized, AreSpotsOf};
 ghost use Rattle.flatgrammar.specs.Blocks.{AreExact, block_of, item_at, AreTables, AreAlone, AreHomes, AreSpotLists};
 ghost use Rattle.itemsets.specs.ItemHomes.{head_rows, AreItemsHomed, AreReadersHomed};
 ghost use Rattle.itemsets.specs.ItemSets.{Adds};
@@ -23,6 +23,7 @@ use crate::item::{holds, same};
 use crate::items::Items;
 use crate::postdot::{HomedItem, Postdot};
 use crate::scan::scan;
+use crate::set_spots::{push_heads, push_items};
 use crate::sets::{Filled, Record, Sets};
 use flatgrammar::{Flat, Item, Spot, Tables, spots, whole_root};
 use letters::Letter;
@@ -92,6 +93,25 @@ impl Chart {
         match self.sets.get(j) {
             Some(kept_set) => kept_set.size(),
             None => 0,
+        }
+    }
+
+    /// Returns the spots of the items of set `j`, which may stand there more than once; none if there is no such set.
+    /// `Memory` if an allocation fails.
+    pub fn spots(&self, j: usize) -> Result<Vec<Spot>, Memory>
+        ensures { IfOk result (λ spots. AreSpotsOf (set_at self.now j) spots.items) }
+    {
+        let mut spots = Vec::new(self.alloc);
+        match &self.tables {
+            None => Ok(spots),
+            Some(tables) => match self.sets.get(j) {
+                None => Ok(spots),
+                Some(kept_set) => {
+                    push_heads(tables, kept_set.records(), &mut spots)?;
+                    push_items(kept_set.items(), &mut spots)?;
+                    Ok(spots)
+                }
+            },
         }
     }
 

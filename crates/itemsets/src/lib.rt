@@ -9,6 +9,7 @@ mod item;
 mod items;
 mod postdot;
 mod scan;
+mod set_spots;
 mod sets;
 mod waiters;
 

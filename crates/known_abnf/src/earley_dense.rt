@@ -59,7 +59,7 @@ fn are_counted(
         return Ok(false);
     }
     for count in counts {
-        if chart.items(count.0) != count.1 {
+        if chart.items(count.0) != count.1 || chart.spots(count.0)?.is_empty() != (count.1 == 0) {
             return Ok(false);
         }
     }

@@ -26,6 +26,10 @@ mod earley_judge;
 #[cfg(test)]
 mod lazydfa_rooms;
 #[cfg(test)]
+mod letterruns_texts;
+#[cfg(test)]
+mod refusedlines_following;
+#[cfg(test)]
 mod rfctext_lines;
 #[cfg(test)]
 mod texts;

@@ -1,0 +1,108 @@
+-- The spots of the items of rows.
+-- Serves: Chart::spots
+use Rattle.std.proofs.Common.{◌≡◌, ◌⊎◌, inl, inr, ⊎_elim, ℕ, ◌+◌, ◌<◌, ◌≤◌, List, [], ◌∷◌, ◌++◌, length, map, Some}
+use Rattle.std.proofs.Common.{slice_get, slice_index_or, sym, ◌∙◌, ap, subst, arith}
+use Rattle.std.proofs.lemmas.Bool.{cases_lt}
+use Rattle.std.proofs.lemmas.List.{length-map}
+use Rattle.std.proofs.lemmas.Option.{slice_get-get_or}
+use Rattle.bitrows.specs.RowSets.{HasSome}
+use Rattle.flatgrammar.proofs.CallOfLemmas.{get_below, get_map, some_same}
+use Rattle.flatgrammar.proofs.InLemmas.{at_end, before_end, in_left}
+use Rattle.flatgrammar.specs.Blocks.{item_at}
+use Rattle.flatgrammar.specs.Flat.{Place, at}
+use Rattle.flatgrammar.specs.Places.{In}
+use Rattle.flatgrammar.specs.declared.block.Spot.{Spot}
+use Rattle.flatgrammar.specs.declared.flat_item.Item.{Item}
+use Rattle.itemsets.proofs.ChartSetsLemmas.{index_map, index_past}
+use Rattle.itemsets.proofs.SetSpotsLemmas.{in_pairs, pair_in}
+use Rattle.itemsets.specs.ChartSets.{pair, set_at, AreSpotsOf, HasSpot}
+use Rattle.earley.proofs.RowItemsLemmas.{in_row_item, row_item_in}
+use Rattle.earley.specs.RowCharts.{row_views, rows_chart}
+use Rattle.earley.specs.RowItems.{AreSpotsBelow, HasSpotBelow, row_items}
+use Rattle.earley.specs.declared.row_sets.KeptRows.{KeptRows}
+use Rattle.earley.specs.declared.row_sets.RowChart.{RowChart}
+
+module _ (spots : List Spot) (rows : List (List ℕ)) (i : ℕ) where
+  wider_below : (s : Spot) → HasSpotBelow spots rows i s → HasSpotBelow spots rows (i + 1) s
+  wider_below s h = let lt = h.under in record { place = h.place; under = omega (arith, lt); is = h.is; some = h.some }
+
+  -- below the place, or there
+  there_or_below : (s : Spot) (h : HasSpotBelow spots rows (i + 1) s) → HasSpotBelow spots rows i s
+      ⊎ ((slice_get spots i ≡ Some s) × HasSome rows i)
+  there_or_below s h = by (cases_lt h.place i)
+    where
+      by : (h.place < i) ⊎ (i ≤ h.place) → HasSpotBelow spots rows i s
+          ⊎ ((slice_get spots i ≡ Some s) × HasSome rows i)
+      by (inl less) = inl (record { place = h.place; under = less; is = h.is; some = h.some })
+      by (inr le) =
+          let same : h.place ≡ i = let lt = h.under in omega (arith, lt, le) in
+          inr (subst (λ v. slice_get spots v ≡ Some s) same h.is, subst (λ v. HasSome rows v) same h.some)
+
+  pub spots_more : (d : Spot) (old new : List Spot) → i < length spots → AreSpotsBelow spots rows i old
+      → new ≡ old ++ slice_index_or spots i d ∷ [] → HasSome rows i → AreSpotsBelow spots rows (i + 1) new
+  spots_more d old new lt before is some s = (
+    λ h. ⊎_elim (λ g. wider_below s ((before s).0 g)) (λ same. record {
+      place = i;
+      under = omega arith;
+      is = slice_get-get_or spots i d lt ∙ ap Some (sym same);
+      some = some;
+    }) (before_end s (slice_index_or spots i d) old (subst (λ v. In s v) is h)),
+    λ h. subst (λ v. In s v) (sym is) (⊎_elim (λ g. in_left (slice_index_or spots i d ∷ []) ((before s).1 g))
+        (λ g. let same : slice_index_or spots i d ≡ s = some_same (sym (slice_get-get_or spots i d lt) ∙ g.0) in
+        subst (λ v. In v (old ++ slice_index_or spots i d ∷ [])) same (at_end (slice_index_or spots i d) old))
+        (there_or_below s h)),
+  )
+
+  pub spots_same : (old new : List Spot) → AreSpotsBelow spots rows i old → new ≡ old → (HasSome rows i → ⊥)
+      → AreSpotsBelow spots rows (i + 1) new
+  spots_same old new before is none s = (
+    λ h. wider_below s ((before s).0 (subst (λ v. In s v) is h)),
+    λ h. subst (λ v. In s v) (sym is) (⊎_elim (λ g. (before s).1 g) (λ g. absurd (none g.1)) (there_or_below s h)),
+  )
+
+-- the spots of a set that is kept as rows
+rows_tell : (spots : List Spot) (rows : List (List ℕ)) (found : List Spot)
+    → AreSpotsBelow spots rows (length spots) found → AreSpotsOf (map pair (row_items spots rows)) found
+rows_tell spots rows found are s = (
+  λ h. let f = (are s).0 h in
+      let a : Item = item_at f.some.0 s in
+      record {
+        origin = f.some.0;
+        stands = pair_in (row_items spots rows) a
+            (row_item_in spots rows a (record { place = f.place; is = f.is; has = f.some.1 }));
+      },
+  λ h. let f = in_pairs (row_items spots rows) s h.origin h.stands in
+      let r = in_row_item spots rows f.item f.stands in
+      (are s).1 (record {
+        place = r.place;
+        under = get_below spots r.place r.is;
+        is = r.is ∙ ap Some f.is;
+        some = (f.item.origin, r.has);
+      }),
+)
+
+pub row_chart_spots : (r : RowChart) (j : ℕ) (kept : KeptRows) (found : List Spot)
+    → slice_get r.sets.items j ≡ Some kept
+    → AreSpotsBelow r.table.spots.items kept.rows.items (length r.table.spots.items) found
+    → AreSpotsOf (set_at (rows_chart r) j) found
+row_chart_spots r j kept found is are =
+    subst (λ v. AreSpotsOf v found)
+    (sym (index_map (λ set. map pair set) (row_views r.table.spots.items r.sets.items) j
+    (row_items r.table.spots.items kept.rows.items) []
+    (get_map (λ s. row_items r.table.spots.items s.rows.items) r.sets.items j is)))
+    (rows_tell r.table.spots.items kept.rows.items found are)
+
+pub row_past_spots : (r : RowChart) (j : ℕ) (found : List Spot) → length r.sets.items ≤ j → found ≡ []
+    → AreSpotsOf (set_at (rows_chart r) j) found
+row_past_spots r j found le none =
+    let count = length-map r.sets.items (λ s. row_items r.table.spots.items s.rows.items) in
+    subst (λ v. AreSpotsOf v found)
+    (sym (index_past (λ set. map pair set) (row_views r.table.spots.items r.sets.items) j []
+    (omega (arith, le, count))))
+    (λ s. ((λ h. nobody s (subst (λ v. In s v) none h)), λ h. no_pair s h.origin h.stands))
+  where
+    nobody : (s : Spot) → In s [] → HasSpot [] s
+    nobody s h = elim h [ ]
+
+    no_pair : (s : Spot) (i : ℕ) → In {A = Place × ℕ} (at s.node s.step, i) [] → In s found
+    no_pair s i h = elim h [ ]

@@ -1,0 +1,43 @@
+//! The spots of the items of a set that is kept as rows.
+ghost use Rattle.std.specs.Prelude.{◌↔◌, ℕ, length, Contains, IsTrue, IfOk};
+ghost use Rattle.bitrows.specs.RowSets.{HasSome};
+ghost use Rattle.earley.specs.RowItems.{AreSpotsBelow};
+
+use bitrows::BitRow;
+use flatgrammar::Spot;
+use ruletable::Memory;
+use std::alloc::Global;
+
+// Tells whether a row has a number.
+fn is_used(row: &BitRow) -> bool
+    ensures { IsTrue result ↔ ((k : ℕ) × Contains row.now k) }
+{
+    match row.next(0) {
+        Some(_) => true,
+        None => false,
+    }
+}
+
+// Tells whether the row of a place has a number.
+fn has_some(rows: &[BitRow], place: usize) -> bool
+    ensures { IsTrue result ↔ HasSome rows.now place }
+{
+    match rows.get(place) {
+        Some(row) => is_used(row),
+        None => false,
+    }
+}
+
+/// Returns the spots of the places with a number, each once where the spots are different. `Memory` if an allocation
+/// fails.
+pub(crate) fn row_spots(alloc: Global, spots: &[Spot], rows: &[BitRow]) -> Result<Vec<Spot>, Memory>
+    ensures { IfOk result (λ found. AreSpotsBelow spots.now rows.now (length spots.now) found.items) }
+{
+    let mut found = Vec::new(alloc);
+    for place in 0..spots.len() {
+        if has_some(rows, place) {
+            found.push(spots[place])?;
+        }
+    }
+    Ok(found)
+}

@@ -1,0 +1,2 @@
+pub mod LetterRunLemmas
+pub mod ToldTextLemmas

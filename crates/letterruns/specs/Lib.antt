@@ -1,0 +1,2 @@
+pub mod LetterRuns
+pub mod ToldLetters

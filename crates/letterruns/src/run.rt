@@ -1,0 +1,8 @@
+//! Letters one after another.
+
+/// The letters whose numbers are those from a first to a last.
+#[derive(Clone, Copy, Debug, PartialEq, Eq)]
+pub struct LetterRun {
+    pub first: u32,
+    pub last: u32,
+}

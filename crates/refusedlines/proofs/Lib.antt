@@ -1,0 +1,2 @@
+pub mod ReadLettersLemmas
+pub mod CanFollowLemmas

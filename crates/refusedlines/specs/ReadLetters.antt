@@ -1,0 +1,27 @@
+-- The letters that items read at their spots.
+use Rattle.std.specs.Prelude.{ℕ, ◌↔◌, ◌⊎◌, List, slice_get, Option, Some, None}
+use Rattle.flatgrammar.specs.Flat.{Flat, Node, Set}
+use Rattle.flatgrammar.specs.NodeSteps.{IfSomeSet, read_at}
+use Rattle.flatgrammar.specs.Places.{In}
+use Rattle.flatgrammar.specs.declared.block.Spot.{Spot}
+use Rattle.letterruns.specs.LetterRuns.{RunsHave}
+use Rattle.letterruns.specs.declared.run.LetterRun.{LetterRun}
+
+-- the set that a step of a node reads, if there is such a node
+abbrev pub read_by : Option Node → ℕ → Option Set
+read_by None k = None
+read_by (Some node) k = read_at node k
+
+-- a spot reads a letter
+abbrev pub SpotReads : Flat → Spot → ℕ → Type 0
+SpotReads flat s c = IfSomeSet (read_by (slice_get flat.nodes s.node) s.step) c
+
+-- one of the spots reads a letter
+pub record SpotsRead (flat : Flat) (spots : List Spot) (c : ℕ) : Type 0 where
+  pub spot : Spot
+  pub stands : In spot spots
+  pub reads : SpotReads flat spot c
+
+-- runs got the numbers of Q
+abbrev pub GainLetters : (ℕ → Type 0) → List LetterRun → List LetterRun → Type 0
+GainLetters Q old new = (c : ℕ) → RunsHave new c ↔ (RunsHave old c ⊎ Q c)
