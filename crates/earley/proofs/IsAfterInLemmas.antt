@@ -157,15 +157,15 @@ module _ (spots : List Spot) (places : ℕ) (filled : FilledSets) (are : AreInde
 
     module _ (rest both : List ℕ) (is : slice_get filled.rest.items call.from ≡ Some rest)
         (two : (k : ℕ) → Contains both k ↔ (Contains row k × Contains rest k)) where
-      after_in_row : (a : Item) → IsAfterIn spots call filled.sets.items both count a
+      after_in : (a : Item) → IsAfterIn spots call filled.sets.items both count a
           → IsAfterIn spots call filled.sets.items row count a
-      after_in_row a h = record { origin = h.origin; has = ((two h.origin).0 h.has).0; under = h.under; after = h.after }
+      after_in a h = record { origin = h.origin; has = ((two h.origin).0 h.has).0; under = h.under; after = h.after }
 
       pub rest_covered : (new : Rows) → Gains spots (IsAfterLast spots call filled.sets.items both count) old new
           → ((k : ℕ) → HasAt filled.union.items call.from k → HasAt new.all call.after k)
           → Gains spots (IsAfterIn spots call filled.sets.items row count) old new
       rest_covered new gains covered = gains_more spots (IsAfterLast spots call filled.sets.items both count)
-          (IsAfterIn spots call filled.sets.items row count) old new (λ a h. after_in_row a h.after)
+          (IsAfterIn spots call filled.sets.items row count) old new (λ a h. after_in a h.after)
           (λ a h. ⊎_elim (λ g. inr (gains.kept a (own a (is_own a h g))))
           (λ g. inr (record { place = call.after; is = h.after.0; has = covered a.origin g }))
           (are.united call.from h.origin a.origin h.after.1))
@@ -175,7 +175,7 @@ module _ (spots : List Spot) (places : ℕ) (filled : FilledSets) (are : AreInde
           → Gains spots (IsAfterIn spots call filled.sets.items both count) mid new
           → Gains spots (IsAfterIn spots call filled.sets.items row count) old new
       rest_added mid new last gains = gains_more spots (IsAfterIn spots call filled.sets.items both count)
-          (IsAfterIn spots call filled.sets.items row count) old new (λ a h. after_in_row a h)
+          (IsAfterIn spots call filled.sets.items row count) old new (λ a h. after_in a h)
           (λ a h. ⊎_elim (λ g. inr (gains.kept a (last.kept a (own a (is_own a h g)))))
           (λ g. inl (record {
             origin = h.origin;
