@@ -34,7 +34,7 @@ EXEMPT = (
     # It returns marks without entries, which take no memory; no other such value is at hand.
     "packrat: Marks.all",
     # Its equation stands behind a premise, and `requires` says that something meets the premise.
-    "pegmatch: Plain.replay", "pegmatch: writing.write_event",
+    "pegmatch: Plain.replay", "pegmatch: writing.write_event", "matchexplain: TextPlace.behind",
     # It passes on what `KeyLog::get` finds.
     "packrat: Packrat.found",
     # It passes on what `noteplaces::explain_note` returns, whose clause equates.

@@ -8,6 +8,8 @@ mod farthest_failures;
 #[cfg(test)]
 mod gramcheck_notes;
 #[cfg(test)]
+mod matchexplain_lines;
+#[cfg(test)]
 mod memo_key_log;
 #[cfg(test)]
 mod packrat_beside_desk;

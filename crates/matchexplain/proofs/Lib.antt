@@ -1,0 +1,7 @@
+mod PlaceBehindLemmas
+pub mod RuleOfNodeLemmas
+mod ExpectedLinesLemmas
+mod FoundLinesLemmas
+mod PieceJoinsLemmas
+mod FoundFailuresLemmas
+mod NoMatchLemmas
