@@ -1,6 +1,7 @@
 pub mod AttemptLemmas
 pub mod CutLemmas
 pub mod FirstsLemmas
+pub mod FollowsLemmas
 pub mod LooksOfStartLemmas
 pub mod NextUnitLemmas
 pub mod OneReplyLemmas
@@ -9,3 +10,4 @@ pub mod StatesLemmas
 pub mod StepLemmas
 pub mod TextOfLemmas
 pub mod WindowLemmas
+pub mod WhyStoppedLemmas

@@ -3,6 +3,7 @@
 
 mod engine;
 mod laws;
+mod past;
 mod peg_language;
 mod run;
 mod unit;
