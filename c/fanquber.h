@@ -47,7 +47,7 @@ typedef struct fanquber_settings {
     bool raw;        /* fanquber_peg: actions are printed verbatim */
     bool viable;     /* fanquber_abnf: `no N` in place of `no`: the longest viable beginning has N letters */
     bool nul;        /* fanquber_abnf: lines end with NUL in place of LF, and may hold LF */
-    bool explain;    /* a fault of the grammar's text, or a note on it, is explained behind its message */
+    bool explain;    /* a fault of the grammar, a note on it, or a stop of peg is explained behind its message */
 } fanquber_settings;
 
 #define FANQUBER_SETTINGS { FANQUBER_DEFAULT_LIMIT, FANQUBER_RUN, FANQUBER_BYTES, false, false, false, false, false }

@@ -78,6 +78,9 @@ EARLY_EXPLAINED = abnf("notes of ABNF explained", b's = "x"\nT =/ s / <a text>\n
 REACHED_EXPLAINED = abnf("a reached name explained", b"s = t\nt = s / u\n", b"X\n", [],
                          b"rule 'u' used but not defined\n  line 2: used in rule 't'\n"
                          b"  reached by 's' > 't' > 'u'\n", 2, words=["-x"])
+STOP_EXPLAINED = peg("a stop explained", b"S <- 'a' ('=' [0-9]+ ';')* {x}", b"a=12,", [b"x\n"],
+                     b"no match at byte 1\n  byte 4, line 1, column 5, in the unit at byte 0\n  a=12,\n      ^\n"
+                     b'  expected [0-9] in S\n  expected ";" in S\n', 1, words=["-x"])
 PRINTED = peg("a grammar printed", b"A<-('x')/[b-da^-]*", b"", [b'A <- "x" / [\\055\\136a-d]*\n'], words=PRINT)
 ALTERNATIVES = b'k = %s"Ab"\n  / "cd"\nK =/ 2*3%x78'
 LINES = b"Ab\nab\nCD\nxx\nxxxx\n"
@@ -120,6 +123,7 @@ GROWING = [
     TAKEN_PRINTED,
     TAKEN_LISTED,
     NONE_TAKEN,
+    STOP_EXPLAINED,
 ]
 
 

@@ -8,8 +8,8 @@ of them by each program; 20000 if it is not given. Cases and their order follow 
 cases were compared; at the first disagreement it prints the case and ends with status 1. A program that is not built is
 skipped. With -u half of the runs of abnfi have its option `-u utf8`; so it is with -w and its option `-w`, and with -z
 and its option `-z`. With -x half of the runs of both have the option `-x`, half of these with what explains
-their notes (slow_notes.py), the others of a text with a fault (slow_faults.py): a grammar's, of which some bytes are
-changed.
+their notes (slow_notes.py) and how the run of pegi stops (slow_stops.py), the others of a text with a fault
+(slow_faults.py): a grammar's, of which some bytes are changed.
 """
 import argparse
 import collections
@@ -26,6 +26,7 @@ import slow_abnf
 import slow_faults
 import slow_notes
 import slow_peg
+import slow_stops
 
 TOP = pathlib.Path(__file__).resolve().parents[2]
 LINES = 40
@@ -69,6 +70,9 @@ def peg_case(r, may_be_explained=False):
         return None
     case = Case(words, text, given, tuple(wanted), count)
     if may_be_explained and r.random() < 0.5:
+        out, message, status = wanted
+        behind = slow_stops.behind_stop(rules, given, limit, start) if status in (1, 3) else b""
+        case = case._replace(wanted=(out, message + behind, status))
         return explained(r, case, start, slow_faults.peg, functools.partial(slow_notes.peg, grammar=rules))
     return case
 

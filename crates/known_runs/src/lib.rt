@@ -23,4 +23,6 @@ mod run_abnf_viable;
 #[cfg(test)]
 mod run_peg_rows;
 #[cfg(test)]
+mod run_peg_stops;
+#[cfg(test)]
 mod run_tool_explained;

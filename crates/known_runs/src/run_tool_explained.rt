@@ -457,7 +457,14 @@ fn a_grammar_without_a_fault_is_run_behind_its_notes(rt: HostRuntime) {
         &settings,
         &ends,
     );
-    let told = b"rule 'T' defined but not used\n  line 2: 'T' is defined\nno match at byte 1\n";
+    let told = b"rule 'T' defined but not used
+  line 2: 'T' is defined
+no match at byte 1
+  byte 1, line 1, column 2, in the unit at byte 1
+  b
+  ^
+  expected \"a\" in S
+";
     assert!(rt; ran.is(b"x\n", told, Status::NoMatch));
     let ends = Ends::new(b"a\nb\n", 1);
     let ran = run_over(rt.alloc(), Program::Abnfi, b"s = \"a\"", &settings, &ends);

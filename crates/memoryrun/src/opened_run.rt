@@ -10,7 +10,7 @@ use crate::outputs::Outputs;
 use pegrun::PegRunner;
 use ruletable::SinkOf;
 use std::alloc::Global;
-use toolrun::{Settings, end_run};
+use toolrun::{Settings, conclude_run};
 
 /// Returns what a run of an open grammar writes on an input in memory, behind what is told of the grammar.
 /// `Status::Fault` also if an allocation for one of the outputs fails: it then holds a beginning.
@@ -27,8 +27,8 @@ pub fn run_opened(
     let mut reader = Bytes::new(input);
     let mut out = SinkOf::new(Vec::new(alloc));
     let mut err = SinkOf::new(Vec::new(alloc));
-    let stop = runner.run(alloc, settings, &mut reader, &mut out);
-    let status = end_run(stop, &mut out, &mut err);
+    let ending = runner.run(alloc, settings, &mut reader, &mut out);
+    let status = conclude_run(ending, &mut out, &mut err);
     Outputs {
         out: out.into_inner(),
         err: err.into_inner(),

@@ -1,6 +1,8 @@
 -- The units so far, and the step that follows them.
 -- Serves: run_peg (right)
-use Rattle.std.proofs.Common.{◌≡◌, ℕ, ◌+◌, Bool, List, [], ◌++◌, length, Option, refl, arith, inl, inr}
+use Rattle.std.proofs.Common.{◌≡◌, ℕ, ◌+◌, Bool, true, false, List, [], ◌++◌, length, take, Option, refl, arith}
+use Rattle.std.proofs.Common.{◌≤◌, ◌∙◌, ap, inl, inr, sym, subst, append_assoc}
+use Rattle.std.proofs.Math.Seq.{take-append_seam}
 use Rattle.std.specs.Prelude.{Result, Ok, Err}
 use Rattle.std.proofs.lemmas.List.{append-nil}
 use Rattle.std.specs.Io.KnownBytes.{Appends, Consumes}
@@ -18,13 +20,25 @@ use Rattle.pegrun.specs.PegStopped.{IsCut}
 use Rattle.pegrun.specs.PegReply.{RunStates}
 use Rattle.pegrun.specs.Units.{Units, none, one_more, Ends, taken_at}
 use Rattle.toolrun.specs.Agrees.{Agrees}
-use Rattle.toolrun.specs.RunSteps.{Begins, HasRun}
-use Rattle.toolrun.specs.Stopped.{Performs}
+use Rattle.toolrun.specs.RunSteps.{Begins, EndsTold, HasToldRun}
+use Rattle.toolrun.specs.Stopped.{Fulfils}
 use Rattle.toolrun.specs.Stream.{Stream, passed}
 use Rattle.toolrun.specs.declared.settings.Settings.{Settings}
 use Rattle.toolrun.specs.declared.stop.Stop.{Stop}
-use Rattle.toolrun.specs.declared.stop.Stop.TheVariants.{NoMemory}
-use Rattle.toolrun.proofs.StopsAsLemmas.{run_performs, did_not_run}
+use Rattle.toolrun.specs.declared.ending.Ending.{Ending}
+use Rattle.toolrun.specs.declared.ending.Ending.TheVariants.{Plain, Explained, Unexplained}
+use Rattle.toolrun.specs.declared.stop.Stop.TheVariants.{Quiet, NoMatch, LongUnit, LongLine, Broken, NoMemory, Refused}
+use Rattle.toolrun.specs.declared.stop.Stop.TheVariants.{Unreadable}
+use Rattle.toolrun.proofs.StopsAsLemmas.{run_told, did_not_tell}
+use Rattle.matchexplain.specs.NoMatchLines.{long_unit_lines}
+use Rattle.matchexplain.specs.NoMatches.{IsNoMatchTold, unit_before}
+use Rattle.pegrun.specs.PastUnits.{EndsBehind, LinesBehind}
+use Rattle.pegrun.specs.StopsExplained.{MayLack, StopLines, UnitBefore, WhyStopped, one_before}
+use Rattle.pegrun.specs.declared.past.Past.{Past}
+use Rattle.matchexplain.specs.InputPlaces.{place_behind}
+use Rattle.matchexplain.specs.declared.place.TextPlace.{TextPlace}
+use Rattle.pegrun.proofs.FollowsLemmas.{unit_at_byte}
+use Rattle.pegrun.proofs.WhyStoppedLemmas.{if_asked, no_lines, some_told, if_not_asked}
 use Rattle.pegrun.proofs.SomeReplyLemmas.{units_go_on, unit_goes_on}
 use Rattle.pegrun.specs.declared.unit.Step.TheVariants.{Takes, Stops}
 
@@ -39,10 +53,19 @@ module _ (rules : List Rule) (start : ℕ) (settings : Settings) (input : Input)
     Appends-join old mid new text unit wrote more,
   )
 
-  pub stops_there : (stop : Stop) → IsStep rules start settings input place mid new (Ok (Stops stop))
-      → taken ≡ taken_at settings input place →
-      IsCut rules start settings input taken old new (Ok stop)
-  stops_there stop (inl refused) took = (
+  -- the unit that was taken is the one before the next, and is kept
+  pub unit_kept : (n : ℕ) → IsStep rules start settings input place mid new (Ok (Takes n)) → (past : Past)
+      (before items : List ℕ) → length before ≡ place → (next : TextPlace) → next ≡ place_behind before
+      → past.at ≡ next → past.bytes.items ≡ take n items → n ≤ length items →
+      UnitBefore rules start settings input (place + n) (unit_before past.at.byte (length past.bytes.items))
+  unit_kept n (unit, is, more, some) past before items here next stands at bytes le =
+      rw (unit_at_byte past.at past.bytes.items before items n (at ∙ stands) bytes le some, here)
+      (one_before place n text unit units is some)
+
+  pub stops_plain : settings.explain ≡ false → (stop : Stop)
+      → IsStep rules start settings input place mid new (Ok (Stops stop)) → taken ≡ taken_at settings input place →
+      IsCut rules start settings input taken old new (Ok (Plain stop))
+  stops_plain plain stop (inl refused) took = (
     place,
     text,
     [],
@@ -51,15 +74,110 @@ module _ (rules : List Rule) (start : ℕ) (settings : Settings) (input : Input)
     took,
     inl (refused.0, refl),
   )
-  stops_there stop (inr ended) took = (
+  stops_plain plain stop (inr ended) took = (
     place,
     text,
     ended.0,
     units,
     Appends-join old mid new text ended.0 wrote ended.2,
     took,
-    inr ended.1,
+    inr (ended.1, if_not_asked settings.explain (StopLines rules start settings input place stop) plain),
   )
+
+  -- the bytes before here and those that are held are what is taken, and the last unit before is kept
+  module _ (asked : settings.explain ≡ true) (past : Past) (before held more : List ℕ) (here : length before ≡ place)
+      (bytes : input.bytes ≡ (before ++ held) ++ more) (took : length (before ++ held) ≡ taken_at settings input place)
+      (unit : past.lost ≡ false
+      → UnitBefore rules start settings input place (unit_before past.at.byte (length past.bytes.items))) where
+    taken_is : take (taken_at settings input place) input.bytes ≡ before ++ held
+    taken_is = subst (λ (n : ℕ). take n input.bytes ≡ before ++ held) took
+        (ap (take (length (before ++ held))) bytes ∙ take-append_seam (before ++ held) more)
+
+    front_is : take place input.bytes ≡ before
+    front_is = subst (λ (n : ℕ). take n input.bytes ≡ before) here
+        (ap (take (length before)) (bytes ∙ append_assoc before held more) ∙ take-append_seam before (held ++ more))
+
+    lines_are : (stop : Stop) (why : List ℕ) → LinesBehind rules start past before held stop why
+        → StopLines rules start settings input place stop why
+    lines_are (Quiet status) why lines = absurd lines
+    lines_are (NoMatch at) why (kept, told) = (
+      unit_before past.at.byte (length past.bytes.items),
+      unit kept,
+      subst (λ (t : List ℕ). IsNoMatchTold rules start t (unit_before past.at.byte (length past.bytes.items)) place why)
+          (sym taken_is)
+          (subst (λ (n : ℕ). IsNoMatchTold rules start (before ++ held)
+          (unit_before past.at.byte (length past.bytes.items)) n why) here told),
+    )
+    lines_are (LongUnit at limit) why lines =
+        lines ∙ ap (λ (t : List ℕ). long_unit_lines (place_behind t)) (sym front_is)
+    lines_are (LongLine line limit) why lines = absurd lines
+    lines_are Broken why lines = absurd lines
+    lines_are NoMemory why lines = absurd lines
+    lines_are (Refused fault) why lines = absurd lines
+    lines_are Unreadable why lines = absurd lines
+
+    ends_so : (stop : Stop) (last : List ℕ) (ending : Ending) → EndsBehind rules start past before held stop ending
+        → Ends rules start settings input place last stop →
+        EndsTold (Units rules start settings input) (Ends rules start settings input) (taken_at settings input)
+        (WhyStopped rules start settings input) (MayLack rules start settings input) place last ending
+    ends_so stop last (Plain is) (same, without) ends =
+        rw same (inr (
+          ends,
+          if_asked settings.explain (StopLines rules start settings input place stop) [] asked
+              (no_lines rules start settings input place stop without),
+        ))
+    ends_so stop last (Explained is why) (same, lines) ends =
+        rw same (
+          ends,
+          if_asked settings.explain (StopLines rules start settings input place stop) why.items asked
+              (lines_are stop why.items lines),
+        )
+    ends_so stop last (Unexplained is) (same, has) ends = rw same (ends, (asked, has))
+
+    refused_so : (ending : Ending) → EndsBehind rules start past before held NoMemory ending
+        → EndsTold (Units rules start settings input) (Ends rules start settings input) (taken_at settings input)
+        (WhyStopped rules start settings input) (MayLack rules start settings input) place [] ending
+    refused_so (Plain is) (same, without) = inl (same, refl)
+    refused_so (Explained is why) (same, lines) = absurd lines
+    refused_so (Unexplained is) (same, has) = absurd has
+
+    pub stops_explained : (stop : Stop) (ending : Ending)
+        → IsStep rules start settings input place mid new (Ok (Stops stop))
+        → EndsBehind rules start past before held stop ending → taken ≡ taken_at settings input place →
+        IsCut rules start settings input taken old new (Ok ending)
+    stops_explained stop ending (inl refused) behind at = (
+      place,
+      text,
+      [],
+      units,
+      rw append-nil (Appends-kept old mid new text wrote refused.1),
+      at,
+      refused_so ending (subst (λ (s : Stop). EndsBehind rules start past before held s ending) refused.0 behind),
+    )
+    stops_explained stop ending (inr ended) behind at = (
+      place,
+      text,
+      ended.0,
+      units,
+      Appends-join old mid new text ended.0 wrote ended.2,
+      at,
+      ends_so stop ended.0 ending behind ended.1,
+    )
+
+  module _ (past : Past) (before held more : List ℕ) (here : length before ≡ place)
+      (bytes : input.bytes ≡ (before ++ held) ++ more) (took : length (before ++ held) ≡ taken_at settings input place)
+      (unit : settings.explain ≡ true → past.lost ≡ false
+      → UnitBefore rules start settings input place (unit_before past.at.byte (length past.bytes.items)))
+      (stop : Stop) (ending : Ending) (step : IsStep rules start settings input place mid new (Ok (Stops stop)))
+      (plain : settings.explain ≡ false → ending ≡ Plain stop)
+      (told : settings.explain ≡ true → EndsBehind rules start past before held stop ending)
+      (at : taken ≡ taken_at settings input place) where
+    stops_by : (asked : Bool) → settings.explain ≡ asked → IsCut rules start settings input taken old new (Ok ending)
+    stops_by true e = stops_explained e past before held more here bytes took (unit e) stop ending step (told e) at
+    stops_by false e = rw (plain e) (stops_plain e stop step at)
+
+    pub stops_at_place : IsCut rules start settings input taken old new (Ok ending)
+    stops_at_place = stops_by settings.explain refl
 
   pub fails_there : (fault : WriteFault) → IsStep rules start settings input place mid new (Err fault)
       → taken ≡ taken_at settings input place →
@@ -84,11 +202,12 @@ goes_on g sound settings input place text units = units_go_on g settings input s
 
 -- what `cut` says, in the words of all runs
 pub cut_has_run : (g : Grammar) → IsSoundGrammar g → (settings : Settings) (input : Input) (taken : ℕ)
-    (old new : Option (List ℕ)) (r : Result Stop WriteFault) →
+    (old new : Option (List ℕ)) (r : Result Ending WriteFault) →
     IsCut (rules_of g.rules) g.start settings input taken old new r →
-    HasRun (Units (rules_of g.rules) g.start settings input) (Ends (rules_of g.rules) g.start settings input)
-    (taken_at settings input) taken old new r
-cut_has_run g sound settings input taken old new (Ok stop) cut = cut
+    HasToldRun (Units (rules_of g.rules) g.start settings input) (Ends (rules_of g.rules) g.start settings input)
+    (taken_at settings input) (WhyStopped (rules_of g.rules) g.start settings input)
+    (MayLack (rules_of g.rules) g.start settings input) taken old new r
+cut_has_run g sound settings input taken old new (Ok ending) cut = cut
 cut_has_run g sound settings input taken old new (Err fault) (place, k, text, last, units, unit, part, took) =
     let goes = unit_goes_on g settings input sound place k text last units unit in (
       text ++ last,
@@ -104,18 +223,18 @@ cut_has_run g sound settings input taken old new (Err fault) (place, k, text, la
 -- the reader is given back as it was after the last unit
 pub units_were_run : (g : Grammar) → IsSoundGrammar g → (settings : Settings)
     → {R : Type 0} (remaining : R → Option (List ℕ)) (failed ended : R → Bool) (old now final : R) (out : Stream)
-    (left : ℕ) (flow : Flow) (r : Result Stop WriteFault) → final ≡ now → IsToldBy (remaining now) (failed now)
+    (left : ℕ) (flow : Flow) (r : Result Ending WriteFault) → final ≡ now → IsToldBy (remaining now) (failed now)
     (ended now) left flow →
     ((seen : List ℕ) × Consumes (remaining old) (remaining now) seen × (left + length seen ≡ input_limit) ×
     ((input : Input) → Agrees seen flow input → IsCut (rules_of g.rules) g.start settings input (length seen) out.old
     out.new r)) →
-    Flags out.was out.failed r → Performs (RunStates (rules_of g.rules) g.start settings)
+    Flags out.was out.failed r → Fulfils (RunStates (rules_of g.rules) g.start settings)
     (passed remaining failed old final) out r
 units_were_run g sound settings remaining failed ended old now final out left flow r is told (seen, gives, count, cut)
     flag =
-    run_performs (Units (rules_of g.rules) g.start settings) (Ends (rules_of g.rules) g.start settings)
-    (taken_at settings)
-    (goes_on g sound settings)
+    run_told (Units (rules_of g.rules) g.start settings) (Ends (rules_of g.rules) g.start settings)
+    (taken_at settings) (goes_on g sound settings) (WhyStopped (rules_of g.rules) g.start settings)
+    (MayLack (rules_of g.rules) g.start settings) (some_told (rules_of g.rules) g.start settings)
     remaining failed ended old now final out left flow r is told (
       seen,
       gives,
@@ -127,11 +246,12 @@ units_were_run g sound settings remaining failed ended old now final out left fl
 -- memory was refused before the first unit
 pub no_unit_was_run : (g : Grammar) → IsSoundGrammar g → (settings : Settings) (r0 s0 : Option (List ℕ))
     (r_was r_failed o_was : Bool) →
-    let r : Result Stop WriteFault = Ok NoMemory in
-    Performs (RunStates (rules_of g.rules) g.start settings)
+    let r : Result Ending WriteFault = Ok (Plain NoMemory) in
+    Fulfils (RunStates (rules_of g.rules) g.start settings)
     (record { old = r0; new = r0; was = r_was; failed = r_failed })
     (record { old = s0; new = s0; was = o_was; failed = o_was }) r
 no_unit_was_run g sound settings r0 s0 r_was r_failed o_was =
-    did_not_run (Units (rules_of g.rules) g.start settings) (Ends (rules_of g.rules) g.start settings)
-    (taken_at settings) (goes_on g sound settings)
+    did_not_tell (Units (rules_of g.rules) g.start settings) (Ends (rules_of g.rules) g.start settings)
+    (taken_at settings) (goes_on g sound settings) (WhyStopped (rules_of g.rules) g.start settings)
+    (MayLack (rules_of g.rules) g.start settings) (some_told (rules_of g.rules) g.start settings)
     0 (λ input. none) r0 s0 r_was r_failed o_was

@@ -1,6 +1,7 @@
 pub mod AttemptLemmas
 pub mod CutLemmas
 pub mod FirstsLemmas
+pub mod FollowsLemmas
 pub mod LooksOfStartLemmas
 pub mod NextUnitLemmas
 pub mod OneReplyLemmas
@@ -10,3 +11,4 @@ pub mod StatesLemmas
 pub mod StepLemmas
 pub mod TextOfLemmas
 pub mod WindowLemmas
+pub mod WhyStoppedLemmas

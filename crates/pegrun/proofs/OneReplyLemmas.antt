@@ -1,18 +1,29 @@
 -- The units of an input and how a run on it ends are determined, and so is its reply.
 -- Serves: one_reply
 use Rattle.std.proofs.Common.{◌≡◌, ℕ, ◌+◌, ◌<◌, ◌≤◌, true, List, [], ◌++◌, length, refl, sym, ◌∙◌, ap, subst, arith}
+use Rattle.std.proofs.Common.{Option, Some, take}
 use Rattle.pegread.specs.Pattern.{Rule}
 use Rattle.gramcheck.specs.Outcome.{Outcome, Fails, Takes, RuleGives}
 use Rattle.gramcheck.proofs.StartRuleLemmas.{same_of_start}
 use Rattle.toolrun.specs.Input.{Input}
-use Rattle.pegrun.specs.PegReply.{Replies}
-use Rattle.toolrun.specs.Reply.{Reply}
+use Rattle.matchexplain.specs.NoMatches.{IsNoMatchTold}
+use Rattle.pegrun.specs.PegReply.{PlainReplies, Replies}
+use Rattle.pegrun.specs.StopsExplained.{StopLines, UnitBefore, WhyStopped, none_before, one_before}
+use Rattle.toolrun.specs.Reply.{Reply, explained_reply}
 use Rattle.toolrun.specs.Status.{code_of}
 use Rattle.toolrun.specs.Stop.{message_of, status_of}
 use Rattle.pegrun.specs.Units.{taken_at, rest_from, MayRun, GivesAt, IsUnit, Units, none, one_more, Ends, broken}
 use Rattle.pegrun.specs.Units.{overlong, no_match, finished, empty_before_end, empty_at_end}
 use Rattle.toolrun.specs.declared.settings.Settings.{Settings}
 use Rattle.toolrun.specs.declared.stop.Stop.{Stop}
+use Rattle.toolrun.specs.declared.stop.Stop.TheVariants.{Quiet, NoMatch, LongUnit, LongLine, Broken, NoMemory, Refused}
+use Rattle.toolrun.specs.declared.stop.Stop.TheVariants.{Unreadable}
+use Rattle.toolrun.proofs.OneStatementLemmas.{one-explained}
+
+-- what explains that no unit goes on is one text
+abbrev pub NoMatchesAreOne : Type 0
+NoMatchesAreOne = (rules : List Rule) (start : ℕ) (text : List ℕ) (before : Option ℕ) (last : ℕ) (a b : List ℕ)
+    → IsNoMatchTold rules start text before last a → IsNoMatchTold rules start text before last b → a ≡ b
 
 -- two replies of the same parts
 same_reply : (a b : Reply) → a.out ≡ b.out → a.err ≡ b.err → a.status ≡ b.status → a.taken ≡ b.taken → a ≡ b
@@ -252,26 +263,92 @@ module _ (rules : List Rule) (start : ℕ) (settings : Settings) (input : Input)
   one_end s last other stop end (empty_at_end text u all) (empty_at_end text' u' all') =
       record { lasts = (one_unit s 0 0 text text' u u').texts; stops = refl }
 
+  abbrev PlainReply : Reply → Type 0
+  PlainReply reply = PlainReplies rules start settings input reply
+
+  -- two runs of the units end in one way at one place
+  record OneRun (a b : Reply) (r : PlainReply a) (q : PlainReply b) : Type 0 where
+    replies : a ≡ b
+    points : r.point ≡ q.point
+    stops : r.stop ≡ q.stop
+
   -- two replies whose units compare so
-  replies_settled : (a b : Reply) (r : Replies rules start settings input a)
-      (q : Replies rules start settings input b) →
-      Compares r.point r.before q.point q.before → a ≡ b
+  replies_settled : (a b : Reply) (r : PlainReply a) (q : PlainReply b) →
+      Compares r.point r.before q.point q.before → OneRun a b r q
   replies_settled a b r q (same here is) =
       let h = one_end r.point r.last q.last r.stop q.stop r.ends
       (subst (λ v. EndsAt v q.last q.stop) (sym here) q.ends) in
       let last = h.lasts in
       let stop = h.stops in
-      same_reply a b (r.out ∙ ap (λ t. t ++ r.last) is ∙ ap (λ t. q.before ++ t) last ∙ sym q.out)
-      (r.err ∙ ap (λ w. message_of w) stop ∙ sym q.err)
-      (r.status ∙ ap (λ w. code_of (status_of w)) stop ∙ sym q.status)
-      (r.taken ∙ ap (λ v. taken_at settings input v) here ∙ sym q.taken)
+      record {
+        replies = same_reply a b (r.out ∙ ap (λ t. t ++ r.last) is ∙ ap (λ t. q.before ++ t) last ∙ sym q.out)
+            (r.err ∙ ap (λ w. message_of w) stop ∙ sym q.err)
+            (r.status ∙ ap (λ w. code_of (status_of w)) stop ∙ sym q.status)
+            (r.taken ∙ ap (λ v. taken_at settings input v) here ∙ sym q.taken);
+        points = here;
+        stops = stop;
+      }
   replies_settled a b r q (before to) = absurd (no_end r.point q.point r.last r.stop to r.ends)
   replies_settled a b r q (behind to) = absurd (no_end q.point r.point q.last q.stop to q.ends)
 
+  one_run : (a b : Reply) (r : PlainReply a) (q : PlainReply b) → OneRun a b r q
+  one_run a b r q = replies_settled a b r q (units_compare r.point r.before r.steps q.point q.before q.steps)
+
+  -- the unit before a place is one, as compared
+  one_before_of : (s k s' k' : ℕ) (text last text' last' : List ℕ) → UnitAt s k last → UnitAt s' k' last' → 0 < k
+      → 0 < k' → s + k ≡ s' + k' → Compares s text s' text' → s ≡ s'
+  one_before_of s k s' k' text last text' last' unit unit' some some' e (same here is) = here
+  one_before_of s k s' k' text last text' last' unit unit' some some' e (before r) =
+      let h = one_unit s k r.bytes last r.text unit r.unit in
+      absurd (omega (arith, h.bytes, r.within, e, some'))
+  one_before_of s k s' k' text last text' last' unit unit' some some' e (behind r) =
+      let h = one_unit s' k' r.bytes last' r.text unit' r.unit in
+      absurd (omega (arith, h.bytes, r.within, e, some))
+
+  one_before_at : (s : ℕ) (u : Option ℕ) → UnitBefore rules start settings input s u → (t : ℕ) (v : Option ℕ)
+      → UnitBefore rules start settings input t v → s ≡ t → u ≡ v
+  one_before_at s u none_before t v none_before e = refl
+  one_before_at s u none_before t v (one_before s' k' text' last' units' unit' some') e =
+      absurd (omega (arith, e, some'))
+  one_before_at s u (one_before at k text last units unit some) t v none_before e = absurd (omega (arith, e, some))
+  one_before_at s u (one_before at k text last units unit some) t v (one_before s' k' text' last' units' unit' some')
+      e =
+      ap (λ (x : ℕ). Some x) (one_before_of at k s' k' text last text' last' unit unit' some some' e
+      (units_compare at text units s' text' units'))
+
+  module _ (one_told : NoMatchesAreOne) where
+    -- what explains a stop is one text
+    one_lines : (s : ℕ) (stop : Stop) (a b : List ℕ) → StopLines rules start settings input s stop a
+        → StopLines rules start settings input s stop b → a ≡ b
+    one_lines s (Quiet status) a b g h = g ∙ sym h
+    one_lines s (NoMatch at) a b (first, is, told) (other, too, tells) =
+        let same = one_before_at s first is s other too refl in
+        let seen : List ℕ = take (taken_at settings input s) input.bytes in
+        one_told rules start seen other s a b
+        (subst (λ (v : Option ℕ). IsNoMatchTold rules start seen v s a) same told) tells
+    one_lines s (LongUnit at limit) a b g h = g ∙ sym h
+    one_lines s (LongLine line limit) a b g h = g ∙ sym h
+    one_lines s Broken a b g h = g ∙ sym h
+    one_lines s NoMemory a b g h = g ∙ sym h
+    one_lines s (Refused fault) a b g h = g ∙ sym h
+    one_lines s Unreadable a b g h = g ∙ sym h
+
+    one_why : (s t : ℕ) (stop end : Stop) (a b : List ℕ) → s ≡ t → stop ≡ end
+        → WhyStopped rules start settings input s stop a → WhyStopped rules start settings input t end b → a ≡ b
+    one_why s t stop end a b here is g h =
+        one-explained settings (StopLines rules start settings input t end) (one_lines t end) a b
+        (subst (λ (v : Stop). WhyStopped rules start settings input t v a) is
+        (subst (λ (v : ℕ). WhyStopped rules start settings input v stop a) here g)) h
+
+    one_told_reply : (a b : Reply) → Replies rules start settings input a → Replies rules start settings input b
+        → a ≡ b
+    one_told_reply a b r q =
+        let run = one_run r.plain q.plain r.replies q.replies in
+        let why = one_why r.replies.point q.replies.point r.replies.stop q.replies.stop r.why q.why run.points run.stops
+        r.explains q.explains in
+        r.told ∙ ap (λ (v : Reply). explained_reply v r.why) run.replies ∙ ap (explained_reply q.plain) why ∙ sym q.told
+
 -- one reply
-pub one_reply : (rules : List Rule) (start : ℕ) (settings : Settings) (input : Input) (a b : Reply)
-    → Replies rules start settings input a →
-    Replies rules start settings input b → a ≡ b
-one_reply rules start settings input a b r q =
-    replies_settled rules start settings input a b r q
-    (units_compare rules start settings input r.point r.before r.steps q.point q.before q.steps)
+pub one_reply : NoMatchesAreOne → (rules : List Rule) (start : ℕ) (settings : Settings) (input : Input) (a b : Reply)
+    → Replies rules start settings input a → Replies rules start settings input b → a ≡ b
+one_reply one_told rules start settings input a b r q = one_told_reply rules start settings input one_told a b r q

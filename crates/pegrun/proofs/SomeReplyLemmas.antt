@@ -13,7 +13,7 @@ use Rattle.gramcheck.proofs.SomeOutcomeLemmas.{has_of_start}
 use Rattle.gramcheck.proofs.StartRuleLemmas.{rises_of_start}
 use Rattle.pegmatch.specs.Text.{text_of}
 use Rattle.toolrun.specs.Input.{Input}
-use Rattle.pegrun.specs.PegReply.{Replies}
+use Rattle.pegrun.specs.PegReply.{PlainReplies}
 use Rattle.toolrun.specs.Reply.{Reply}
 use Rattle.toolrun.specs.RunSteps.{Begins}
 use Rattle.toolrun.specs.Status.{code_of}
@@ -54,7 +54,7 @@ module _ (g : Grammar) (settings : Settings) (input : Input) where
   }
 
   pub replies_there : (s : ℕ) (text last : List ℕ) (stop : Stop) → UnitsTo s text → EndsAt s last stop →
-      Replies (rules_of g.rules) g.start settings input (reply_of s (text ++ last) stop)
+      PlainReplies (rules_of g.rules) g.start settings input (reply_of s (text ++ last) stop)
   replies_there s text last stop units ends = record {
     point = s;
     before = text;

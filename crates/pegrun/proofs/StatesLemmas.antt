@@ -21,7 +21,7 @@ use Rattle.pegrun.specs.Answers.{cut_again, printed, no_memory}
 use Rattle.pegrun.specs.Noted.{AreNotesOn, AreAgain, start_given}
 use Rattle.pegrun.specs.PegReply.{printed_text, RunStates}
 use Rattle.pegrun.proofs.FirstsLemmas.{start_is_one}
-use Rattle.pegrun.proofs.OneReplyLemmas.{one_reply}
+use Rattle.pegrun.proofs.OneReplyLemmas.{NoMatchesAreOne, one_reply}
 use Rattle.toolrun.specs.Input.{Input}
 use Rattle.toolrun.specs.Explained.{Explained, IsLongReply}
 use Rattle.toolrun.specs.Reply.{Reply, refusal, unexplained_fault}
@@ -57,21 +57,26 @@ module _ (settings : Settings) (input : Input) where
     is_start : IsStart (start_given settings) (firsts [] definitions) start
     states : RunStates (firsts [] definitions) start settings input reply
 
-  one_run_from : (definitions : List Rule) (s t : ℕ) (a b : Reply)
+  one_run_from : NoMatchesAreOne → (definitions : List Rule) (s t : ℕ) (a b : Reply)
       → IsStart (start_given settings) (firsts [] definitions) s
       → IsStart (start_given settings) (firsts [] definitions) t →
       RunStates (firsts [] definitions) s settings input a → RunStates (firsts [] definitions) t settings input b
       → a.status ≢ 5 → b.status ≢ 5 → a ≡ b
-  one_run_from definitions s t a b i j (steps.replied r g) (steps.replied q h) m n =
+  one_run_from one_told definitions s t a b i j (steps.replied_told r g) (steps.replied_told q h) m n =
       let same : t ≡ s = start_is_one (start_given settings) definitions t s j i in
-      one_reply (firsts [] definitions) s settings input a b g (let k = h in rw same at k)
-  one_run_from definitions s t a b i j (steps.no_memory point out reply before replies front) h m n = absurd (m refl)
-  one_run_from definitions s t a b i j g (steps.no_memory point out reply before replies front) m n = absurd (n refl)
+      one_reply one_told (firsts [] definitions) s settings input a b g (let k = h in rw same at k)
+  one_run_from one_told definitions s t a b i j (steps.unexplained plain replies lack) h m n = absurd (m refl)
+  one_run_from one_told definitions s t a b i j (steps.cut_short point out reply before replies front) h m n =
+      absurd (m refl)
+  one_run_from one_told definitions s t a b i j g (steps.unexplained plain replies lack) m n = absurd (n refl)
+  one_run_from one_told definitions s t a b i j g (steps.cut_short point out reply before replies front) m n =
+      absurd (n refl)
 
-  one_run : (definitions : List Rule) (a b : Reply) → RunOf definitions a → RunOf definitions b → a.status ≢ 5
+  one_run : NoMatchesAreOne → (definitions : List Rule) (a b : Reply) → RunOf definitions a → RunOf definitions b
+      → a.status ≢ 5
       → b.status ≢ 5 → a ≡ b
-  one_run definitions a b g h m n =
-      one_run_from definitions g.start h.start a b g.is_start h.is_start g.states h.states m n
+  one_run one_told definitions a b g h m n =
+      one_run_from one_told definitions g.start h.start a b g.is_start h.is_start g.states h.states m n
 
   notes_are_one : (definitions : List Rule) (a b : List Said) → AreNotesOn definitions (start_given settings) a
       → AreNotesOn definitions (start_given settings) b → a ≡ b
@@ -115,9 +120,11 @@ module _ (settings : Settings) (input : Input) where
         inr (record { definitions = ds; reads = r; states = is_printed are mode })
     parts_of notes reply (no_memory within) ample = absurd (ample refl)
 
-    one_of_text : ExplanationsAreOne → NotesAreOne → (notes others : List ℕ) (a b : Reply) → IsStated notes a
+    one_of_text : NoMatchesAreOne → ExplanationsAreOne → NotesAreOne → (notes others : List ℕ) (a b : Reply)
+        → IsStated notes a
         → IsStated others b → a.status ≢ 5 → b.status ≢ 5 → (notes ≡ others) × (a ≡ b)
-    one_of_text one lines = one_stated (IsFaultOf text) (λ fault. Explained settings (Explains text fault)) (Reads text)
+    one_of_text one_told one lines = one_stated (IsFaultOf text) (λ fault. Explained settings (Explains text fault))
+        (Reads text)
         (λ definitions. AreNotesOn definitions (start_given settings))
         (λ definitions notes. is_refused notes ≡ true) (λ definitions notes. is_refused notes ≡ false) AreAgain
         (ToldNotes settings (ExplainsNote text)) RunOf printed_text settings.mode (one-reading text) (one-fault text)
@@ -125,15 +132,16 @@ module _ (settings : Settings) (input : Input) where
         again_is_one
         (λ notes. told-one (λ note. one-explained settings (ExplainsNote text (start_given settings) note)
         (lines text (start_given settings) note)))
-        (λ definitions notes bad fine. absurd (cc)) one_run
+        (λ definitions notes bad fine. absurd (cc)) (one_run one_told)
 
 -- one list of notes and one reply
-pub statement_is_one : ExplanationsAreOne → NotesAreOne → (text : List ℕ) (settings : Settings) (input : Input)
+pub statement_is_one : NoMatchesAreOne → ExplanationsAreOne → NotesAreOne → (text : List ℕ) (settings : Settings)
+    (input : Input)
     (notes others : List ℕ) (a b : Reply) →
     States text settings input notes a → States text settings input others b → a.status ≢ 5 → b.status ≢ 5
     → (notes ≡ others) × (a ≡ b)
-statement_is_one one lines text settings input notes others a b g h m n =
-    one_of_text settings input text one lines notes others a b (parts_of settings input text notes a g m)
+statement_is_one told one lines text settings input notes others a b g h m n =
+    one_of_text settings input text told one lines notes others a b (parts_of settings input text notes a g m)
     (parts_of settings input text others b h n) m n
 
 -- what spells definitions is not too long

@@ -2,7 +2,9 @@ pub mod Answers
 pub mod Attempts
 pub mod Noted
 pub mod OpenPeg
+pub mod PastUnits
 pub mod PegLanguage
 pub mod PegReply
 pub mod PegStopped
+pub mod StopsExplained
 pub mod Units

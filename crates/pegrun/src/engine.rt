@@ -9,25 +9,28 @@ ghost use Rattle.toolrun.specs.Agrees.{Agrees};
 ghost use Rattle.toolrun.specs.Input.{Input};
 ghost use Rattle.pegrun.specs.PegReply.{RunStates};
 ghost use Rattle.pegrun.specs.PegStopped.{IsCut};
-ghost use Rattle.toolrun.specs.Stopped.{Performs};
+ghost use Rattle.toolrun.specs.Stopped.{Fulfils};
 ghost use Rattle.toolrun.specs.Stream.{passed};
 
+use crate::past::{Past, ending_at};
 use crate::unit::{Step, next_unit};
 use feed::{Feed, Source};
 use gramcheck::SoundPeg;
 use pegmatch::Matcher;
 use ruletable::{Sink, WriteFault};
 use std::alloc::Global;
-use toolrun::{Settings, Stop};
+use toolrun::{Ending, Settings, Stop};
 
-/// Runs the units of an input in turn, each from where the one before ended, and prints the text of each.
+/// Runs the units of an input in turn, each from where the one before ended, and prints the text of each. If settings
+/// ask for that, it explains how the run ends.
 pub fn cut<M: Matcher, R: Source, O: Sink>(
+    alloc: Global,
     matcher: &mut M,
     peg: &SoundPeg,
     settings: &Settings<'_>,
     feed: &mut Feed<'_, R>,
     out: &mut O,
-) -> Result<Stop, WriteFault>
+) -> Result<Ending, WriteFault>
     requires capacity { capacity_of feed.old ≡ settings.now.limit + 1 }
     requires empty { bytes_of feed.old ≡ [] }
     requires allowance { allowance_of feed.old ≡ input_limit }
@@ -44,13 +47,17 @@ pub fn cut<M: Matcher, R: Source, O: Sink>(
     ensures flag { Flags (O.failed out.old) (O.failed out.new) result }
 {
     let mut start = 0;
+    let mut past = Past::new(alloc);
     loop {
         match next_unit(matcher, peg, settings, feed, start, out) {
             Ok(Step::Takes(n)) => {
+                past.pass(settings.explain, feed, n);
                 feed.skip(n);
                 start += n;
             }
-            Ok(Step::Stops(stop)) => return Ok(stop),
+            Ok(Step::Stops(stop)) => {
+                return Ok(ending_at(alloc, peg, settings, &mut past, feed, stop));
+            }
             Err(fault) => return Err(fault),
         }
     }
@@ -64,21 +71,21 @@ pub fn run_units<M: Matcher, R: Source, O: Sink>(
     settings: &Settings<'_>,
     reader: &mut R,
     out: &mut O,
-) -> Result<Stop, WriteFault>
+) -> Result<Ending, WriteFault>
     requires reader_is_fresh { R.failed reader.old ≡ false }
     requires reader_is_open { R.ended reader.old ≡ false }
     requires out_is_fresh { O.failed out.old ≡ false }
-    ensures { Performs (RunStates (rules_of peg.now.rules) peg.now.start settings.now)
+    ensures { Fulfils (RunStates (rules_of peg.now.rules) peg.now.start settings.now)
         (passed R.remaining R.failed reader.old reader.new) (passed O.contents O.failed out.old out.new) result }
 {
     // its contract says that the grammar is sound
     let _ = peg.start();
     let ring = match Feed::<R>::room(alloc, settings.limit) {
         Ok(ring) => ring,
-        Err(_) => return Ok(Stop::NoMemory),
+        Err(_) => return Ok(Ending::Plain(Stop::NoMemory)),
     };
     let mut feed = Feed::new(ring, reader);
-    let stop = cut(matcher, peg, settings, &mut feed, out);
+    let ending = cut(alloc, matcher, peg, settings, &mut feed, out);
     let _reader = feed.into_reader();
-    stop
+    ending
 }

@@ -11,6 +11,7 @@ ghost use Rattle.toolrun.specs.Explained.{IsLongReply};
 ghost use Rattle.toolrun.specs.Reply.{Reply};
 ghost use Rattle.toolrun.specs.declared.settings.Settings.{Settings};
 
+use matchexplain::one_no_match;
 use pegexplain::{one_explanation, one_note_explanation};
 use pegread::one_reading;
 
@@ -18,7 +19,9 @@ use pegread::one_reading;
 pub fn one_reply()
     ensures { (rules : List Rule) (start : ℕ) (settings : Settings) (input : Input) (a b : Reply) →
         Replies rules start settings input a → Replies rules start settings input b → a ≡ b }
-{}
+{
+    one_no_match();
+}
 
 /// Says that a text is a grammar of at most one list of definitions, or has at most one fault, and never both; but
 /// memory may be refused in reading it. A text, settings and an input have at most one list of notes and one reply, but
@@ -36,6 +39,7 @@ pub fn one_statement()
         IsFaultOf text ReadFault.TooLong → States text settings input notes reply →
         (notes ≡ []) × IsLongReply settings (Explains text ReadFault.TooLong) reply }
 {
+    one_no_match();
     one_explanation();
     one_note_explanation();
     one_reading();

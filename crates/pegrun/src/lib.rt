@@ -5,6 +5,7 @@ mod engine;
 mod laws;
 mod open_law;
 mod opened;
+mod past;
 mod peg_language;
 mod run;
 mod unit;

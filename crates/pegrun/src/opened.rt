@@ -6,7 +6,7 @@ ghost use Rattle.pegrun.specs.OpenPeg.{IsPegOpened};
 ghost use Rattle.pegrun.specs.PegLanguage.{IsChecked};
 ghost use Rattle.pegrun.specs.PegReply.{RunStates};
 ghost use Rattle.ruletable.specs.Notes.{said_of};
-ghost use Rattle.toolrun.specs.Stopped.{Performs};
+ghost use Rattle.toolrun.specs.Stopped.{Fulfils};
 ghost use Rattle.toolrun.specs.Stream.{passed};
 
 use crate::engine::run_units;
@@ -18,7 +18,7 @@ use pegread::read_peg;
 use ruletable::{Memory, Note, ReadFault, Sink, WriteFault};
 use std::alloc::Global;
 use std::marker::Model;
-use toolrun::{Checked, Language, Settings, Stop};
+use toolrun::{Checked, Ending, Language, Settings};
 
 /// A grammar that is run on inputs. It keeps the room that the runs before took.
 #[derive(Drop)]
@@ -41,20 +41,20 @@ impl Model for PegRunner {
 }
 
 impl PegRunner {
-    /// Runs the grammar on what a reader gives, as settings ask: by their limit, and verbatim or not. All else of them
-    /// is not looked at. `WriteFault` if the output fails; then a beginning is written.
+    /// Runs the grammar on what a reader gives, as settings ask: by their limit, verbatim or not, and explained or not.
+    /// All else of them is not looked at. `WriteFault` if the output fails; then a beginning is written.
     pub fn run<R: Source, O: Sink>(
         &mut self,
         alloc: Global,
         settings: &Settings<'_>,
         reader: &mut R,
         out: &mut O,
-    ) -> Result<Stop, WriteFault>
+    ) -> Result<Ending, WriteFault>
         requires reader_is_fresh { R.failed reader.old ≡ false }
         requires reader_is_open { R.ended reader.old ≡ false }
         requires out_is_fresh { O.failed out.old ≡ false }
         ensures same { self.new ≡ self.old }
-        ensures runs { Performs (RunStates (rules_of self.old.rules) self.old.start settings.now)
+        ensures runs { Fulfils (RunStates (rules_of self.old.rules) self.old.start settings.now)
             (passed R.remaining R.failed reader.old reader.new) (passed O.contents O.failed out.old out.new) result }
     {
         run_units(

@@ -16,7 +16,7 @@ use pegexplain::{PegPlaces, explain_fault, explain_peg_note, peg_places};
 use pegread::{Peg, print_peg, read_peg};
 use ruletable::{Memory, Note, ReadFault, Sink, WriteFault};
 use std::alloc::Global;
-use toolrun::{Checked, Ending, Language, Settings, plain_ending};
+use toolrun::{Checked, Ending, Language, Settings};
 
 /// The language of peg(1).
 pub struct PegLanguage;
@@ -94,8 +94,7 @@ impl Language for PegLanguage {
         out: &mut O,
     ) -> Result<Ending, WriteFault> {
         let mut matcher = Packrat::new(alloc);
-        let stop = run_units(alloc, &mut matcher, grammar, settings, reader, out);
-        plain_ending(stop)
+        run_units(alloc, &mut matcher, grammar, settings, reader, out)
     }
 
     fn follows() {}

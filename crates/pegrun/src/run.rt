@@ -28,6 +28,9 @@ use toolrun::{Settings, Status, run_tool};
 ///   before ended, and its actions are printed in order. The run ends where the rule fails or takes no byte:
 ///   `no match at byte S`, status `NoMatch`, but `Done` at the end of the input.
 /// - A unit that looks at more than `limit` bytes is not printed: `unit at byte S longer than L bytes`, `Overlong`.
+/// - If the settings ask for explanations, behind `no match at byte S` stand the farthest place at which a comparison
+///   of that unit or of the one before it failed outside of `!`, and what was expected there; behind the line of a unit
+///   that is too long, where that begins.
 /// - After a fault of the reader a unit is run only where `limit` + 1 bytes from its place on were read: else
 ///   `read error`, `Fault`. So is an input of 9,223,372,036,854,775,807 bytes taken to end.
 /// - Where a writer fails, nothing more is written to it, and the status is at least `Fault`. A fault of `out` is told
@@ -35,7 +38,8 @@ use toolrun::{Settings, Status, run_tool};
 ///   fails in the notes, nothing is read, and nothing is written on `out`. Writers that have not failed are flushed
 ///   once at the end, `out` first.
 /// - If an allocation fails, the text of the units before stands whole: `out of memory`, `NoMemory`. In an explanation
-///   the fault's line stands before that, without what explains it, or the first notes do, the last perhaps without.
+///   the line of the fault or of the stop stands before that, without what explains it, or the first notes do, the last
+///   perhaps without.
 pub fn run_peg<R: Source, O: Sink, E: Sink>(
     alloc: Global,
     grammar: &[u8],

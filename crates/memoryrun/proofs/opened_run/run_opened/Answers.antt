@@ -10,15 +10,15 @@ pub returns-clause-runs : goal.returns-clause-runs
 returns-clause-runs c =
     planned_run (RunStates (rules_of c.args.runner.now.rules) c.args.runner.now.start c.args.settings.now)
     c.args.input.now
-    (Some c.new-reader.result.rest.now) (Some c.run-stop.new.reader.rest.now)
-    (Some c.new-out.result.inner.items) (Some c.run-stop.new.out.inner.items)
-    (Some c.finish-status.new.out.inner.items)
-    (Some c.new-err.result.inner.items) (Some c.finish-status.new.err.inner.items)
+    (Some c.new-reader.result.rest.now) (Some c.run-ending.new.reader.rest.now)
+    (Some c.new-out.result.inner.items) (Some c.run-ending.new.out.inner.items)
+    (Some c.conclude-status.new.out.inner.items)
+    (Some c.new-err.result.inner.items) (Some c.conclude-status.new.err.inner.items)
     c.into_inner.result.items c.into_inner-2.result.items
-    c.new-out.result.failed c.run-stop.new.out.failed c.finish-status.new.out.failed c.finish-status.new.err.failed
-    c.run-stop.result (code_of c.finish-status.result)
+    c.new-out.result.failed c.run-ending.new.out.failed c.conclude-status.new.out.failed c.conclude-status.new.err.failed
+    c.run-ending.result (code_of c.conclude-status.result)
     c.new-reader.ensures.remaining
     (c.new-out.ensures.contents ∙ ap (λ (x : List ℕ). Some x) c.new.ensures.items)
     (c.new-err.ensures.contents ∙ ap (λ (x : List ℕ). Some x) c.new-2.ensures.items)
     c.new-out.ensures.failed c.into_inner.ensures c.into_inner-2.ensures
-    c.run-stop.ensures.runs c.finish-status.ensures.kept c.finish-status.ensures.stays c.finish-status.ensures.told
+    c.run-ending.ensures.runs c.conclude-status.ensures.kept c.conclude-status.ensures.stays c.conclude-status.ensures.told

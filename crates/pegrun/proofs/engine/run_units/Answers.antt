@@ -10,8 +10,8 @@ returns-in-Err g c = no_unit_was_run c.args.peg.now c.start.ensures.sound c.args
 pub returns : goal.returns
 returns g c =
     units_were_run c.args.peg.now c.start.ensures.sound c.args.settings.now g.R.Source.remaining g.R.Source.failed
-    g.R.Source.ended c.args.reader.now c.cut-stop.new.feed.reader.now _
-    (passed g.O.Sink.contents g.O.Sink.failed c.args.out.now c.cut-stop.new.out)
-    c.cut-stop.new.feed.left c.cut-stop.new.feed.flow c.cut-stop.result (search rules) c.cut-stop.ensures.told
-    (rw c.new-feed.ensures.loan at c.cut-stop.ensures.units)
-    c.cut-stop.ensures.flag
+    g.R.Source.ended c.args.reader.now c.cut-ending.new.feed.reader.now _
+    (passed g.O.Sink.contents g.O.Sink.failed c.args.out.now c.cut-ending.new.out)
+    c.cut-ending.new.feed.left c.cut-ending.new.feed.flow c.cut-ending.result (search rules) c.cut-ending.ensures.told
+    (rw c.new-feed.ensures.loan at c.cut-ending.ensures.units)
+    c.cut-ending.ensures.flag

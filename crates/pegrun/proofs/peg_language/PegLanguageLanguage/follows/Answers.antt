@@ -4,7 +4,8 @@ use Rattle.pegrun.specs.Answers.{refused, unexplained, noted, checked, runs, cut
 use Rattle.pegrun.specs.Answers.{printed, no_memory}
 use Rattle.pegrun.specs.Units.{none}
 use Rattle.pegrun.proofs.SomeReplyLemmas.{units_go_on}
-use Rattle.toolrun.specs.RunSteps.{replied}
+use Rattle.pegread.specs.PegViews.{rules_of}
+use Rattle.pegrun.proofs.WhyStoppedLemmas.{some_told}
 use Rattle.pegrun.proofs.peg_language.PegLanguageLanguage.follows.Goals as goal
 
 pub returns : goal.returns
@@ -22,7 +23,9 @@ returns c = record {
       runs is.definitions notes told sound.start reply is.reads is.are_notes tells is.ready.0 run is.ready.2
       (rw kept at states);
   replies = λ text settings input notes sound is.
-      let goes = units_go_on sound settings input is.ready.3 0 [] none in (goes.reply, replied goes.reply goes.replies);
+      let goes = units_go_on sound settings input is.ready.3 0 [] none in
+      let told = some_told (rules_of sound.rules) sound.start settings input goes.reply goes.replies in
+      (told.0, told.1);
   cut_notes = λ text settings input notes told sound is cut other.
       cut_notes is.definitions notes told is.reads is.are_notes cut other;
   again = λ text settings input peg notes told is some tells print.

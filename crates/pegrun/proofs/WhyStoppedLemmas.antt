@@ -1,0 +1,85 @@
+-- What explains a stop, or why nothing does.
+-- Serves: run_peg (right)
+use Rattle.std.proofs.Common.{◌≡◌, ℕ, ◌⊎◌, inl, inr, Bool, true, false, List, [], refl}
+use Rattle.pegread.specs.Pattern.{Rule}
+use Rattle.pegrun.specs.PegReply.{PlainReplies, RunStates}
+use Rattle.pegrun.specs.StopsExplained.{HasLines, StopLines}
+use Rattle.toolrun.specs.Explained.{ExplainedIf}
+use Rattle.toolrun.specs.Input.{Input}
+use Rattle.toolrun.specs.Reply.{Reply, explained_reply, unexplained_reply}
+use Rattle.toolrun.specs.RunSteps.{replied_told, unexplained}
+use Rattle.toolrun.specs.declared.settings.Settings.{Settings}
+use Rattle.toolrun.specs.declared.stop.Stop.{Stop}
+use Rattle.toolrun.specs.declared.stop.Stop.TheVariants.{Quiet, NoMatch, LongUnit, LongLine, Broken, NoMemory, Refused}
+use Rattle.toolrun.specs.declared.stop.Stop.TheVariants.{Unreadable}
+
+lines_or_none : (stop : Stop) → HasLines stop ⊎ (HasLines stop → ⊥)
+lines_or_none (Quiet status) = inr (λ has. has)
+lines_or_none (NoMatch at) = inl tt
+lines_or_none (LongUnit at limit) = inl tt
+lines_or_none (LongLine line limit) = inr (λ has. has)
+lines_or_none Broken = inr (λ has. has)
+lines_or_none NoMemory = inr (λ has. has)
+lines_or_none (Refused fault) = inr (λ has. has)
+lines_or_none Unreadable = inr (λ has. has)
+
+-- what explains, where that is asked and where it is not
+pub if_asked : (asked : Bool) (Why : List ℕ → Type 0) (why : List ℕ) → asked ≡ true → Why why
+    → ExplainedIf asked Why why
+if_asked true Why why is w = w
+if_asked false Why why is w = absurd (cc)
+
+pub if_not_asked : (asked : Bool) (Why : List ℕ → Type 0) → asked ≡ false → ExplainedIf asked Why []
+if_not_asked true Why is = absurd (cc)
+if_not_asked false Why is = refl
+
+module _ (rules : List Rule) (start : ℕ) (settings : Settings) (input : Input) where
+  -- a stop that no lines explain
+  pub no_lines : (s : ℕ) (stop : Stop) → (HasLines stop → ⊥) → StopLines rules start settings input s stop []
+  no_lines s (Quiet status) without = refl
+  no_lines s (NoMatch at) without = absurd (without tt)
+  no_lines s (LongUnit at limit) without = absurd (without tt)
+  no_lines s (LongLine line limit) without = refl
+  no_lines s Broken without = refl
+  no_lines s NoMemory without = refl
+  no_lines s (Refused fault) without = refl
+  no_lines s Unreadable without = refl
+
+  told_if : (asked : Bool) → settings.explain ≡ asked → (reply : Reply) → PlainReplies rules start settings input reply
+      → (stated : Reply) × RunStates rules start settings input stated × (stated.out ≡ reply.out)
+      × (stated.taken ≡ reply.taken)
+  told_if false plain reply r = (
+    explained_reply reply [],
+    replied_told _ (record {
+      plain = reply;
+      replies = r;
+      why = [];
+      explains = if_not_asked settings.explain (StopLines rules start settings input r.point r.stop) plain;
+      told = refl;
+    }),
+    refl,
+    refl,
+  )
+  told_if true asked reply r = elim (lines_or_none r.stop) [
+    | inl has ↦ (unexplained_reply reply, unexplained reply r (asked, has), refl, refl)
+    | inr without ↦ (
+      explained_reply reply [],
+      replied_told _ (record {
+        plain = reply;
+        replies = r;
+        why = [];
+        explains = if_asked settings.explain (StopLines rules start settings input r.point r.stop) [] asked
+            (no_lines r.point r.stop without);
+        told = refl;
+      }),
+      refl,
+      refl,
+    )
+  ]
+
+-- each reply without explanations is that of something stated
+pub some_told : (rules : List Rule) (start : ℕ) (settings : Settings) (input : Input) (reply : Reply)
+    → PlainReplies rules start settings input reply
+    → (stated : Reply) × RunStates rules start settings input stated × (stated.out ≡ reply.out)
+    × (stated.taken ≡ reply.taken)
+some_told rules start settings input reply r = told_if rules start settings input settings.explain refl reply r

@@ -1,0 +1,48 @@
+-- What is kept of the units before. It serves private helpers alone.
+use Rattle.std.specs.Prelude.{◌≡◌, ℕ, ◌+◌, ◌≤◌, ◌++◌, false, List, length, Result, Ok, Err}
+use Rattle.std.proofs.Common.{Vec, Global}
+use Rattle.pegread.specs.Pattern.{Rule}
+use Rattle.matchexplain.specs.NoMatchLines.{long_unit_lines}
+use Rattle.matchexplain.specs.NoMatches.{IsNoMatchTold, unit_before}
+use Rattle.matchexplain.specs.InputPlaces.{place_behind}
+use Rattle.ruletable.specs.declared.memory.Memory.{Memory}
+use Rattle.pegrun.specs.StopsExplained.{HasLines}
+use Rattle.pegrun.specs.declared.past.Past.{Past}
+use Rattle.toolrun.specs.declared.ending.Ending.{Ending}
+use Rattle.toolrun.specs.declared.ending.Ending.TheVariants.{Plain, Explained, Unexplained}
+use Rattle.toolrun.specs.declared.stop.Stop.{Stop}
+use Rattle.toolrun.specs.declared.stop.Stop.TheVariants.{Quiet, NoMatch, LongUnit, LongLine, Broken, NoMemory, Refused}
+use Rattle.toolrun.specs.declared.stop.Stop.TheVariants.{Unreadable}
+
+-- behind these bytes the next unit begins, and the last of them are kept, unless an allocation failed
+pub record Follows (past : Past) (before : List ℕ) : Type 0 where
+  pub next : past.next ≡ place_behind before
+  pub front : List ℕ
+  pub at : past.at ≡ place_behind front
+  pub room : length front + length past.bytes.items ≤ length before
+  pub whole : past.lost ≡ false → before ≡ front ++ past.bytes.items
+
+-- the lines that explain a stop behind these bytes, where those are held
+abbrev pub LinesBehind : List Rule → ℕ → Past → List ℕ → List ℕ → Stop → List ℕ → Type 0
+LinesBehind rules start past before held (Quiet status) why = ⊥
+LinesBehind rules start past before held (NoMatch at) why = (past.lost ≡ false)
+    × IsNoMatchTold rules start (before ++ held) (unit_before past.at.byte (length past.bytes.items)) (length before)
+    why
+LinesBehind rules start past before held (LongUnit at limit) why = why ≡ long_unit_lines (place_behind before)
+LinesBehind rules start past before held (LongLine line limit) why = ⊥
+LinesBehind rules start past before held Broken why = ⊥
+LinesBehind rules start past before held NoMemory why = ⊥
+LinesBehind rules start past before held (Refused fault) why = ⊥
+LinesBehind rules start past before held Unreadable why = ⊥
+
+-- how a run ends that stopped so, where these lines explain it, or an allocation failed
+abbrev pub ending_with : Stop → Result (Vec ℕ Global) Memory → Ending
+ending_with stop (Ok why) = Explained stop why
+ending_with stop (Err fault) = Unexplained stop
+
+-- how a run ends that stopped so and is explained
+abbrev pub EndsBehind : List Rule → ℕ → Past → List ℕ → List ℕ → Stop → Ending → Type 0
+EndsBehind rules start past before held stop (Plain is) = (is ≡ stop) × (HasLines stop → ⊥)
+EndsBehind rules start past before held stop (Explained is why) =
+    (is ≡ stop) × LinesBehind rules start past before held stop why.items
+EndsBehind rules start past before held stop (Unexplained is) = (is ≡ stop) × HasLines stop

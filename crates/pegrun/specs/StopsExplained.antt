@@ -1,0 +1,52 @@
+-- What explains how a run ends.
+use Rattle.std.specs.Prelude.{◌≡◌, ℕ, ◌+◌, ◌<◌, ⊤, true, List, [], take, Option, Some, None}
+use Rattle.pegread.specs.Pattern.{Rule}
+use Rattle.matchexplain.specs.NoMatchLines.{long_unit_lines}
+use Rattle.matchexplain.specs.NoMatches.{IsNoMatchTold}
+use Rattle.matchexplain.specs.InputPlaces.{place_behind}
+use Rattle.pegrun.specs.Units.{IsUnit, Units, taken_at}
+use Rattle.toolrun.specs.Explained.{Explained}
+use Rattle.toolrun.specs.Input.{Input}
+use Rattle.toolrun.specs.declared.settings.Settings.{Settings}
+use Rattle.toolrun.specs.declared.stop.Stop.{Stop}
+use Rattle.toolrun.specs.declared.stop.Stop.TheVariants.{Quiet, NoMatch, LongUnit, LongLine, Broken, NoMemory, Refused}
+use Rattle.toolrun.specs.declared.stop.Stop.TheVariants.{Unreadable}
+
+-- lines explain such a stop
+abbrev pub HasLines : Stop → Type 0
+HasLines (Quiet status) = ⊥
+HasLines (NoMatch at) = ⊤
+HasLines (LongUnit at limit) = ⊤
+HasLines (LongLine line limit) = ⊥
+HasLines Broken = ⊥
+HasLines NoMemory = ⊥
+HasLines (Refused fault) = ⊥
+HasLines Unreadable = ⊥
+
+module _ (rules : List Rule) (start : ℕ) (settings : Settings) (input : Input) where
+  -- the place of the unit before the one that is begun at s, or none where no unit is before it
+  pub data UnitBefore : ℕ → Option ℕ → Type 0 where
+    none_before : UnitBefore 0 None
+    one_before : (s k : ℕ) (text last : List ℕ) → Units rules start settings input s text
+        → IsUnit rules start settings input s k last → 0 < k → UnitBefore (s + k) (Some s)
+
+  -- The lines that explain a stop at s: where no unit goes on, by what is taken of the input, and where the unit is too
+  -- long, by where it begins. Others have none.
+  abbrev pub StopLines : ℕ → Stop → List ℕ → Type 0
+  StopLines s (Quiet status) why = why ≡ []
+  StopLines s (NoMatch at) why = (before : Option ℕ) × UnitBefore s before
+      × IsNoMatchTold rules start (take (taken_at settings input s) input.bytes) before s why
+  StopLines s (LongUnit at limit) why = why ≡ long_unit_lines (place_behind (take s input.bytes))
+  StopLines s (LongLine line limit) why = why ≡ []
+  StopLines s Broken why = why ≡ []
+  StopLines s NoMemory why = why ≡ []
+  StopLines s (Refused fault) why = why ≡ []
+  StopLines s Unreadable why = why ≡ []
+
+  -- what explains a stop at s, if that is asked
+  abbrev pub WhyStopped : ℕ → Stop → List ℕ → Type 0
+  WhyStopped s stop why = Explained settings (StopLines s stop) why
+
+  -- an allocation may fail in explaining it
+  abbrev pub MayLack : ℕ → Stop → Type 0
+  MayLack s stop = (settings.explain ≡ true) × HasLines stop

@@ -1,0 +1,173 @@
+//! What a run that is to be explained keeps of its input, and how it is explained.
+ghost use Rattle.std.specs.Prelude.{◌≡◌, ℕ, ◌+◌, ◌^◌, ◌<◌, ◌≤◌, ◌++◌, [], List, IfOk, length, take, true, false};
+ghost use Rattle.feed.specs.Feed.{SameFeed, bytes_of};
+ghost use Rattle.matchexplain.specs.NoMatches.{IsNoMatchTold, unit_before};
+ghost use Rattle.matchexplain.specs.InputPlaces.{place_behind};
+ghost use Rattle.pegread.specs.PegViews.{rules_of};
+ghost use Rattle.pegrun.specs.PastUnits.{EndsBehind, Follows, ending_with};
+
+use feed::{Feed, Source};
+use gramcheck::SoundPeg;
+use matchexplain::{TextPlace, explain_long_unit, explain_no_match};
+use ruletable::Memory;
+use std::alloc::Global;
+use toolrun::{Ending, Settings, Stop};
+
+/// The last unit that was taken, of which the bytes are kept, and where the next one begins.
+#[derive(Drop)]
+pub struct Past {
+    /// Where it begins; the front of the input if there is none.
+    pub at: TextPlace,
+    /// Its bytes; none if there is none.
+    pub bytes: Vec<u8>,
+    /// Whether an allocation failed in keeping them.
+    pub lost: bool,
+    /// Where the next unit begins.
+    pub next: TextPlace,
+}
+
+impl Past {
+    /// Returns what is kept at the front of an input.
+    pub fn new(alloc: Global) -> Past
+        ensures at { result.at ≡ place_behind [] }
+        ensures bytes { result.bytes.items ≡ [] }
+        ensures lost { result.lost ≡ false }
+        ensures next { result.next ≡ place_behind [] }
+    {
+        Past {
+            at: TextPlace::front(),
+            bytes: Vec::new(alloc),
+            lost: false,
+            next: TextPlace::front(),
+        }
+    }
+
+    /// Keeps a unit of these bytes.
+    fn keep(&mut self, unit: &[u8])
+        requires stands { (front : List ℕ) × (self.old.next ≡ place_behind front)
+            × (length front + length unit.now < 2 ^ 63) }
+        ensures at { self.new.at ≡ self.old.next }
+        ensures next { (front : List ℕ) → self.old.next ≡ place_behind front
+            → self.new.next ≡ place_behind (front ++ unit.now) }
+        ensures bytes { self.new.lost ≡ false → self.new.bytes.items ≡ unit.now }
+        ensures room { length self.new.bytes.items ≤ length unit.now }
+    {
+        self.at = self.next;
+        self.next = self.next.behind(unit);
+        self.bytes.clear();
+        self.lost = self.bytes.extend_from_slice(unit).is_err();
+    }
+
+    /// Keeps the unit of the first `n` bytes that are held.
+    #[inline(never)]
+    fn take<R: Source>(&mut self, feed: &mut Feed<'_, R>, n: usize)
+        requires held { n ≤ length (bytes_of feed.old) }
+        requires stands { (front : List ℕ) × (self.old.next ≡ place_behind front) × (length front + n < 2 ^ 63) }
+        ensures same { SameFeed feed.old feed.new }
+        ensures at { self.new.at ≡ self.old.next }
+        ensures next { (front : List ℕ) → self.old.next ≡ place_behind front
+            → self.new.next ≡ place_behind (front ++ take n (bytes_of feed.old)) }
+        ensures bytes { self.new.lost ≡ false → self.new.bytes.items ≡ take n (bytes_of feed.old) }
+        ensures room { length self.new.bytes.items ≤ n }
+    {
+        let front = feed.front();
+        if n <= front.len() {
+            self.keep(&front[..n]);
+            return;
+        }
+        let window: &[u8] = feed.window();
+        self.keep(&window[..n]);
+    }
+
+    /// Keeps the unit of the first `n` bytes that are held, if that is asked.
+    #[inline(always)]
+    pub fn pass<R: Source>(&mut self, is_asked: bool, feed: &mut Feed<'_, R>, n: usize)
+        requires held { n ≤ length (bytes_of feed.old) }
+        requires stands { is_asked ≡ true → (before : List ℕ) × Follows self.old before × (length before + n < 2 ^ 63) }
+        ensures same { SameFeed feed.old feed.new }
+        ensures follows { is_asked ≡ true → (before : List ℕ) → Follows self.old before
+            → Follows self.new (before ++ take n (bytes_of feed.old)) }
+        ensures at { is_asked ≡ true → self.new.at ≡ self.old.next }
+        ensures bytes { is_asked ≡ true → self.new.lost ≡ false → self.new.bytes.items ≡ take n (bytes_of feed.old) }
+    {
+        if is_asked {
+            self.take(feed, n);
+        }
+    }
+
+    /// Returns the lines that explain why no unit goes on where so much is held. `Memory` if an allocation fails, or if
+    /// one failed in keeping the unit before.
+    fn no_match_lines<R: Source>(
+        &mut self,
+        alloc: Global,
+        peg: &SoundPeg,
+        feed: &mut Feed<'_, R>,
+    ) -> Result<Vec<u8>, Memory>
+        requires stands { (before : List ℕ) × Follows self.old before
+            × (length before + length (bytes_of feed.old) < 2 ^ 63) }
+        ensures same { SameFeed feed.old feed.new }
+        ensures told { IfOk result (λ why. (before : List ℕ) → Follows self.old before → (self.old.lost ≡ false)
+            × IsNoMatchTold (rules_of peg.now.rules) peg.now.start (before ++ bytes_of feed.old)
+            (unit_before self.old.at.byte (length self.old.bytes.items)) (length before) why.items) }
+    {
+        if self.lost {
+            return Err(Memory);
+        }
+        let last = self.bytes.len();
+        self.bytes.extend_from_slice(feed.window())?;
+        explain_no_match(alloc, peg, self.bytes.as_slice(), last, self.at)
+    }
+}
+
+/// Returns how a run ends that stopped so, where these lines explain it, or an allocation failed.
+fn with_lines(stop: Stop, why: Result<Vec<u8>, Memory>) -> Ending
+    ensures { result ≡ ending_with stop why }
+{
+    match why {
+        Ok(why) => Ending::Explained { stop, why },
+        Err(Memory) => Ending::Unexplained(stop),
+    }
+}
+
+/// Returns how a run ends that stopped so, with the lines that explain it.
+fn explained_stop<R: Source>(
+    alloc: Global,
+    peg: &SoundPeg,
+    past: &mut Past,
+    feed: &mut Feed<'_, R>,
+    stop: Stop,
+) -> Ending
+    requires stands { (before : List ℕ) × Follows past.old before
+        × (length before + length (bytes_of feed.old) < 2 ^ 63) }
+    ensures same { SameFeed feed.old feed.new }
+    ensures told { (before : List ℕ) → Follows past.old before → EndsBehind (rules_of peg.now.rules) peg.now.start
+        past.old before (bytes_of feed.old) stop result }
+{
+    match stop {
+        Stop::NoMatch(_) => with_lines(stop, past.no_match_lines(alloc, peg, feed)),
+        Stop::LongUnit { .. } => with_lines(stop, explain_long_unit(alloc, past.next)),
+        _ => Ending::Plain(stop),
+    }
+}
+
+/// Returns how a run ends that stopped so, with the lines that explain it if settings ask for that.
+pub fn ending_at<R: Source>(
+    alloc: Global,
+    peg: &SoundPeg,
+    settings: &Settings<'_>,
+    past: &mut Past,
+    feed: &mut Feed<'_, R>,
+    stop: Stop,
+) -> Ending
+    requires stands { settings.now.explain ≡ true → (before : List ℕ) × Follows past.old before
+        × (length before + length (bytes_of feed.old) < 2 ^ 63) }
+    ensures same { SameFeed feed.old feed.new }
+    ensures told { settings.now.explain ≡ true → (before : List ℕ) → Follows past.old before
+        → EndsBehind (rules_of peg.now.rules) peg.now.start past.old before (bytes_of feed.old) stop result }
+    ensures plain { settings.now.explain ≡ false → result ≡ Ending.Plain stop }
+{
+    if settings.explain {
+        return explained_stop(alloc, peg, past, feed, stop);
+    }
+    Ending::Plain(stop)
+}
