@@ -15,10 +15,12 @@ returns-clause-runs c =
     (Some c.conclude-status.new.out.inner.items)
     (Some c.new-err.result.inner.items) (Some c.conclude-status.new.err.inner.items)
     c.into_inner.result.items c.into_inner-2.result.items
-    c.new-out.result.failed c.run-ending.new.out.failed c.conclude-status.new.out.failed c.conclude-status.new.err.failed
+    c.new-out.result.failed c.run-ending.new.out.failed c.conclude-status.new.out.failed
+    c.conclude-status.new.err.failed
     c.run-ending.result (code_of c.conclude-status.result)
     c.new-reader.ensures.remaining
     (c.new-out.ensures.contents ∙ ap (λ (x : List ℕ). Some x) c.new.ensures.items)
     (c.new-err.ensures.contents ∙ ap (λ (x : List ℕ). Some x) c.new-2.ensures.items)
     c.new-out.ensures.failed c.into_inner.ensures c.into_inner-2.ensures
-    c.run-ending.ensures.runs c.conclude-status.ensures.kept c.conclude-status.ensures.stays c.conclude-status.ensures.told
+    c.run-ending.ensures.runs c.conclude-status.ensures.kept c.conclude-status.ensures.stays
+    c.conclude-status.ensures.told
