@@ -5,7 +5,7 @@ use Rattle.lexer.specs.TokenLists.{Tok}
 use Rattle.ruletable.specs.Rules.{same_name}
 use Rattle.ruletable.specs.declared.lines.LineRule.TheVariants.{Lf}
 use Rattle.ruletable.specs.declared.table.NameCase.TheVariants.{Fold}
-use Rattle.noteplaces.specs.BodyMentions.{MentionedAt, mentions_in}
+use Rattle.noteplaces.specs.BodyMentions.{MentionedAt, kind_uses, mentions_in}
 use Rattle.noteplaces.specs.DefinitionHeads.{sign_at}
 use Rattle.abnfread.specs.CoreRules.{core_names}
 use Rattle.abnfread.specs.MarkedTokens.{AreTokens}
@@ -22,10 +22,13 @@ pub record UsedName : Type 0 where
   pub line : ℕ
   pub name : List ℕ
 
--- the use that a mention in the lines of a rule is, unless it is prose
+-- the use that a mention in the lines of a rule is, if it is one
 abbrev pub used_at : RuleLines → MentionedAt → List UsedName
-used_at place m = if m.is_prose then [] else
-    record { text = place.name; line = number_at place.lines m.line; name = m.text } ∷ []
+used_at place m = if kind_uses m.kind then record {
+  text = place.name;
+  line = number_at place.lines m.line;
+  name = m.text;
+} ∷ [] else []
 
 -- the names that a rule uses, in order: those of the tokens of its lines that stand before no `=` or `=/`
 pub record AreRuleUses (place : RuleLines) (uses : List UsedName) : Type 0 where

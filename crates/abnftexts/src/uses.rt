@@ -11,7 +11,7 @@ use crate::gathered::RulePlace;
 use crate::told::number_at;
 use abnfblocks::joined_text;
 use abnfexplain::abnf_places;
-use noteplaces::Mention;
+use noteplaces::{Mention, MentionKind};
 use ruletable::Memory;
 use std::alloc::Global;
 
@@ -23,7 +23,7 @@ pub(crate) struct NameUse<'a> {
     pub(crate) name: Vec<u8>,
 }
 
-// Adds the use that a mention in the lines of a rule is, unless it is prose.
+// Adds the use that a mention in the lines of a rule is, if it is one.
 fn push_use<'a>(
     alloc: Global,
     uses: &mut Vec<NameUse<'a>>,
@@ -33,16 +33,18 @@ fn push_use<'a>(
     ensures { OnOk result (map name_used uses.new.items
         ≡ map name_used uses.old.items ++ used_at (lines_placed place.now) (mentioned_at mention.now)) }
 {
-    if mention.is_prose {
-        return Ok(());
+    match mention.kind {
+        MentionKind::Use => {
+            let name = Vec::from_slice(alloc, &mention.text)?;
+            uses.push(NameUse {
+                text: place.name,
+                line: number_at(&place.lines, mention.line),
+                name,
+            })?;
+            Ok(())
+        }
+        MentionKind::Prose | MentionKind::Repeat => Ok(()),
     }
-    let name = Vec::from_slice(alloc, &mention.text)?;
-    uses.push(NameUse {
-        text: place.name,
-        line: number_at(&place.lines, mention.line),
-        name,
-    })?;
-    Ok(())
 }
 
 // Adds those of all mentions in the lines of a rule.
