@@ -43,6 +43,10 @@ EXEMPT = (
     "pegexplain: notes.explain_peg_note",
     # It passes on what `nullable` marks, and `need` has an edit.
     "gramcheck: nullable.nullable_rules",
+    # It passes on what `analysed` marks for `check_peg`, which has an edit.
+    "gramcheck: analysis.left_recursive_rules",
+    # It passes on what `Chains::way_back` returns, which has an edit.
+    "pegexplain: ways.left_way",
     # They pass on what `stepchains::chains_from` and `Chains::chain_to` return, which have their edits.
     "abnfcheck: reached_names.name_chains", "abnfcheck: NameChains.chain_to",
     # It passes on what `conclude` does, which has its edit.

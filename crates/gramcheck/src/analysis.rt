@@ -1,7 +1,10 @@
 //! What is known of a grammar's rules and nodes before it is run.
 ghost use Rattle.std.specs.Prelude.{◌≡◌, List, length, IfOk};
 ghost use Rattle.pegread.specs.Pattern.{Rule};
+ghost use Rattle.pegread.specs.PegViews.{rules_of};
 ghost use Rattle.gramcheck.specs.Analysis.{IsAnalysed};
+ghost use Rattle.gramcheck.specs.GrammarNotes.{AreMarks};
+ghost use Rattle.gramcheck.specs.Left.{IsLeftRecursive};
 ghost use Rattle.pegnodes.specs.Bodies.{AreBodies, IsBuilt};
 ghost use Rattle.leastset.specs.NumberMarks.{AreBelow};
 ghost use Rattle.pegnodes.specs.Nodes.{shapes_of};
@@ -9,8 +12,9 @@ ghost use Rattle.pegnodes.specs.Nodes.{shapes_of};
 use crate::left::find_left;
 use crate::loops::{body_marks, loops};
 use crate::nullable::nullable;
-use pegnodes::Node;
-use ruletable::Memory;
+use pegnodes::{Node, cut_grammar};
+use pegread::Expr;
+use ruletable::{Memory, NameCase, RuleTable};
 use std::alloc::Global;
 
 /// Marks of a grammar's nodes and rules, and ranks of its nodes.
@@ -47,4 +51,18 @@ pub(crate) fn analysed(alloc: Global, nodes: &[Node], bodies: &[usize]) -> Resul
         looping,
         ranks: left.ranks,
     })
+}
+
+/// Returns a mark for each rule, set exactly for those that are left-recursive.
+///
+/// # Errors
+/// `Memory` if an allocation fails.
+pub fn left_recursive_rules(alloc: Global, rules: &RuleTable<Expr>) -> Result<Vec<bool>, Memory>
+    requires { rules.now.names ≡ NameCase.Exact }
+    ensures { IfOk result (λ found. AreMarks (IsLeftRecursive (rules_of rules.now)) (rules_of rules.now) found.items) }
+{
+    let _ = rules.len();
+    let cut = cut_grammar(alloc, rules)?;
+    let found = analysed(alloc, &cut.nodes, &cut.bodies)?;
+    Ok(found.recursive)
 }

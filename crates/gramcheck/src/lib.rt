@@ -13,6 +13,7 @@ mod ranked_laws;
 mod sound;
 mod uses;
 
+pub use analysis::left_recursive_rules;
 pub use check::{Checked, check_peg};
 pub use laws::{
     events_rise, events_rise_of_start, longer_input, longer_input_of_start, one_outcome,

@@ -13,6 +13,8 @@ mod letters_utf8;
 #[cfg(test)]
 mod lines_answers;
 #[cfg(test)]
+mod push_steps_lines;
+#[cfg(test)]
 mod ruletable_calls;
 #[cfg(test)]
 mod stepchains_calls;

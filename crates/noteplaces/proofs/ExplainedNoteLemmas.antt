@@ -9,7 +9,7 @@ use Rattle.ruletable.specs.declared.table.NameCase.{NameCase}
 use Rattle.noteplaces.specs.DefinitionHeads.{definitions_in, sign_at}
 use Rattle.noteplaces.specs.ExplainedNotes.{ArePlaces, IsNoteExplained, note_lines, told_by}
 use Rattle.noteplaces.specs.FirstMentions.{rule_named}
-use Rattle.noteplaces.specs.RepeatLines.{repeats_by, repeats_of, repeats_told}
+use Rattle.noteplaces.specs.RepeatLines.{repeats_by, repeats_of, repeats_told, uses_by, uses_of_rule, uses_told}
 use Rattle.noteplaces.specs.UseLines.{lines_behind}
 use Rattle.noteplaces.specs.declared.places.Places.{Places}
 use Rattle.noteplaces.specs.declared.sign.Sign.{Sign}
@@ -48,5 +48,17 @@ module _ {K : Type 0} (White : List ℕ → List ℕ → Type 0) (First : K → 
       ∙ ap (λ ms. repeats_of (rule_named places.names
       (definitions_in rule text (map (sign_at sign_of) are.tokens)) name) ms) are.mentions_are
       ∙ ap (λ (c : NameCase). repeats_of (rule_named c
+      (definitions_in rule text (map (sign_at sign_of) are.tokens)) name)
+      (mentions_in rule text None (map (sign_at sign_of) are.tokens))) are.names_are
+
+  -- so are the lines of uses
+  pub places-used : (places : Places) (name : List ℕ)
+      (are : ArePlaces White First is_end sign_of rule names text places)
+      → uses_by places name ≡ uses_told rule names text (map (sign_at sign_of) are.tokens) name
+  places-used places name are =
+      ap (λ ds. uses_of_rule (rule_named places.names ds name) (map mentioned_at places.mentions.items)) are.heads_are
+      ∙ ap (λ ms. uses_of_rule (rule_named places.names
+      (definitions_in rule text (map (sign_at sign_of) are.tokens)) name) ms) are.mentions_are
+      ∙ ap (λ (c : NameCase). uses_of_rule (rule_named c
       (definitions_in rule text (map (sign_at sign_of) are.tokens)) name)
       (mentions_in rule text None (map (sign_at sign_of) are.tokens))) are.names_are

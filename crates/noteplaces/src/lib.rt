@@ -10,7 +10,8 @@ mod sign;
 mod uses;
 
 pub use heads::Head;
+pub use lines::push_more;
 pub use mentions::{Mention, MentionKind};
 pub use places::{Places, explain_note, places_of};
-pub use repeats::repeat_lines;
+pub use repeats::{repeat_lines, use_lines};
 pub use sign::{Sign, Signs};

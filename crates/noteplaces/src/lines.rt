@@ -27,8 +27,11 @@ fn push_name_line(out: &mut Vec<u8>, head: &Head, told: &[u8]) -> Result<(), Mem
     Ok(())
 }
 
-// Adds how many more there are, if there are any.
-fn push_more(out: &mut Vec<u8>, count: usize) -> Result<(), Memory>
+/// Adds how many more there are, if there are any.
+///
+/// # Errors
+/// `Memory` if an allocation fails.
+pub fn push_more(out: &mut Vec<u8>, count: usize) -> Result<(), Memory>
     ensures { OnOk result (out.new.items ≡ out.old.items ++ more_told count) }
 {
     if count > 0 {

@@ -6,3 +6,5 @@ pub mod PegWhyLemmas
 mod NullTestsLemmas
 pub mod ExplainedLoopLemmas
 mod RepeatsLemmas
+mod LeftRowsLemmas
+mod LeftStepLineLemmas

@@ -4,14 +4,21 @@
 mod deciding_token;
 mod explain;
 mod laws;
+mod left_lines;
+mod left_uses;
 mod loops;
 mod notes;
 mod nulls;
 mod phrases;
 mod places;
+mod skipped;
 mod stand;
+mod ways;
 
 pub use explain::explain_fault;
 pub use laws::one_explanation;
+pub use left_lines::{MAX_STEPS, push_steps};
+pub use left_uses::left_rows;
 pub use notes::{explain_peg_note, one_note_explanation};
 pub use places::{PegPlaces, PegSigns, peg_places};
+pub use ways::left_way;

@@ -1,6 +1,7 @@
 pub mod Actions
 pub mod Brackets
 pub mod Canon
+pub mod CanonMembers
 pub mod CharLaws
 pub mod Chars
 pub mod Classes

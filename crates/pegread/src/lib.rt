@@ -23,7 +23,7 @@ pub use expr::{Expr, Peg};
 pub use kind::Kind;
 pub use lexer::{MAX_GRAMMAR, MAX_OPEN};
 pub use literal::literal_bytes;
-pub use print::{is_read_back, print_expr, print_peg};
+pub use print::{is_read_back, print_expr, print_member, print_peg};
 pub use print_bytes::{print_literal, print_set};
 pub use read::{one_reading, one_tree, read_peg};
 pub use spelling_laws::{

@@ -3,6 +3,7 @@ ghost use Rattle.std.specs.Prelude.{◌≡◌, ◌≤◌, ◌++◌, ◌==◌, �
 ghost use Rattle.ruletable.specs.Writing.{Writes, Flags};
 ghost use Rattle.pegread.specs.Brackets.{wraps, around};
 ghost use Rattle.pegread.specs.Canon as canon;
+ghost use Rattle.pegread.specs.CanonMembers.{member_text};
 ghost use Rattle.pegread.specs.ReadBack.{IsRead, ReadsAs, ReadsFormed, ReadBack, SpansUnseen, PrintsItself};
 ghost use Rattle.pegread.specs.PegViews.{pattern_of, patterns_of, rules_of};
 
@@ -31,6 +32,17 @@ fn print_at<W: Sink>(e: &Expr, place: Place, w: &mut W) -> Result<(), WriteFault
         Ok(()) => write_whole(w, b")"),
         Err(fault) => Err(fault),
     }
+}
+
+/// Writes an expression's canonical text as it stands in a sequence: in parentheses where it needs them. `WriteFault`
+/// where the writer fails; then a beginning of the text is written.
+pub fn print_member<W: Sink>(e: &Expr, w: &mut W) -> Result<(), WriteFault>
+    requires { W.failed w.old ≡ false }
+    ensures bytes { Writes (W.contents w.old) (W.contents w.new)
+        (member_text (pattern_of e.now)) result }
+    ensures flag { Flags (W.failed w.old) (W.failed w.new) result }
+{
+    print_at(e, Place::Member, w)
 }
 
 // An operand and its suffix.

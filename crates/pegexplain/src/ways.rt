@@ -1,0 +1,25 @@
+//! The way by which a left-recursive rule comes back to itself.
+ghost use Rattle.std.specs.Prelude.{◌≡◌, ◌<◌, length, IfOk, option_map};
+ghost use Rattle.leastset.specs.StepRows.{rows_of, AreStepsWithin};
+ghost use Rattle.stepchains.specs.ShortChains.{IsRoundIfAny};
+
+use leastset::slices;
+use ruletable::Memory;
+use std::alloc::Global;
+use stepchains::chains_from;
+
+/// Returns the rules on the shortest way from one back to itself by left steps, the first at its beginning alone, if
+/// they lead back.
+///
+/// # Errors
+/// `Memory` if an allocation fails.
+pub fn left_way(alloc: Global, rows: &[Vec<usize>], id: usize) -> Result<Option<Vec<usize>>, Memory>
+    requires within { AreStepsWithin (rows_of rows.now) }
+    requires there { id < length rows.now }
+    ensures { IfOk result (λ chain. IsRoundIfAny (rows_of rows.now) id (option_map (λ v. v.items) chain)) }
+{
+    let steps = slices(alloc, rows)?;
+    let chains = chains_from(alloc, &steps, id)?;
+    let chain = chains.way_back(alloc, &steps, id)?;
+    Ok(chain)
+}
