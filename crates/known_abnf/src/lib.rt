@@ -28,6 +28,8 @@ mod lazydfa_rooms;
 #[cfg(test)]
 mod letterruns_texts;
 #[cfg(test)]
+mod refusedlines_explained;
+#[cfg(test)]
 mod refusedlines_following;
 #[cfg(test)]
 mod rfctext_lines;

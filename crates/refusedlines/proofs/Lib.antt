@@ -1,2 +1,4 @@
 pub mod ReadLettersLemmas
 pub mod CanFollowLemmas
+pub mod RefusalLemmas
+pub mod OneRefusalLemmas

@@ -1,2 +1,4 @@
 pub mod Following
 pub mod ReadLetters
+pub mod RefusedText
+pub mod Refusals

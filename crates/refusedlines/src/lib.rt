@@ -2,7 +2,11 @@
 //! beginning.
 #![tactic(auto)]
 
+mod explained;
 mod following;
 mod read_letters;
+mod refusal;
 
+pub use explained::{Explainer, explain_refused, nothing_can_stand, refusal_is_one};
 pub use following::{Following, find_following, following_is_one};
+pub use refusal::RefusedLine;

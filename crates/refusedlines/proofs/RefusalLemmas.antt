@@ -1,0 +1,157 @@
+-- The texts that explain refused lines.
+-- Serves: explain_refused
+use Rattle.std.proofs.Common.{◌≡◌, ℕ, zero, suc, ◌+◌, ◌<◌, ◌≤◌, nat_lt, Bool, false, List, [], ◌∷◌, ◌++◌, map}
+use Rattle.std.proofs.Common.{Some, length, take, get_or, slice_get, slice_index_or, refl, sym, ◌∙◌, ap, subst, arith}
+use Rattle.std.proofs.Common.{append_assoc, codes, decimal, length-append}
+use Rattle.std.proofs.lemmas.Bool.{le-ltb, lt-ltb}
+use Rattle.std.proofs.lemmas.List.{length-map, length-take-le, map-append, take-map, take_more}
+use Rattle.std.proofs.lemmas.Option.{get_or_from_slice_get}
+use Rattle.abnfread.specs.AbnfViews.{rule_of, rules_of}
+use Rattle.abnfread.specs.Element.{Rule}
+use Rattle.abnfread.specs.declared.elem.Elem.{Elem}
+use Rattle.abnfcheck.specs.Beginnings.{IsFurthest}
+use Rattle.letters.specs.Letters.{has}
+use Rattle.letters.specs.Utf8Text.{IsLongestText, Spells, end, next, Writes, number, numbers}
+use Rattle.letters.specs.declared.alphabet.Alphabet.{Alphabet}
+use Rattle.letters.specs.declared.alphabet.Alphabet.TheVariants.{Bytes, Utf8}
+use Rattle.letters.specs.declared.point.CodePoint.{CodePoint}
+use Rattle.letterruns.specs.declared.run.LetterRun.{LetterRun}
+use Rattle.ruletable.specs.Rules as table
+use Rattle.refusedlines.specs.Following.{AreFollowing}
+use Rattle.refusedlines.specs.RefusedText.{refusal_text, refused_at}
+use Rattle.refusedlines.specs.Refusals.{IsExplained, name_at, octet_count, octets}
+use Rattle.refusedlines.specs.declared.refusal.RefusedAt.{RefusedAt}
+
+pub at_pushed : (old a b c : List ℕ) (line n : ℕ) (told : List ℕ) → a ≡ old ++ codes "line " → b ≡ a ++ decimal line
+    → c ≡ b ++ (codes ", letter " ++ (decimal n ++ told))
+    → c ≡ old ++ (codes "line " ++ (decimal line ++ (codes ", letter " ++ (decimal n ++ told))))
+at_pushed old a b c line n told first second third =
+    let rest = codes ", letter " ++ (decimal n ++ told) in
+    third ∙ ap (λ v. v ++ rest) (second ∙ ap (λ v. v ++ decimal line) first)
+    ∙ append_assoc (old ++ codes "line ") (decimal line) rest ∙ append_assoc old (codes "line ") (decimal line ++ rest)
+
+-- the names of rules
+names_same : (rs : List (table.Rule Elem)) → map (λ rule. rule.name) (map rule_of rs) ≡ map (λ rule. rule.name) rs
+names_same [] = refl
+names_same (r ∷ rs) = ap (λ v. r.name ∷ v) (names_same rs)
+
+pub name_found : (rules : table.Rules Elem) (id : ℕ) (name : List ℕ) → slice_get (table.names_of rules) id ≡ Some name
+    → name ≡ name_at (rules_of rules) id
+name_found rules id name is =
+    sym (ap (λ v. slice_index_or v id []) (names_same rules.rules)
+    ∙ get_or_from_slice_get (table.names_of rules) id name [] is)
+
+-- how many bytes letters take
+octets_push : (alphabet : Alphabet) (xs : List ℕ) (c : ℕ)
+    → octet_count alphabet (xs ++ c ∷ []) ≡ octet_count alphabet xs + octets alphabet c
+octets_push alphabet [] c = omega arith
+octets_push alphabet (x ∷ xs) c = let rest = octets_push alphabet xs c in omega (arith, rest)
+
+pub octets_front : (alphabet : Alphabet) (n : ℕ) (xs : List ℕ)
+    → octet_count alphabet (take n xs) ≤ octet_count alphabet xs
+octets_front alphabet zero xs = omega arith
+octets_front alphabet (suc n) [] = omega arith
+octets_front alphabet (suc n) (x ∷ xs) = let rest = octets_front alphabet n xs in omega (arith, rest)
+
+pub count_next : (points : List CodePoint) (i : ℕ) (d : CodePoint) (count o : ℕ) → i < length points
+    → count ≡ octet_count Utf8 (numbers (take i points)) → o ≡ octets Utf8 (number (get_or points i d))
+    → count + o ≡ octet_count Utf8 (numbers (take (i + 1) points))
+count_next points i d count o lt is one =
+    let more = ap (λ v. octet_count Utf8 (numbers v)) (take_more points i d lt)
+    ∙ ap (λ v. octet_count Utf8 v) (map-append number (take i points) (get_or points i d ∷ []))
+    ∙ octets_push Utf8 (numbers (take i points)) (number (get_or points i d)) in
+    omega (arith, more, is, one)
+
+pub count_within : (points : List CodePoint) (i : ℕ) → octet_count Utf8 (numbers (take i points))
+    ≤ octet_count Utf8 (numbers points)
+count_within points i = subst (λ v. octet_count Utf8 v ≤ octet_count Utf8 (numbers points)) (take-map number i points)
+    (octets_front Utf8 i (numbers points))
+
+bytes_count : (xs : List ℕ) → octet_count Bytes xs ≡ length xs
+bytes_count [] = refl
+bytes_count (x ∷ xs) = let rest = bytes_count xs in omega (arith, rest)
+
+writes_octets : {c : ℕ} {bytes : List ℕ} → Writes c bytes → octets Utf8 c ≡ length bytes
+writes_octets {c = c} (Writes.one below) = rw (lt-ltb c 0x80 below) refl
+writes_octets {c = c} (Writes.two a b is lb from below) = rw (le-ltb c 0x80 from, lt-ltb c 0x800 below) refl
+writes_octets {c = c} (Writes.three a b d is lb ld from below) =
+    rw (le-ltb c 0x80 (omega arith), le-ltb c 0x800 from, lt-ltb c 0x10000 below) refl
+writes_octets {c = c} (Writes.four a b d e is lb ld le from below) =
+    rw (le-ltb c 0x80 (omega arith), le-ltb c 0x800 (omega arith), le-ltb c 0x10000 from) refl
+
+pub spells_octets : {xs bytes : List ℕ} → Spells xs bytes → octet_count Utf8 xs ≡ length bytes
+spells_octets end = refl
+spells_octets (next {bytes = bytes} {rest = rest} point writes spells) =
+    let one = writes_octets writes in
+    let more = spells_octets spells in
+    let size = length-append bytes rest in
+    omega (arith, one, more, size)
+
+octets_some : (c : ℕ) → 0 < octets Utf8 c
+octets_some c = grind arith
+
+pub octets_at_least : (xs : List ℕ) → length xs ≤ octet_count Utf8 xs
+octets_at_least [] = omega arith
+octets_at_least (x ∷ xs) = let rest = octets_at_least xs in let some = octets_some x in omega (arith, rest, some)
+
+module _ (rules : List Rule) (judged : ℕ) (line : List ℕ) (number_of : ℕ) (runs : List LetterRun) (ends : Bool)
+    (name : List ℕ) (at : RefusedAt) (place : ℕ) (old new : List ℕ) (named : name ≡ name_at rules judged)
+    (put : new ≡ old ++ refusal_text name number_of line at place runs ends) where
+  pub told_bytes : IsFurthest (has Bytes) rules judged line place
+      → AreFollowing (has Bytes) rules judged line place runs ends → at ≡ refused_at place (length line) false
+      → IsExplained Bytes rules judged line number_of old new
+  told_bytes furthest following where_at =
+      let torn : nat_lt (length line) (length line) ≡ false = le-ltb (length line) (length line) (omega arith) in
+      let within = furthest.within in
+      let count : octet_count Bytes (take place line) ≡ place =
+      bytes_count (take place line) ∙ length-take-le place line within in (
+        refusal_text name number_of line at place runs ends,
+        put,
+        record {
+          first = line;
+          size = length line;
+          letters = (refl, refl);
+          after = place;
+          furthest = furthest;
+          runs = runs;
+          ends = ends;
+          following = following;
+          is = rw (named, where_at, torn, count) refl;
+        },
+      )
+
+  pub told_points : (points : List ℕ) (size after : ℕ) → IsLongestText line size → Spells points (take size line)
+      → IsFurthest (has Utf8) rules judged points after
+      → AreFollowing (has Utf8) rules judged points after runs ends
+      → at ≡ refused_at after (length points) (nat_lt size (length line))
+      → place ≡ octet_count Utf8 (take after points) → IsExplained Utf8 rules judged line number_of old new
+  told_points points size after longest spelled furthest following where_at count = (
+    refusal_text name number_of line at place runs ends,
+    put,
+    record {
+      first = points;
+      size = size;
+      letters = (longest, spelled);
+      after = after;
+      furthest = furthest;
+      runs = runs;
+      ends = ends;
+      following = following;
+      is = rw (named, where_at, count) refl;
+    },
+  )
+
+-- how long the letters of a line are, and the line
+pub points_bound : (line : List ℕ) (size : ℕ) (points items : List CodePoint) (n : ℕ) → points ≡ items
+    → IsLongestText line size → Spells (numbers items) (take size line)
+    → (octet_count Utf8 (numbers (take n points)) ≤ length line) × (length points ≤ length line)
+points_bound line size points items n same longest spelled =
+    let all = spells_octets spelled in
+    let long = length-take-le size line longest.within in
+    let within = longest.within in
+    let front = subst (λ v. octet_count Utf8 (numbers (take n v)) ≤ octet_count Utf8 (numbers items)) (sym same)
+    (count_within items n) in
+    let least = octets_at_least (numbers items) in
+    let count = length-map items number in
+    let equal = ap length same in
+    (omega (arith, front, all, long, within), omega (arith, least, all, long, within, count, equal))

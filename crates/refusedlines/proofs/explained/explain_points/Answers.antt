@@ -1,0 +1,52 @@
+use Rattle.std.proofs.Common.{◌∙◌, ap, arith, length, nat_lt, subst, sym, take}
+use Rattle.std.proofs.lemmas.List.{length-map, take-map}
+use Rattle.abnfread.specs.AbnfViews.{rules_of}
+use Rattle.letters.specs.Utf8Text.{Spells, number, numbers}
+use Rattle.letters.specs.declared.alphabet.Alphabet.TheVariants.{Utf8}
+use Rattle.refusedlines.specs.RefusedText.{refused_at}
+use Rattle.refusedlines.specs.Refusals.{octet_count}
+use Rattle.refusedlines.proofs.RefusalLemmas.{points_bound, told_points}
+use Rattle.refusedlines.proofs.explained.explain_points.Goals as goal
+
+pub find_following-requires : goal.find_following-requires
+find_following-requires c =
+    let e = c.in_ok-first.ensures in
+    let bound = points_bound _ _ c.as_slice-points.result.now _ 0 c.as_slice-points.ensures.value e.longest e.spelled in
+    let short = c.requires.within in
+    omega (arith, bound.1, short)
+
+pub octets_of-place-requires : goal.octets_of-place-requires
+octets_of-place-requires c =
+    let e = c.in_ok-first.ensures in
+    let bound = points_bound _ _ c.as_slice-points.result.now _ c.in_ok-following.following.after
+    c.as_slice-points.ensures.value e.longest e.spelled in
+    let range = c.ranges.line in
+    omega (arith, bound.0, range.0)
+
+pub push_refusal-requires : goal.push_refusal-requires
+push_refusal-requires c =
+    let e = c.in_ok-first.ensures in
+    let bound = points_bound _ _ c.as_slice-points.result.now _ c.in_ok-following.following.after
+    c.as_slice-points.ensures.value e.longest e.spelled in
+    let place = c.octets_of-place.ensures in
+    omega (arith, bound.0, place)
+
+pub returns : goal.returns
+returns c =
+    let e = c.in_ok-first.ensures in
+    let grammar = c.args.explainer.now.grammar.now in
+    let rules = rules_of grammar.rules in
+    let f = c.in_ok-following.following in
+    let points = c.as_slice-points.result.now in
+    let line = c.args.line.bytes.now in
+    told_points rules grammar.judged line c.args.line.number f.runs.items f.ends c.judged_name.result.now
+    c.refused_at-at.result c.octets_of-place.result c.args.out.now.items c.push_refusal.new.out.items
+    c.judged_name.ensures c.in_ok-push_refusal.ensures
+    (numbers points) c.in_ok-first.first.size f.after e.longest
+    (subst (λ v. Spells (numbers v) (take c.in_ok-first.first.size line)) (sym c.as_slice-points.ensures.value)
+    e.spelled)
+    (c.in_ok-following.ensures.furthest rules grammar.judged c.requires.tells)
+    (c.in_ok-following.ensures.following rules grammar.judged c.requires.tells)
+    (c.refused_at-at.ensures
+    ∙ ap (λ v. refused_at f.after v (nat_lt c.in_ok-first.first.size (length line))) (sym (length-map points number)))
+    (c.octets_of-place.ensures ∙ ap (λ v. octet_count Utf8 v) (sym (take-map number f.after points)))

@@ -1,0 +1,49 @@
+-- What explains a line that the judged rule does not derive.
+use Rattle.std.specs.Prelude.{◌≡◌, ℕ, ◌+◌, nat_lt, Bool, if◌then◌else◌, List, [], ◌∷◌, ◌++◌, take, length}
+use Rattle.std.specs.Prelude.{slice_index_or, map}
+use Rattle.abnfread.specs.Element.{Rule}
+use Rattle.abnfcheck.specs.Beginnings.{IsFurthest}
+use Rattle.letters.specs.Letters.{has}
+use Rattle.letters.specs.Utf8Text.{IsLongestText, Spells}
+use Rattle.letters.specs.declared.alphabet.Alphabet.{Alphabet}
+use Rattle.letters.specs.declared.alphabet.Alphabet.TheVariants.{Bytes, Utf8}
+use Rattle.letterruns.specs.declared.run.LetterRun.{LetterRun}
+use Rattle.refusedlines.specs.Following.{AreFollowing}
+use Rattle.refusedlines.specs.RefusedText.{refusal_text, refused_at}
+
+-- how many bytes a letter takes: one, or in UTF-8 as many as the table in section 3 of RFC 3629 says
+abbrev pub octets : Alphabet → ℕ → ℕ
+octets Bytes c = 1
+octets Utf8 c = if nat_lt c 0x80 then 1 else if nat_lt c 0x800 then 2 else if nat_lt c 0x10000 then 3 else 4
+
+abbrev pub octet_count : Alphabet → List ℕ → ℕ
+octet_count alphabet [] = 0
+octet_count alphabet (c ∷ cs) = octets alphabet c + octet_count alphabet cs
+
+-- the letters of the first `size` bytes of a line: of all of them, or of its longest beginning that is UTF-8
+abbrev pub AreFirstLetters : Alphabet → List ℕ → List ℕ → ℕ → Type 0
+AreFirstLetters Bytes line x size = (x ≡ line) × (size ≡ length line)
+AreFirstLetters Utf8 line x size = IsLongestText line size × Spells x (take size line)
+
+abbrev pub name_at : List Rule → ℕ → List ℕ
+name_at rules id = slice_index_or (map (λ rule. rule.name) rules) id []
+
+-- The text tells of the line with that number where it is refused, and what can stand behind the longest viable
+-- beginning of its letters.
+pub record IsRefusalTold (alphabet : Alphabet) (rules : List Rule) (judged : ℕ) (line : List ℕ) (number : ℕ)
+    (text : List ℕ) : Type 0 where
+  pub first : List ℕ
+  pub size : ℕ
+  pub letters : AreFirstLetters alphabet line first size
+  pub after : ℕ
+  pub furthest : IsFurthest (has alphabet) rules judged first after
+  pub runs : List LetterRun
+  pub ends : Bool
+  pub following : AreFollowing (has alphabet) rules judged first after runs ends
+  pub is : text ≡ refusal_text (name_at rules judged) number line
+      (refused_at after (length first) (nat_lt size (length line))) (octet_count alphabet (take after first)) runs ends
+
+-- such a text was added
+abbrev pub IsExplained : Alphabet → List Rule → ℕ → List ℕ → ℕ → List ℕ → List ℕ → Type 0
+IsExplained alphabet rules judged line number old new = (text : List ℕ) × (new ≡ old ++ text)
+    × IsRefusalTold alphabet rules judged line number text

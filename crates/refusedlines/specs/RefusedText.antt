@@ -1,0 +1,39 @@
+-- The lines that explain a refused line.
+use Rattle.std.specs.Prelude.{ℕ, ◌+◌, nat_lt, Bool, true, false, if◌then◌else◌, List, [], ◌∷◌, ◌++◌, codes, decimal}
+use Rattle.letterruns.specs.ToldLetters.{expected_text}
+use Rattle.letterruns.specs.declared.run.LetterRun.{LetterRun}
+use Rattle.picture.specs.Pictures.{picture}
+use Rattle.picture.specs.ShownBytes.{cut}
+use Rattle.refusedlines.specs.declared.refusal.RefusedAt.{RefusedAt}
+use Rattle.refusedlines.specs.declared.refusal.RefusedAt.TheVariants.{Letter, NoText, End}
+
+-- Where a line is refused: at the letter behind its longest viable beginning; if that has all its letters, at bytes
+-- that are not UTF-8, or at its end. Letters count from 1.
+abbrev pub refused_at : ℕ → ℕ → Bool → RefusedAt
+refused_at n count torn = if nat_lt n count then Letter (n + 1) else if torn then NoText (n + 1) else End
+
+abbrev pub at_text : ℕ → RefusedAt → List ℕ
+at_text number (Letter n) = codes "line " ++ (decimal number ++ (codes ", letter " ++ (decimal n
+    ++ codes ": expected ")))
+at_text number (NoText n) = codes "line " ++ (decimal number ++ (codes ", letter " ++ (decimal n
+    ++ codes ": not UTF-8, expected ")))
+at_text number End = codes "line " ++ (decimal number ++ codes " ends too early: expected ")
+
+-- neither a letter nor the end can stand there
+abbrev pub is_none : List LetterRun → Bool → Bool
+is_none [] ends = if ends then false else true
+is_none (run ∷ runs) ends = false
+
+-- the rule derives nothing
+abbrev pub nothing_text : ℕ → List ℕ → List ℕ
+nothing_text number name = codes "line " ++ (decimal number ++ (codes ": rule '" ++ (cut name
+    ++ codes "' derives nothing\n")))
+
+-- what is expected at a place of a line of bytes, and a picture of the place
+abbrev pub expected_lines : ℕ → List ℕ → RefusedAt → ℕ → List LetterRun → Bool → List ℕ
+expected_lines number line at place runs ends = at_text number at ++ (expected_text runs ends ++ (codes "\n"
+    ++ picture line place))
+
+abbrev pub refusal_text : List ℕ → ℕ → List ℕ → RefusedAt → ℕ → List LetterRun → Bool → List ℕ
+refusal_text name number line at place runs ends = if is_none runs ends then nothing_text number name
+    else expected_lines number line at place runs ends

@@ -1,0 +1,183 @@
+//! What explains refused lines.
+ghost use Rattle.std.specs.Prelude.{◌≡◌, ◌+◌, ◌<◌, ◌≤◌, ◌^◌, ℕ, Bool, false, List, [], length, take, IfOk};
+ghost use Rattle.abnfcheck.specs.Beginnings.{IsFurthest};
+ghost use Rattle.abnfread.specs.Element.{Rule};
+ghost use Rattle.letters.specs.declared.alphabet.Alphabet.{Alphabet as the_alphabet};
+ghost use Rattle.refusedlines.specs.Following.{AreFollowing, DerivesNothing};
+ghost use Rattle.abnfread.specs.AbnfViews.{rules_of};
+ghost use Rattle.flatgrammar.specs.ToldBeginnings.{TellsBeginnings};
+ghost use Rattle.letters.specs.Letters.{has};
+ghost use Rattle.letters.specs.Utf8Text.{IsLongestText, Spells, numbers};
+ghost use Rattle.refusedlines.specs.Refusals.{IsExplained, IsRefusalTold, name_at, octet_count, octets as the_octets};
+
+use crate::following::{find_following, following_is_one};
+use crate::refusal::{Refusal, RefusedLine, push_refusal, refused_at};
+use abnfcheck::{SoundAbnf, furthest_is_found};
+use earley::Chart;
+use flatgrammar::Flat;
+use letters::{Alphabet, CodePoint, Letter, decode, utf8_is_decided, utf8_len};
+use ruletable::Memory;
+use std::alloc::Global;
+
+/// A grammar that refused lines, what the letters of lines are, and its flat grammar by `lower_viable` for that
+/// alphabet.
+#[derive(Drop)]
+pub struct Explainer<'a> {
+    /// The grammar.
+    pub grammar: &'a SoundAbnf,
+    /// What lines are made of.
+    pub letters: Alphabet,
+    /// The flat grammar.
+    pub flat: &'a Flat,
+}
+
+// The code points of the longest beginning of a line that is UTF-8, and how many bytes it has.
+#[derive(Drop)]
+struct FirstPoints {
+    size: usize,
+    points: Vec<CodePoint>,
+}
+
+// Returns the code points of the longest beginning of a line that is UTF-8.
+fn first_points(alloc: Global, line: &[u8]) -> Result<FirstPoints, Memory>
+    ensures longest { IfOk result (λ f. IsLongestText line.now f.size) }
+    ensures spelled { IfOk result (λ f. Spells (numbers f.points.items) (take f.size line.now)) }
+{
+    let size = utf8_len(line);
+    let mut points = Vec::new(alloc);
+    let _is_text = decode(&line[..size], &mut points)?;
+    Ok(FirstPoints { size, points })
+}
+
+// Returns how many bytes a code point has in UTF-8.
+fn octets(value: u32) -> usize
+    ensures value { result ≡ the_octets Alphabet.Utf8 value }
+    ensures small { result ≤ 4 }
+{
+    if value < 0x80 {
+        1
+    } else if value < 0x800 {
+        2
+    } else if value < 0x1_0000 {
+        3
+    } else {
+        4
+    }
+}
+
+// Returns how many bytes code points have in UTF-8.
+fn octets_of(points: &[CodePoint]) -> usize
+    requires { octet_count Alphabet.Utf8 (numbers points.now) < 2 ^ 64 }
+    ensures { result ≡ octet_count Alphabet.Utf8 (numbers points.now) }
+{
+    let mut count = 0;
+    for point in points {
+        count += octets(point.value());
+    }
+    count
+}
+
+// Returns the name of the judged rule.
+fn judged_name(grammar: &SoundAbnf) -> &[u8]
+    ensures { result.now ≡ name_at (rules_of grammar.now.rules) grammar.now.judged }
+{
+    let id = grammar.judged();
+    grammar.rules().name(id)
+}
+
+// Explains a refused line of bytes.
+fn explain_bytes(
+    alloc: Global,
+    chart: &mut Chart,
+    explainer: &Explainer<'_>,
+    line: RefusedLine<'_>,
+    out: &mut Vec<u8>,
+) -> Result<(), Memory>
+    requires within { length line.bytes.now + 1 ≤ explainer.now.flat.now.limit }
+    requires tells { TellsBeginnings (has Alphabet.Bytes) (rules_of explainer.now.grammar.now.rules)
+        explainer.now.grammar.now.judged explainer.now.flat.now }
+    ensures { IfOk result (λ done. IsExplained Alphabet.Bytes (rules_of explainer.now.grammar.now.rules)
+        explainer.now.grammar.now.judged line.entry.bytes.now line.entry.number out.old.items out.new.items) }
+{
+    let following = find_following(alloc, chart, explainer.flat, line.bytes)?;
+    let place = following.after;
+    let at = refused_at(place, line.bytes.len(), false);
+    let refusal = Refusal {
+        at,
+        place,
+        following,
+    };
+    push_refusal(alloc, judged_name(explainer.grammar), line, &refusal, out)?;
+    Ok(())
+}
+
+// Explains a refused line of code points.
+fn explain_points(
+    alloc: Global,
+    chart: &mut Chart,
+    explainer: &Explainer<'_>,
+    line: RefusedLine<'_>,
+    out: &mut Vec<u8>,
+) -> Result<(), Memory>
+    requires within { length line.bytes.now + 1 ≤ explainer.now.flat.now.limit }
+    requires tells { TellsBeginnings (has Alphabet.Utf8) (rules_of explainer.now.grammar.now.rules)
+        explainer.now.grammar.now.judged explainer.now.flat.now }
+    ensures { IfOk result (λ done. IsExplained Alphabet.Utf8 (rules_of explainer.now.grammar.now.rules)
+        explainer.now.grammar.now.judged line.entry.bytes.now line.entry.number out.old.items out.new.items) }
+{
+    let first = first_points(alloc, line.bytes)?;
+    let points = first.points.as_slice();
+    let following = find_following(alloc, chart, explainer.flat, points)?;
+    let after = following.after;
+    let at = refused_at(after, points.len(), first.size < line.bytes.len());
+    let place = octets_of(&points[..after]);
+    let refusal = Refusal {
+        at,
+        place,
+        following,
+    };
+    push_refusal(alloc, judged_name(explainer.grammar), line, &refusal, out)?;
+    Ok(())
+}
+
+/// Adds the lines that explain a refused line: where it is refused, what can stand there, and a picture of the place;
+/// or that the judged rule derives nothing. The flat grammar must be that of `lower_viable` for the grammar and its
+/// letters, and the line must have fewer bytes than `flat.limit()`. The chart is filled anew.
+///
+/// # Errors
+/// `Memory` if an allocation fails; a part of the lines may be added then.
+pub fn explain_refused(
+    alloc: Global,
+    chart: &mut Chart,
+    explainer: &Explainer<'_>,
+    line: RefusedLine<'_>,
+    out: &mut Vec<u8>,
+) -> Result<(), Memory>
+    requires within { length line.bytes.now + 1 ≤ explainer.now.flat.now.limit }
+    requires tells { TellsBeginnings (has explainer.now.letters) (rules_of explainer.now.grammar.now.rules)
+        explainer.now.grammar.now.judged explainer.now.flat.now }
+    ensures { IfOk result (λ done. IsExplained explainer.now.letters (rules_of explainer.now.grammar.now.rules)
+        explainer.now.grammar.now.judged line.entry.bytes.now line.entry.number out.old.items out.new.items) }
+{
+    match explainer.letters {
+        Alphabet::Bytes => explain_bytes(alloc, chart, explainer, line, out),
+        Alphabet::Utf8 => explain_points(alloc, chart, explainer, line, out),
+    }
+}
+
+/// Returns nothing. Its contract is a law: a refused line is explained by one text at most.
+pub fn refusal_is_one()
+    ensures { (alphabet : the_alphabet) (rules : List Rule) (judged : ℕ) (line : List ℕ) (number : ℕ) (a b : List ℕ) →
+        IsRefusalTold alphabet rules judged line number a → IsRefusalTold alphabet rules judged line number b → a ≡ b }
+{
+    furthest_is_found();
+    following_is_one();
+    utf8_is_decided();
+}
+
+/// Returns nothing. Its contract is a law: if nothing can stand behind the longest viable beginning of a line, the rule
+/// derives nothing.
+pub fn nothing_can_stand()
+    ensures { (has : ℕ → Bool) (rules : List Rule) (id : ℕ) (x : List ℕ) (n : ℕ) → IsFurthest has rules id x n →
+        AreFollowing has rules id x n [] false → DerivesNothing has rules id }
+{}

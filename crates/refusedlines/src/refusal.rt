@@ -1,0 +1,132 @@
+//! The lines that explain a refused line.
+ghost use Rattle.std.specs.Prelude.{◌≡◌, ◌+◌, ◌<◌, ◌≤◌, ◌^◌, ◌++◌, codes, decimal, length, OnOk};
+ghost use Rattle.refusedlines.specs.RefusedText.{at_text, expected_lines, nothing_text, refused_at as the_place};
+ghost use Rattle.refusedlines.specs.RefusedText.{refusal_text};
+
+use crate::following::Following;
+use letterruns::push_expected;
+use picture::{LineAround, push_cut, push_number, push_picture};
+use ruletable::Memory;
+use std::alloc::Global;
+
+/// A line that is refused, with its number.
+#[derive(Clone, Copy)]
+pub struct RefusedLine<'a> {
+    /// Its bytes, without its end.
+    pub bytes: &'a [u8],
+    /// Its number, from 1.
+    pub number: usize,
+}
+
+/// Where a line is refused.
+#[derive(Clone, Copy)]
+pub(crate) enum RefusedAt {
+    /// At the letter with that number, from 1.
+    Letter(usize),
+    /// At bytes that are not UTF-8, where the letter with that number would stand.
+    NoText(usize),
+    /// At its end.
+    End,
+}
+
+/// What is told of a refused line: where it is refused, behind how many of its bytes, and what can stand there.
+#[derive(Drop)]
+pub(crate) struct Refusal {
+    pub(crate) at: RefusedAt,
+    pub(crate) place: usize,
+    pub(crate) following: Following,
+}
+
+/// Returns where a line is refused: behind so many of its letters, of which there are that many, before bytes that are
+/// not UTF-8 or the end.
+pub(crate) fn refused_at(after: usize, letters: usize, torn: bool) -> RefusedAt
+    requires { after + 1 < 2 ^ 64 }
+    ensures { result ≡ the_place after letters torn }
+{
+    if after < letters {
+        RefusedAt::Letter(after + 1)
+    } else if torn {
+        RefusedAt::NoText(after + 1)
+    } else {
+        RefusedAt::End
+    }
+}
+
+// Adds the number of a letter, and what is told behind it.
+fn push_letter(n: usize, told: &[u8], out: &mut Vec<u8>) -> Result<(), Memory>
+    ensures { OnOk result (out.new.items ≡ out.old.items ++ (codes ", letter " ++ (decimal n ++ told.now))) }
+{
+    out.extend_from_slice(b", letter ")?;
+    push_number(out, n)?;
+    out.extend_from_slice(told)?;
+    Ok(())
+}
+
+// Adds where the line with that number is refused.
+fn push_at(number: usize, at: RefusedAt, out: &mut Vec<u8>) -> Result<(), Memory>
+    ensures { OnOk result (out.new.items ≡ out.old.items ++ at_text number at) }
+{
+    out.extend_from_slice(b"line ")?;
+    push_number(out, number)?;
+    match at {
+        RefusedAt::Letter(n) => push_letter(n, b": expected ", out)?,
+        RefusedAt::NoText(n) => push_letter(n, b": not UTF-8, expected ", out)?,
+        RefusedAt::End => out.extend_from_slice(b" ends too early: expected ")?,
+    }
+    Ok(())
+}
+
+// Adds that the rule of that name derives nothing.
+fn push_nothing(number: usize, name: &[u8], out: &mut Vec<u8>) -> Result<(), Memory>
+    ensures { OnOk result (out.new.items ≡ out.old.items ++ nothing_text number name.now) }
+{
+    out.extend_from_slice(b"line ")?;
+    push_number(out, number)?;
+    out.extend_from_slice(b": rule '")?;
+    push_cut(out, name)?;
+    out.extend_from_slice(b"' derives nothing\n")?;
+    Ok(())
+}
+
+// Adds what is expected at a place of a line, and a picture of the place.
+fn push_lines(
+    alloc: Global,
+    line: RefusedLine<'_>,
+    refusal: &Refusal,
+    out: &mut Vec<u8>,
+) -> Result<(), Memory>
+    requires { refusal.now.place ≤ length line.bytes.now }
+    ensures { OnOk result (out.new.items ≡ out.old.items ++ expected_lines line.entry.number line.entry.bytes.now
+        refusal.now.at refusal.now.place refusal.now.following.runs.items refusal.now.following.ends) }
+{
+    push_at(line.number, refusal.at, out)?;
+    push_expected(alloc, &refusal.following.runs, refusal.following.ends, out)?;
+    out.extend_from_slice(b"\n")?;
+    push_picture(
+        out,
+        LineAround {
+            line: line.bytes,
+            before: refusal.place,
+        },
+    )
+}
+
+/// Adds the lines that explain a refused line: what is expected where it is refused, and a picture of that place; or
+/// that the rule of that name derives nothing, if nothing can stand there. The place must be within the line.
+pub(crate) fn push_refusal(
+    alloc: Global,
+    name: &[u8],
+    line: RefusedLine<'_>,
+    refusal: &Refusal,
+    out: &mut Vec<u8>,
+) -> Result<(), Memory>
+    requires { refusal.now.place ≤ length line.bytes.now }
+    ensures { OnOk result (out.new.items ≡ out.old.items ++ refusal_text name.now line.entry.number
+        line.entry.bytes.now refusal.now.at refusal.now.place refusal.now.following.runs.items
+        refusal.now.following.ends) }
+{
+    if refusal.following.runs.is_empty() && !refusal.following.ends {
+        return push_nothing(line.number, name, out);
+    }
+    push_lines(alloc, line, refusal, out)
+}
