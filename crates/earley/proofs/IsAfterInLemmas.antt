@@ -171,6 +171,22 @@ module _ (spots : List Spot) (places : ℕ) (filled : FilledSets) (are : AreInde
           (are.united call.from h.origin a.origin h.after.1))
           gains
 
+      pub rest_single : (new : Rows) → ((j k : ℕ) → Contains both j → Contains both k → j ≡ k)
+          → Gains spots (IsAfterLast spots call filled.sets.items both count) old new
+          → Gains spots (IsAfterIn spots call filled.sets.items row count) old new
+      rest_single new single last = gains_more spots (IsAfterIn spots call filled.sets.items both count)
+          (IsAfterIn spots call filled.sets.items row count) old new (λ a h. wider a h)
+          (λ a h. ⊎_elim (λ g. inr (last.kept a (own a (is_own a h g))))
+          (λ g. inl (record {
+            origin = h.origin;
+            has = (two h.origin).1
+                (h.has, subst (λ v. Contains v h.origin) (get_index filled.rest.items call.from rest is) g);
+            under = h.under;
+            after = h.after;
+          }))
+          (are.there call.from h.origin a.origin h.after.1))
+          (last_single spots call filled.sets.items both old new single last)
+
       pub rest_added : (mid new : Rows) → Gains spots (IsAfterLast spots call filled.sets.items both count) old mid
           → Gains spots (IsAfterIn spots call filled.sets.items both count) mid new
           → Gains spots (IsAfterIn spots call filled.sets.items row count) old new

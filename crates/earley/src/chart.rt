@@ -20,9 +20,9 @@ use std::alloc::Global;
 use std::marker::Model;
 
 // The sets of a line are kept item by item while they have at most this many items, or this many for each letter.
-const FEW_ITEMS: usize = 8192;
+const FEW_ITEMS: usize = 4096;
 
-const FEW_FOR_EACH_LETTER: usize = 64;
+const FEW_FOR_EACH_LETTER: usize = 32;
 
 /// The item sets of a line, seen as a list of lists of items, each a place with its origin.
 ///

@@ -143,7 +143,7 @@ fn next_set<L: Letter>(
 {
     let mut set = RowSet::new(alloc, table.spots.len())?;
     begin_rows(alloc, table, line, &filled.sets, &mut set)?;
-    fill_rows(alloc, table, line, filled, &mut set)?;
+    fill_rows(alloc, table, filled, &mut set)?;
     let kept = kept_rows(set)?;
     Ok(kept)
 }

@@ -1,5 +1,5 @@
 //! Fills a set of rows.
-ghost use Rattle.std.specs.Prelude.{◌≡◌, ◌↔◌, ◌<◌, ◌^◌, ℕ, true, IfOk, length, map, Contains};
+ghost use Rattle.std.specs.Prelude.{◌≡◌, ◌↔◌, ◌<◌, ◌^◌, ℕ, List, true, IfOk, length, Contains};
 ghost use Rattle.bitrows.specs.RowSets.{HasAt};
 ghost use Rattle.itemsets.specs.Closed.{HoldAll};
 ghost use Rattle.flatgrammar.specs.Blocks.{AreExact};
@@ -14,7 +14,6 @@ use crate::place_table::PlaceTable;
 use crate::row_index::FilledSets;
 use crate::row_step::work_row;
 use bitrows::{BitRow, RowSet};
-use letters::Letter;
 use ruletable::Memory;
 use std::alloc::Global;
 
@@ -29,9 +28,8 @@ pub(crate) fn row_of(alloc: Global, number: usize) -> Result<BitRow, Memory>
 }
 
 /// Works on what is pending at one place. Tells whether nothing was.
-fn work_once<L: Letter>(
+fn work_once(
     table: &PlaceTable,
-    line: &[L],
     filled: &FilledSets,
     here: &BitRow,
     set: &mut RowSet,
@@ -40,14 +38,17 @@ fn work_once<L: Letter>(
     requires exact { AreExact table.now.flat.value }
     requires indexed { AreIndexed (length table.now.spots.items) filled.now }
     requires here { (k : ℕ) → Contains here.now k ↔ (k ≡ length filled.now.sets.items) }
-    requires earlier { HoldAll (flat_of table.now.flat.value) (map L.number line.now)
-        (row_views table.now.spots.items filled.now.sets.items) }
-    requires begun { IsRowWorklist table.now.flat.value table.now.spots.items (map L.number line.now)
-        (row_views table.now.spots.items filled.now.sets.items) set.old }
+    requires begun { (line : List ℕ) × HoldAll (flat_of table.now.flat.value) line
+        (row_views table.now.spots.items filled.now.sets.items) × IsRowWorklist table.now.flat.value
+        table.now.spots.items line (row_views table.now.spots.items filled.now.sets.items) set.old }
+    ensures count { IfOk result (λ done. length set.new.all ≡ length table.now.spots.items) }
     ensures keeps { IfOk result (λ done. (a : code_item.Item) → IsRowItem table.now.spots.items set.old.all a
         → IsRowItem table.now.spots.items set.new.all a) }
-    ensures worklist { IfOk result (λ done. IsRowWorklist table.now.flat.value table.now.spots.items
-        (map L.number line.now) (row_views table.now.spots.items filled.now.sets.items) set.new) }
+    ensures worklist { IfOk result (λ done. (line : List ℕ) → HoldAll (flat_of table.now.flat.value) line
+        (row_views table.now.spots.items filled.now.sets.items) → IsRowWorklist table.now.flat.value
+        table.now.spots.items line (row_views table.now.spots.items filled.now.sets.items) set.old
+        → IsRowWorklist table.now.flat.value table.now.spots.items line
+        (row_views table.now.spots.items filled.now.sets.items) set.new) }
     ensures none { IfOk result (λ done. done ≡ true → (p k : ℕ) → HasAt set.new.pending p k → ⊥) }
 {
     let Some((place, row)) = set.take() else {
@@ -62,10 +63,9 @@ fn work_once<L: Letter>(
 
 /// Predicts, advances and completes until nothing can be added; each item is worked on once. `Memory` if an allocation
 /// fails.
-pub(crate) fn fill_rows<L: Letter>(
+pub(crate) fn fill_rows(
     alloc: Global,
     table: &PlaceTable,
-    line: &[L],
     filled: &FilledSets,
     set: &mut RowSet,
 ) -> Result<(), Memory>
@@ -73,20 +73,23 @@ pub(crate) fn fill_rows<L: Letter>(
     requires exact { AreExact table.now.flat.value }
     requires indexed { AreIndexed (length table.now.spots.items) filled.now }
     requires number { length filled.now.sets.items < 2 ^ 63 }
-    requires earlier { HoldAll (flat_of table.now.flat.value) (map L.number line.now)
-        (row_views table.now.spots.items filled.now.sets.items) }
-    requires begun { IsRowWorklist table.now.flat.value table.now.spots.items (map L.number line.now)
-        (row_views table.now.spots.items filled.now.sets.items) set.old }
+    requires begun { (line : List ℕ) × HoldAll (flat_of table.now.flat.value) line
+        (row_views table.now.spots.items filled.now.sets.items) × IsRowWorklist table.now.flat.value
+        table.now.spots.items line (row_views table.now.spots.items filled.now.sets.items) set.old }
+    ensures count { IfOk result (λ done. length set.new.all ≡ length table.now.spots.items) }
     ensures keeps { IfOk result (λ done. (a : code_item.Item) → IsRowItem table.now.spots.items set.old.all a
         → IsRowItem table.now.spots.items set.new.all a) }
-    ensures worklist { IfOk result (λ done. IsRowWorklist table.now.flat.value table.now.spots.items
-        (map L.number line.now) (row_views table.now.spots.items filled.now.sets.items) set.new) }
+    ensures worklist { IfOk result (λ done. (line : List ℕ) → HoldAll (flat_of table.now.flat.value) line
+        (row_views table.now.spots.items filled.now.sets.items) → IsRowWorklist table.now.flat.value
+        table.now.spots.items line (row_views table.now.spots.items filled.now.sets.items) set.old
+        → IsRowWorklist table.now.flat.value table.now.spots.items line
+        (row_views table.now.spots.items filled.now.sets.items) set.new) }
     ensures none { IfOk result (λ done. (p k : ℕ) → HasAt set.new.pending p k → ⊥) }
 {
     let here = row_of(alloc, filled.sets.len())?;
     // Each turn works on an item that is new, so there are far fewer.
     for _turn in 0..u64::MAX {
-        let done = work_once(table, line, filled, &here, set)?;
+        let done = work_once(table, filled, &here, set)?;
         if done {
             return Ok(());
         }

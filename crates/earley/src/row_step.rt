@@ -174,6 +174,16 @@ fn has_union(union: &[BitRow], call: Call, set: &RowSet) -> bool
     }
 }
 
+// Tells whether a row has one number at most.
+fn is_single(row: &BitRow) -> bool
+    ensures { IsTrue result → (j k : ℕ) → Contains row.now j → Contains row.now k → j ≡ k }
+{
+    match (row.next(0), row.last()) {
+        (Some(least), Some(last)) => least == last,
+        _ => false,
+    }
+}
+
 // Advances over a call the set of each number of a row, where those of the place's own sets are done. The set of the
 // greatest number comes first: in a dense line it mostly has what all of them have, and then the others add nothing.
 fn complete_rest(
@@ -195,21 +205,14 @@ fn complete_rest(
     };
     let both = row.common(rest)?;
     complete_last(&filled.sets, call, &both, set)?;
+    if is_single(&both) {
+        return Ok(());
+    }
     if has_union(&filled.union, call, set) {
         return Ok(());
     }
     complete_each(&filled.sets, call, &both, set)?;
     Ok(())
-}
-
-// Tells whether a row has one number at most.
-fn is_single(row: &BitRow) -> bool
-    ensures { IsTrue result → (j k : ℕ) → Contains row.now j → Contains row.now k → j ≡ k }
-{
-    match (row.next(0), row.last()) {
-        (Some(least), Some(last)) => least == last,
-        _ => false,
-    }
 }
 
 // Advances over a call the set of each number of a row.
@@ -225,10 +228,6 @@ fn complete_call(
     ensures { IfOk result (λ done. (spots : List code_spot) → Gains spots (IsAfterIn spots call filled.now.sets.items
         row.now (length filled.now.sets.items)) set.old set.new) }
 {
-    if is_single(row) {
-        complete_last(&filled.sets, call, row, set)?;
-        return Ok(());
-    }
     complete_own(&filled.own, call, row, set)?;
     complete_rest(places, filled, call, row, set)?;
     Ok(())

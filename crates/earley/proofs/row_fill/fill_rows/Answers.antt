@@ -2,14 +2,22 @@ use Rattle.std.proofs.Common.{◌≡◌, ◌↔◌, ℕ, Contains, ◌∙◌, su
 use Rattle.earley.proofs.row_fill.fill_rows.Goals as goal
 
 pub loop-turn-preserved : goal.loop-turn-preserved
-loop-turn-preserved g c = record {
+loop-turn-preserved c = record {
   keeps = λ a h. c.in_ok-done.ensures.keeps a (c.loop-turn.invariant.keeps a h);
-  worklist = c.in_ok-done.ensures.worklist;
+  worklist = λ line earlier begun. c.in_ok-done.ensures.worklist line earlier
+      (c.loop-turn.invariant.worklist line earlier begun);
 }
 
 pub returns-then-done-clause-none : goal.returns-then-done-clause-none
-returns-then-done-clause-none g c = c.in_ok-done.ensures.none c.if-done.true
+returns-then-done-clause-none c = c.in_ok-done.ensures.none c.if-done.true
+
+pub work_once-requires-clause-begun : goal.work_once-requires-clause-begun
+work_once-requires-clause-begun c = (
+  c.requires.begun.0,
+  c.requires.begun.1,
+  c.loop-turn.invariant.worklist c.requires.begun.0 c.requires.begun.1 c.requires.begun.2,
+)
 
 pub work_once-requires-clause-here : goal.work_once-requires-clause-here
-work_once-requires-clause-here g c = subst (λ n. (k : ℕ) → Contains c.in_ok-here.here k ↔ (k ≡ n))
+work_once-requires-clause-here c = subst (λ n. (k : ℕ) → Contains c.in_ok-here.here k ↔ (k ≡ n))
     (c.len.ensures ∙ c.args.filled.now.sets.ok.0) c.in_ok-here.ensures

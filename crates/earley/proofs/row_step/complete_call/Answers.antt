@@ -1,14 +1,8 @@
 use Rattle.std.proofs.Common.{◌<◌, [], length, sym, subst}
-use Rattle.earley.specs.RowIndexes.{IsAfterLast, IsAfterOwn}
+use Rattle.earley.specs.RowIndexes.{IsAfterOwn}
 use Rattle.earley.specs.RowItems.{Gains}
-use Rattle.earley.proofs.IsAfterInLemmas.{last_single, own_and_rest}
+use Rattle.earley.proofs.IsAfterInLemmas.{own_and_rest}
 use Rattle.earley.proofs.row_step.complete_call.Goals as goal
-
-pub returns-then-is_single : goal.returns-then-is_single
-returns-then-is_single c spots = last_single spots c.args.call c.args.filled.now.sets.items c.args.row.now
-    c.args.set.now c.complete_last.new.set (c.is_single.ensures c.if-is_single.true)
-    (subst (λ v. Gains spots (IsAfterLast spots c.args.call v c.args.row.now (length v)) c.args.set.now
-    c.complete_last.new.set) c.deref.ensures.value (c.in_ok-complete_last.ensures spots))
 
 pub complete_rest-requires-clause-after : goal.complete_rest-requires-clause-after
 complete_rest-requires-clause-after c = subst (λ v. c.args.call.after < v)
@@ -16,10 +10,10 @@ complete_rest-requires-clause-after c = subst (λ v. c.args.call.after < v)
 
 pub complete_rest-requires-clause-own : goal.complete_rest-requires-clause-own
 complete_rest-requires-clause-own c spots = (subst (λ v. Gains spots (IsAfterOwn spots c.args.call v c.args.row.now)
-    c.args.set.now c.complete_own.new.set) c.deref-2.ensures.value (c.in_ok-complete_own.ensures spots)).all
+    c.args.set.now c.complete_own.new.set) c.deref.ensures.value (c.in_ok-complete_own.ensures spots)).all
 
 pub returns : goal.returns
 returns c spots = own_and_rest spots c.args.places c.args.filled.now c.requires.indexed c.args.call c.args.row.now
     c.args.set.now c.complete_own.new.set c.complete_rest.new.set
     (subst (λ v. Gains spots (IsAfterOwn spots c.args.call v c.args.row.now) c.args.set.now c.complete_own.new.set)
-    c.deref-2.ensures.value (c.in_ok-complete_own.ensures spots)) (c.in_ok-complete_rest.ensures spots)
+    c.deref.ensures.value (c.in_ok-complete_own.ensures spots)) (c.in_ok-complete_rest.ensures spots)

@@ -3,7 +3,7 @@ use Rattle.std.proofs.Common.{◌<◌, ℕ, [], length, sym, subst}
 use Rattle.bitrows.specs.RowSets.{HasAt}
 use Rattle.earley.specs.RowIndexes.{IsAfterIn, IsAfterLast}
 use Rattle.earley.specs.RowItems.{Gains}
-use Rattle.earley.proofs.IsAfterInLemmas.{rest_none, rest_covered, rest_added}
+use Rattle.earley.proofs.IsAfterInLemmas.{rest_none, rest_covered, rest_single, rest_added}
 use Rattle.earley.proofs.RowStepLemmas.{found_at, missing_at}
 use Rattle.earley.proofs.row_step.complete_rest.Goals as goal
 
@@ -12,6 +12,16 @@ returns-in_default c spots =
     let look = rw c.deref.ensures.value at c.in_default.ensures.lookup in
     rest_none spots c.args.places c.args.filled.now c.requires.indexed c.args.call c.args.row.now c.args.set.now
     (c.requires.own spots) (missing_at c.args.filled.now.rest.items c.args.call.from look.0)
+
+pub returns-then-is_single : goal.returns-then-is_single
+returns-then-is_single c spots =
+    let look = rw c.deref.ensures.value at c.in-Some.ensures.lookup in
+    let last = subst (λ v. Gains spots (IsAfterLast spots c.args.call v c.in_ok-both.both (length v)) c.args.set.now
+    c.complete_last.new.set) c.deref-2.ensures.value (c.in_ok-complete_last.ensures spots) in
+    rest_single spots c.args.places c.args.filled.now c.requires.indexed c.args.call c.args.row.now c.args.set.now
+    (c.requires.own spots) c.in-Some.rest.now c.in_ok-both.both
+    (found_at c.args.filled.now.rest.items c.args.call.from c.in-Some.rest.now look.0 look.1) c.in_ok-both.ensures
+    c.complete_last.new.set (c.is_single.ensures c.if-is_single.true) last
 
 pub has_union-requires : goal.has_union-requires
 has_union-requires c = subst (λ v. c.args.call.after < v) (sym (c.in_ok-complete_last.ensures []).count)
