@@ -30,10 +30,10 @@ nothing_text number name = codes "line " ++ (decimal number ++ (codes ": rule '"
     ++ codes "' derives nothing\n")))
 
 -- what is expected at a place of a line of bytes, and a picture of the place
-abbrev pub expected_lines : ℕ → List ℕ → RefusedAt → ℕ → List LetterRun → Bool → List ℕ
-expected_lines number line at place runs ends = at_text number at ++ (expected_text runs ends ++ (codes "\n"
+abbrev pub told_expected : ℕ → List ℕ → RefusedAt → ℕ → List LetterRun → Bool → List ℕ
+told_expected number line at place runs ends = at_text number at ++ (expected_text runs ends ++ (codes "\n"
     ++ picture line place))
 
 abbrev pub refusal_text : List ℕ → ℕ → List ℕ → RefusedAt → ℕ → List LetterRun → Bool → List ℕ
 refusal_text name number line at place runs ends = if is_none runs ends then nothing_text number name
-    else expected_lines number line at place runs ends
+    else told_expected number line at place runs ends

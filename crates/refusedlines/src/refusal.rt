@@ -1,6 +1,6 @@
 //! The lines that explain a refused line.
 ghost use Rattle.std.specs.Prelude.{◌≡◌, ◌+◌, ◌<◌, ◌≤◌, ◌^◌, ◌++◌, codes, decimal, length, OnOk};
-ghost use Rattle.refusedlines.specs.RefusedText.{at_text, expected_lines, nothing_text, refused_at as the_place};
+ghost use Rattle.refusedlines.specs.RefusedText.{at_text, told_expected, nothing_text, refused_at as the_place};
 ghost use Rattle.refusedlines.specs.RefusedText.{refusal_text};
 
 use crate::following::Following;
@@ -96,7 +96,7 @@ fn push_lines(
     out: &mut Vec<u8>,
 ) -> Result<(), Memory>
     requires { refusal.now.place ≤ length line.bytes.now }
-    ensures { OnOk result (out.new.items ≡ out.old.items ++ expected_lines line.entry.number line.entry.bytes.now
+    ensures { OnOk result (out.new.items ≡ out.old.items ++ told_expected line.entry.number line.entry.bytes.now
         refusal.now.at refusal.now.place refusal.now.following.runs.items refusal.now.following.ends) }
 {
     push_at(line.number, refusal.at, out)?;
