@@ -175,7 +175,7 @@ module _ (spots : List Spot) (places : ℕ) (filled : FilledSets) (are : AreInde
           → Gains spots (IsAfterLast spots call filled.sets.items both count) old new
           → Gains spots (IsAfterIn spots call filled.sets.items row count) old new
       rest_single new single last = gains_more spots (IsAfterIn spots call filled.sets.items both count)
-          (IsAfterIn spots call filled.sets.items row count) old new (λ a h. wider a h)
+          (IsAfterIn spots call filled.sets.items row count) old new (λ a h. after_in a h)
           (λ a h. ⊎_elim (λ g. inr (last.kept a (own a (is_own a h g))))
           (λ g. inl (record {
             origin = h.origin;
