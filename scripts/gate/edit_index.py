@@ -39,7 +39,8 @@ EXEMPT = (
     "packrat: Packrat.found",
     # It passes on what `noteplaces::explain_note` returns, whose clause equates.
     "abnfexplain: notes.explain_abnf_note",
-    # It does so too, and adds the line that `first_loop` finds, which has an edit.
+    # It does so too, and adds the line that `first_loop` finds, which has an edit, or those of `push_steps`, whose
+    # clause equates.
     "pegexplain: notes.explain_peg_note",
     # It passes on what `nullable` marks, and `need` has an edit.
     "gramcheck: nullable.nullable_rules",

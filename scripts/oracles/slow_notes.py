@@ -9,8 +9,9 @@ import slow_peg
 # The parts of messages round the name, and how a note of the kind is explained.
 KINDS = [("rule '", "' redefined", "redefined"), ("rule '", "' extended before it is defined", "early"),
          ("rule '", "' used but not defined", "undefined"), ("prose in rule '", "'", "prose"),
-         ("rule '", "' defined but not used", "unused"), ("possible infinite loop in rule '", "'", "loop")]
-SHOWN, AGAIN, CHAIN = 60, 8, 8
+         ("rule '", "' defined but not used", "unused"), ("possible infinite loop in rule '", "'", "loop"),
+         ("possible infinite left recursion in rule '", "'", "left")]
+SHOWN, AGAIN, CHAIN, STEPS, WAYS = 60, 8, 8, 8, 8
 
 
 def cut(name):
@@ -120,14 +121,53 @@ class PegPlaces(Places):
     def __init__(self, text, tokens, grammar):
         super().__init__(text, tokens, ("Arrow",), rb"\r\n|\r|\n", lambda name: name)
         self.rules, _ = slow_peg.first_bodies(grammar)
-        self.nullable = slow_peg.nullable_rules(self.rules)
+        self.nullable, self.ways = slow_peg.nullable_rules(self.rules), 0
 
     def loop(self, name):
         line, e = next((line, e) for line, e in zip(self.repeats[name], repeats(self.rules[name.decode()]))
                        if slow_peg.is_nullable(e[1], self.nullable))
         return f"  line {line}: {cut(canonical(e).encode())} repeats what may take nothing\n"
 
+    def uses(self, e, behind):
+        """Yields the names in an expression, each with the members that left steps skip, if they lead to it."""
+        if e[0] == "name":
+            yield e[1], behind
+        for part in slow_peg.parts(e):
+            yield from self.uses(part, behind)
+            if e[0] == "seq" and behind is not None:
+                behind = behind + [part] if slow_peg.is_nullable(part, self.nullable) else None
+
+    def way(self, rule):
+        """Returns the rules on the way from a left-recursive one back to itself."""
+        steps = {it: [name for name, behind in self.uses(e, []) if behind is not None] for it, e in self.rules.items()}
+        far, depth = {rule: 0}, 0
+        while depth in far.values():
+            for used in [used for it in self.rules if far.get(it) == depth for used in steps[it] if used in self.rules]:
+                far.setdefault(used, depth + 1)
+            depth += 1
+        way = [min((it for it in self.rules if it in far and rule in steps[it]), key=far.get)]
+        while far[way[0]]:
+            way.insert(0, next(it for it in self.rules if far.get(it) == far[way[0]] - 1 and way[0] in steps[it]))
+        return way
+
+    def step(self, rule, to):
+        uses = [(*it, line) for it, (_, _, line) in zip(self.uses(self.rules[rule], []), self.bodies[rule.encode()])]
+        behind, line = next((behind, line) for name, behind, line in uses if name == to and behind is not None)
+        skipped = " ".join(canonical(it, "seq") for it in behind)
+        told = " behind " + cut(skipped.encode()) if behind else ""
+        return f"  line {line}: '{cut(rule.encode())}' begins with '{cut(to.encode())}'{told}\n"
+
+    def left(self, name):
+        self.ways += 1
+        if self.ways > WAYS:
+            return self.definitions("unused", name)
+        way = self.way(name.decode())
+        told = "".join(self.step(*it) for it in list(zip(way, way[1:] + way[:1]))[:STEPS])
+        return told + (f"  and {len(way) - STEPS} more\n" if len(way) > STEPS else "")
+
     def lines_on(self, kind, name, start):
+        if kind == "left":
+            return self.left(name)
         return self.loop(name) if kind == "loop" else super().lines_on(kind, name, start)
 
 

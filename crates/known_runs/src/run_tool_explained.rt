@@ -244,7 +244,7 @@ fn a_grammar_too_long_is_explained(rt: HostRuntime) -> Result<(), Fail> {
 }
 
 // What is told of the notes on a grammar that is refused.
-static NOTED: [ExplainRow; 9] = [
+static NOTED: [ExplainRow; 12] = [
     ExplainRow {
         program: Program::Pegi,
         grammar: b"sum <- term ('+' term)*\r\nterm <- [0-9]+\rname <- .\n# a comment\nterm <- name",
@@ -269,6 +269,64 @@ possible infinite loop in rule 'S'
   line 3: (T \"x\"*)+ repeats what may take nothing
 possible infinite loop in rule 'U'
   line 10: (\"c\"*)+ repeats what may take nothing
+",
+    },
+    // the steps of a way back, each behind the members before its use
+    ExplainRow {
+        program: Program::Pegi,
+        grammar: b"S <- A \"x\"\nA <- sp? S / B*\nB <- \"b\"?\nB <- C\n",
+        told: b"rule 'B' redefined
+  line 3: 'B' is defined
+  line 4: 'B' is defined again
+rule 'sp' used but not defined
+  line 2: used in rule 'A'
+possible infinite left recursion in rule 'S'
+  line 1: 'S' begins with 'A'
+  line 2: 'A' begins with 'S' behind sp?
+possible infinite left recursion in rule 'A'
+  line 2: 'A' begins with 'S' behind sp?
+  line 1: 'S' begins with 'A'
+possible infinite loop in rule 'A'
+  line 2: B* repeats what may take nothing
+",
+    },
+    // of two ways of two steps that by the rule that stands first
+    ExplainRow {
+        program: Program::Pegi,
+        grammar: b"S <- C\n / B\nB <- S 'b'\nC <- S\n",
+        told: b"possible infinite left recursion in rule 'S'
+  line 2: 'S' begins with 'B'
+  line 3: 'B' begins with 'S'
+possible infinite left recursion in rule 'B'
+  line 3: 'B' begins with 'S'
+  line 2: 'S' begins with 'B'
+possible infinite left recursion in rule 'C'
+  line 4: 'C' begins with 'S'
+  line 1: 'S' begins with 'C'
+",
+    },
+    // of eight left-recursive rules the ways back, of a ninth where it is defined
+    ExplainRow {
+        program: Program::Pegi,
+        grammar: b"A<-A B N C D E F G H I\nB<-B\nN<-'n'\nC<-C\nD<-D\nE<-E\nF<-F\nG<-G\nH<-H\nI<-I\n",
+        told: b"possible infinite left recursion in rule 'A'
+  line 1: 'A' begins with 'A'
+possible infinite left recursion in rule 'B'
+  line 2: 'B' begins with 'B'
+possible infinite left recursion in rule 'C'
+  line 4: 'C' begins with 'C'
+possible infinite left recursion in rule 'D'
+  line 5: 'D' begins with 'D'
+possible infinite left recursion in rule 'E'
+  line 6: 'E' begins with 'E'
+possible infinite left recursion in rule 'F'
+  line 7: 'F' begins with 'F'
+possible infinite left recursion in rule 'G'
+  line 8: 'G' begins with 'G'
+possible infinite left recursion in rule 'H'
+  line 9: 'H' begins with 'H'
+possible infinite left recursion in rule 'I'
+  line 10: 'I' is defined
 ",
     },
     // what adds to a rule stands, also in another spelling, and a rule may begin so
@@ -409,8 +467,11 @@ fn a_start_rule_that_is_not_defined_is_explained(rt: HostRuntime) {
     settings.explain = true;
     let grammar = b"S <- S?\n / T 'a'\n";
     let ran = run_over(rt.alloc(), Program::Pegi, grammar, &settings, &ends);
-    let told =
-        b"rule 'T' used but not defined\n  given by -s\npossible infinite left recursion in rule 'S'\n";
+    let told = b"rule 'T' used but not defined
+  given by -s
+possible infinite left recursion in rule 'S'
+  line 1: 'S' begins with 'S'
+";
     assert!(rt; ran.is(b"", told, Status::Refused));
 }
 

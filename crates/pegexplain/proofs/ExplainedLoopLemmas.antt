@@ -26,6 +26,7 @@ use Rattle.pegexplain.specs.NullTests.{IsLoopBy, null_mark_of}
 use Rattle.pegexplain.specs.PegLoops.{IsFirstLoop, IsLoopLineIf, IsLoopOf, RepeatAt, repeat_told, repeats_in}
 use Rattle.pegexplain.specs.PegNotes.{ArePegPlaces, ExplainsNote, IsLineBehind, IsLoopTold, marked_lines, sign_of}
 use Rattle.pegexplain.specs.declared.places.PegPlaces.{PegPlaces}
+use Rattle.pegexplain.proofs.LeftNotesLemmas.{RoundsAreOne, left-told-one}
 use Rattle.pegexplain.proofs.NullTestsLemmas.{body-none, body-some, loop-told}
 
 module _ (rules : List Rule) (repeats : List Pattern) where
@@ -58,7 +59,8 @@ LinesAreOne = (text : List ℕ) (start : Option (List ℕ)) (note : Said) (a b :
     → IsNoteExplained White First is_end sign_of Any Exact text start note b → a ≡ b
 
 module _ (listing : (text : List ℕ) (a b : List Tok) → AreTokens (length text) text a → AreTokens (length text) text b
-    → a ≡ b) (reading : (text : List ℕ) (a b : List Rule) → Reads text a → Reads text b → a ≡ b) (text : List ℕ) where
+    → a ≡ b) (reading : (text : List ℕ) (a b : List Rule) → Reads text a → Reads text b → a ≡ b)
+    (rounds : RoundsAreOne) (text : List ℕ) where
   told-one : (name a b : List ℕ) → IsLoopTold text name a → IsLoopTold text name b → a ≡ b
   told-one name a b g h =
       let tokens = listing text h.tokens g.tokens h.are_tokens g.are_tokens in
@@ -76,7 +78,7 @@ module _ (listing : (text : List ℕ) (a b : List Tok) → AreTokens (length tex
   behind-one Undefined name a b g h = g ∙ sym h
   behind-one Prose name a b g h = g ∙ sym h
   behind-one Unused name a b g h = g ∙ sym h
-  behind-one LeftRecursion name a b g h = g ∙ sym h
+  behind-one LeftRecursion name a b g h = left-told-one listing reading rounds text name a b g h
   behind-one Loop name a b g h = told-one name a b g h
 
   pub peg-explained-one : LinesAreOne → (start : Option (List ℕ)) (note : Said) (a b : List ℕ)

@@ -8,3 +8,6 @@ pub mod ExplainedLoopLemmas
 mod RepeatsLemmas
 mod LeftRowsLemmas
 mod LeftStepLineLemmas
+mod LeftSameLemmas
+mod LeftWithinLemmas
+mod LeftNotesLemmas

@@ -1,6 +1,7 @@
 pub mod FoundRepeats
 pub mod FoundUses
 pub mod LeftLines
+pub mod LeftNotes
 pub mod LeftUses
 pub mod NullTests
 pub mod PegDecisions

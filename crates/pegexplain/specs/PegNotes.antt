@@ -1,13 +1,13 @@
 -- What explains a note on the grammar of a text.
-use Rattle.std.specs.Prelude.{◌≡◌, ℕ, List, [], ◌++◌, Option, length, map}
+use Rattle.std.specs.Prelude.{◌≡◌, ℕ, Bool, List, [], ◌++◌, Option, None, length, map}
 use Rattle.noteplaces.specs.DefinitionHeads.{sign_at}
-use Rattle.noteplaces.specs.ExplainedNotes.{ArePlaces, IsNoteExplained}
-use Rattle.noteplaces.specs.RepeatLines.{repeats_told}
+use Rattle.noteplaces.specs.ExplainedNotes.{ArePlaces, IsNoteExplained, note_lines}
+use Rattle.noteplaces.specs.RepeatLines.{repeats_told, uses_told}
 use Rattle.noteplaces.specs.declared.sign.Sign.{Sign}
 use Rattle.noteplaces.specs.declared.sign.Sign.TheVariants.{Name, Defines, Repeats, Other}
-use Rattle.pegread.specs.Definitions.{firsts}
+use Rattle.pegread.specs.Definitions.{firsts, id_in}
 use Rattle.pegread.specs.Kinds.{is_end}
-use Rattle.pegread.specs.Pattern.{Rule, body_of}
+use Rattle.pegread.specs.Pattern.{Pattern, Rule, body_of}
 use Rattle.pegread.specs.PegViews.{rules_of}
 use Rattle.pegread.specs.Reading.{Reads}
 use Rattle.pegread.specs.Slices.{White, First}
@@ -15,14 +15,15 @@ use Rattle.pegread.specs.Tokens.{Tok, AreTokens}
 use Rattle.pegread.specs.declared.expr.Expr.{Expr}
 use Rattle.pegread.specs.declared.kind.Kind.{Kind}
 use Rattle.pegread.specs.declared.kind.Kind.TheVariants.{Ident, Arrow, Star, Plus}
-use Rattle.ruletable.specs.Notes.{Said}
+use Rattle.ruletable.specs.Notes.{Said, said}
 use Rattle.ruletable.specs.Rules as table
 use Rattle.ruletable.specs.declared.lines.LineRule.TheVariants.{Any}
 use Rattle.ruletable.specs.declared.note.NoteKind.{NoteKind}
-use Rattle.ruletable.specs.declared.note.NoteKind.TheVariants.{Loop}
+use Rattle.ruletable.specs.declared.note.NoteKind.TheVariants.{LeftRecursion, Loop, Unused}
 use Rattle.ruletable.specs.declared.table.NameCase.TheVariants.{Exact}
 use Rattle.gramcheck.specs.GrammarNotes.{AreMarks}
-use Rattle.gramcheck.specs.Left.{Nullable}
+use Rattle.gramcheck.specs.Left.{IsLeftRecursive, Nullable}
+use Rattle.pegexplain.specs.LeftNotes.{AreLeftLines, TellsNullable}
 use Rattle.pegexplain.specs.PegLoops.{IsLoopLineIf}
 use Rattle.pegexplain.specs.declared.places.PegPlaces.{PegPlaces}
 
@@ -48,8 +49,30 @@ pub record IsLoopTold (text : List ℕ) (name line : List ℕ) : Type 0 where
   pub is : IsLoopLineIf (firsts [] definitions) (marked_lines text tokens name)
       (body_of (firsts [] definitions) name) line
 
--- it stands behind notes on rules that repeat what may take nothing
+-- on which lines the names in the first definition of a name stand
+abbrev pub named_lines : List ℕ → List Tok → List ℕ → List ℕ
+named_lines text tokens name = uses_told Any Exact text (map (sign_at sign_of) tokens) name
+
+-- where the rule of a name is defined, as behind a note on a rule that is not used
+abbrev pub defined_lines : List ℕ → List Tok → List ℕ → List ℕ
+defined_lines text tokens name = note_lines Any Exact text (map (sign_at sign_of) tokens) None (said Unused name)
+
+-- the steps of the way from the left-recursive rule of that name back to itself, if it is among the first ones
+pub record IsLeftTold (text : List ℕ) (name line : List ℕ) : Type 0 where
+  pub tokens : List Tok
+  pub are_tokens : AreTokens (length text) text tokens
+  pub definitions : List Rule
+  pub reads : Reads text definitions
+  pub null : Pattern → Bool
+  pub tells : TellsNullable (firsts [] definitions) null
+  pub recursive : List Bool
+  pub are_recursive : AreMarks (IsLeftRecursive (firsts [] definitions)) (firsts [] definitions) recursive
+  pub is : AreLeftLines (firsts [] definitions) null (named_lines text tokens) (defined_lines text tokens name)
+      recursive (id_in (firsts [] definitions) name) line
+
+-- they stand behind notes on left-recursive rules, and on rules that repeat what may take nothing
 abbrev pub IsLineBehind : List ℕ → NoteKind → List ℕ → List ℕ → Type 0
+IsLineBehind text LeftRecursion name line = IsLeftTold text name line
 IsLineBehind text Loop name line = IsLoopTold text name line
 IsLineBehind text _ name line = line ≡ []
 
@@ -68,8 +91,10 @@ pub record IsPegRead (text : List ℕ) (rules : table.Rules Expr) : Type 0 where
   pub exact : rules.names ≡ Exact
   pub rules_are : rules_of rules ≡ firsts [] definitions
 
--- the code's places are those of a text, with its rules, and marks of those that may take nothing
+-- the code's places are those of a text, with its rules, and marks of those that may take nothing, and of those that
+-- are left-recursive
 pub record ArePegPlaces (text : List ℕ) (found : PegPlaces) : Type 0 where
   pub places : ArePlaces White First is_end sign_of Any Exact text found.places
   pub rules : IsPegRead text found.rules
   pub marks : AreMarks (λ rule. Nullable (rules_of found.rules) rule.body) (rules_of found.rules) found.nulls.items
+  pub recursive : AreMarks (IsLeftRecursive (rules_of found.rules)) (rules_of found.rules) found.recursive.items

@@ -3,6 +3,7 @@ ghost use Rattle.std.specs.Prelude.{◌≡◌, ◌++◌, ℕ, List, Option, IfOk
 ghost use Rattle.ruletable.specs.Notes.{Said, said_of};
 ghost use Rattle.pegexplain.specs.PegNotes.{ArePegPlaces, ExplainsNote, IsLineBehind, IsLoopTold};
 
+use crate::left_notes::push_left;
 use crate::loops::push_first_loop;
 use crate::places::PegPlaces;
 use lexer::one_list;
@@ -10,6 +11,7 @@ use noteplaces::{explain_note, repeat_lines};
 use pegread::{Kind, one_reading};
 use ruletable::{Memory, Note, NoteKind};
 use std::alloc::Global;
+use stepchains::one_way_back;
 
 // Adds the line of the first repetition of what may take nothing in the rule of a name.
 fn push_loop(
@@ -47,6 +49,10 @@ fn push_behind(
         × IsLineBehind text note.now.kind note.now.name.items line × (out.new.items ≡ out.old.items ++ line)) }
 {
     match note.kind {
+        NoteKind::LeftRecursion => {
+            push_left(alloc, out, places, note.name.as_slice())?;
+            Ok(())
+        }
         NoteKind::Loop => {
             push_loop(alloc, out, places, note.name.as_slice())?;
             Ok(())
@@ -56,8 +62,9 @@ fn push_behind(
 }
 
 /// Returns the lines that explain a note on a grammar, where a name may be given for the start rule: where the note's
-/// rule is first defined, and where it is defined again; the use by which a name is noted that no rule has; what a rule
-/// repeats that may take nothing. There are none for notes of other kinds.
+/// rule is first defined, and where it is defined again; the use by which a name is noted that no rule has; the steps
+/// by which a left-recursive rule comes back to itself, or where it is defined if `MAX_WAYS` such rules stand before
+/// it; what a rule repeats that may take nothing. There are none for notes of other kinds.
 ///
 /// # Errors
 /// `Memory` if an allocation fails.
@@ -82,4 +89,5 @@ pub fn one_note_explanation()
 {
     one_list::<Kind>();
     one_reading();
+    one_way_back();
 }

@@ -7,8 +7,8 @@ ghost use Rattle.pegexplain.specs.NullTests.{some_nullable_by};
 use pegread::Expr;
 use ruletable::{Memory, RuleTable};
 
-// The mark of the rule with an id.
-fn mark_at(marks: &[bool], id: Option<usize>) -> bool
+/// Returns the mark of the rule with an id; none is not marked.
+pub(crate) fn mark_at(marks: &[bool], id: Option<usize>) -> bool
     ensures { result ≡ mark_with marks.now id }
 {
     match id {

@@ -2,7 +2,7 @@
 ghost use Rattle.std.specs.Prelude.{◌≡◌, IfOk};
 ghost use Rattle.pegexplain.specs.PegNotes.{ArePegPlaces, IsPegRead, sign_of as the_sign};
 
-use gramcheck::nullable_rules;
+use gramcheck::{left_recursive_rules, nullable_rules};
 use noteplaces::{Places, Sign, Signs, places_of};
 use pegread::{Expr, Kind, read_peg};
 use ruletable::{LineRule, Memory, NameCase, RuleTable};
@@ -33,6 +33,8 @@ pub struct PegPlaces {
     pub rules: RuleTable<Expr>,
     /// Of each rule whether its body may take nothing.
     pub nulls: Vec<bool>,
+    /// Of each rule whether it is left-recursive.
+    pub recursive: Vec<bool>,
 }
 
 // Returns the rules of a text. A text whose grammar has notes reads, so that it is memory that fails here.
@@ -55,9 +57,11 @@ pub fn peg_places(alloc: Global, text: &[u8]) -> Result<PegPlaces, Memory>
     let places = places_of::<Kind, PegSigns>(alloc, text, LineRule::Any, NameCase::Exact)?;
     let rules = rules_in(alloc, text)?;
     let nulls = nullable_rules(alloc, &rules)?;
+    let recursive = left_recursive_rules(alloc, &rules)?;
     Ok(PegPlaces {
         places,
         rules,
         nulls,
+        recursive,
     })
 }

@@ -1,0 +1,38 @@
+use Rattle.std.proofs.Common.{None, [], sym, ◌∙◌, append-nil, refl}
+use Rattle.noteplaces.specs.ExplainedNotes.{told_by}
+use Rattle.noteplaces.specs.RepeatLines.{uses_by}
+use Rattle.pegread.specs.PegViews.{rules_of}
+use Rattle.ruletable.specs.Notes.{said}
+use Rattle.ruletable.specs.declared.note.NoteKind.TheVariants.{Unused}
+use Rattle.pegexplain.specs.LeftLines.{way_told}
+use Rattle.pegexplain.specs.NullTests.{null_mark_of, nullable_by}
+use Rattle.pegexplain.proofs.LeftNotesLemmas.{left-told, told-defined, told-way}
+use Rattle.pegexplain.proofs.left_notes.push_left.Goals as goal
+
+pub returns-in_default : goal.returns-in_default
+returns-in_default c = λ text are. (
+  [],
+  left-told text c.args.places.now are c.args.name.now [] None (sym c.in_ok-id.ensures.found ∙ c.in_default.is) refl,
+  sym (append-nil c.args.out.now.items),
+)
+
+pub returns-in_ok-push_way : goal.returns-in_ok-push_way
+returns-in_ok-push_way c = λ text are.
+    let w = c.in_ok-push_way.ensures in (
+      way_told (rules_of c.args.places.now.rules)
+          (nullable_by (null_mark_of c.args.places.now.rules c.args.places.now.nulls.items))
+          (uses_by c.args.places.now.places) c.in-Some.id w.0,
+      told-way text c.args.places.now are c.args.name.now _ c.in-Some.id w.0
+          (sym c.in_ok-id.ensures.found ∙ c.in-Some.is)
+          (let early = c.if-is_early.ensures in sym (rw c.deref.ensures.value at early)) w.1 refl,
+      w.2,
+    )
+
+pub returns-in_ok-push_definition : goal.returns-in_ok-push_definition
+returns-in_ok-push_definition c = λ text are. (
+  told_by c.args.places.now.places None (said Unused c.args.name.now),
+  told-defined text c.args.places.now are c.args.name.now _ c.in-Some.id
+      (sym c.in_ok-id.ensures.found ∙ c.in-Some.is)
+      (let late = c.if-is_early.ensures in sym (rw c.deref.ensures.value at late)) refl,
+  c.in_ok-push_definition.ensures,
+)

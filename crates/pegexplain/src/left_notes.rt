@@ -1,0 +1,109 @@
+//! What stands behind a note on a left-recursive rule.
+ghost use Rattle.std.specs.Prelude.{◌≡◌, ◌<◌, ◌++◌, ℕ, List, Option, None, map, length, OnOk, option_map};
+ghost use Rattle.noteplaces.specs.ExplainedNotes.{told_by};
+ghost use Rattle.noteplaces.specs.RepeatLines.{uses_by};
+ghost use Rattle.pegread.specs.PegViews.{pattern_of, rules_of};
+ghost use Rattle.ruletable.specs.Notes.{said};
+ghost use Rattle.ruletable.specs.Rules.{find_in};
+ghost use Rattle.ruletable.specs.declared.note.NoteKind.TheVariants.{Unused};
+ghost use Rattle.stepchains.specs.ShortChains.{IsRoundIfAny};
+ghost use Rattle.pegexplain.specs.LeftLines.{way_told};
+ghost use Rattle.pegexplain.specs.LeftNotes.{is_early as among_the_first, set_before};
+ghost use Rattle.pegexplain.specs.LeftUses.{left_row};
+ghost use Rattle.pegexplain.specs.NullTests.{null_mark_of, nullable_by};
+ghost use Rattle.pegexplain.specs.PegNotes.{ArePegPlaces, IsLeftTold};
+
+use crate::left_lines::{MAX_STEPS, push_steps};
+use crate::left_uses::left_rows;
+use crate::nulls::mark_at;
+use crate::places::PegPlaces;
+use crate::ways::left_way;
+use noteplaces::explain_note;
+use ruletable::{Memory, Note, NoteKind};
+use std::alloc::Global;
+
+/// Of how many left-recursive rules the steps are told.
+pub const MAX_WAYS: usize = 8;
+
+// How many marks are set before a place.
+fn marked_before(marks: &[bool], place: usize) -> usize
+    ensures { result ≡ set_before marks.now place }
+{
+    let mut count = 0;
+    for at in 0..place {
+        if mark_at(marks, Some(at)) {
+            count += 1;
+        }
+    }
+    count
+}
+
+// Whether a rule is among the first left-recursive ones.
+fn is_early(marks: &[bool], id: usize) -> bool
+    ensures { result ≡ among_the_first marks.now id }
+{
+    marked_before(marks, id) < MAX_WAYS
+}
+
+// Adds where a rule is defined.
+fn push_definition(
+    alloc: Global,
+    out: &mut Vec<u8>,
+    places: &PegPlaces,
+    name: &[u8],
+) -> Result<(), Memory>
+    ensures { OnOk result (out.new.items ≡ out.old.items ++ told_by places.now.places None (said Unused name.now)) }
+{
+    let name = Vec::from_slice(alloc, name)?;
+    let note = Note {
+        kind: NoteKind::Unused,
+        name,
+    };
+    let lines = explain_note(alloc, &places.places, None, &note)?;
+    out.extend_from_slice(&lines)?;
+    Ok(())
+}
+
+// Adds the steps of the way from a rule back to itself.
+fn push_way(alloc: Global, out: &mut Vec<u8>, places: &PegPlaces, id: usize) -> Result<(), Memory>
+    requires { id < length places.now.rules.rules }
+    ensures { OnOk result ((chain : Option (List ℕ))
+        × IsRoundIfAny (map (λ rule. left_row (find_in places.now.rules)
+        (nullable_by (null_mark_of places.now.rules places.now.nulls.items)) (pattern_of rule.body))
+        places.now.rules.rules) id chain
+        × (out.new.items ≡ out.old.items ++ way_told (rules_of places.now.rules)
+        (nullable_by (null_mark_of places.now.rules places.now.nulls.items)) (uses_by places.now.places) id chain)) }
+{
+    let rows = left_rows(alloc, &places.rules, &places.nulls)?;
+    match left_way(alloc, &rows, id)? {
+        Some(chain) => {
+            push_steps(alloc, out, places, id, MAX_STEPS, &chain)?;
+            Ok(())
+        }
+        None => Ok(()),
+    }
+}
+
+/// Adds what stands behind a note on the left-recursive rule of a name: the steps of the way back to itself, or where
+/// it is defined if `MAX_WAYS` such rules stand before it.
+///
+/// `Memory` if an allocation fails.
+pub(crate) fn push_left(
+    alloc: Global,
+    out: &mut Vec<u8>,
+    places: &PegPlaces,
+    name: &[u8],
+) -> Result<(), Memory>
+    ensures { OnOk result ((text : List ℕ) → ArePegPlaces text places.now → (line : List ℕ)
+        × IsLeftTold text name.now line × (out.new.items ≡ out.old.items ++ line)) }
+{
+    let Some(id) = places.rules.find(name)? else {
+        return Ok(());
+    };
+    if is_early(&places.recursive, id) {
+        push_way(alloc, out, places, id)?;
+    } else {
+        push_definition(alloc, out, places, name)?;
+    }
+    Ok(())
+}
