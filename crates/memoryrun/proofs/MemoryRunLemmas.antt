@@ -5,7 +5,7 @@ use Rattle.std.proofs.Common.{inl, inr}
 use Rattle.std.specs.Prelude.{IfSome}
 use Rattle.std.specs.Io.KnownBytes.{Appends, Consumes}
 use Rattle.memoryrun.specs.MemoryRun.{IsMemoryRun}
-use Rattle.toolrun.specs.Input.{Input, bounded}
+use Rattle.toolrun.specs.Input.{Input}
 use Rattle.toolrun.specs.Reply.{Reply}
 use Rattle.toolrun.specs.Right.{IsRight}
 

@@ -1,6 +1,6 @@
 -- A task and the end of its run give what the plan states.
 -- Serves: run_plan
-use Rattle.std.proofs.Common.{◌≡◌, ℕ, Bool, true, false, Option, Some, List, [], refl, sym, ◌∙◌, arith, ◌<◌, ◌≤◌, inl}
+use Rattle.std.proofs.Common.{◌≡◌, ℕ, Bool, true, false, Option, Some, List, [], sym, ◌∙◌, arith, ◌≤◌, inl}
 use Rattle.std.proofs.Common.{inr}
 use Rattle.std.specs.Prelude.{Result, Ok, Err}
 use Rattle.std.specs.Io.KnownBytes.{Appends, Keeps}

@@ -1,8 +1,7 @@
 -- The law of open grammars, for each input.
-use Rattle.std.proofs.Common.{◌≡◌, ◌<◌, ◌++◌, ℕ, List, Some, ap}
+use Rattle.std.proofs.Common.{◌++◌, ℕ, List, Some, ap}
 use Rattle.gramcheck.specs.Grammar.{Grammar}
 use Rattle.callers.specs.RunsAlone.{RunsAlone}
-use Rattle.memoryrun.specs.MemoryRun.{IsMemoryRun}
 use Rattle.memoryrun.specs.PlannedRun.{IsPlannedRun}
 use Rattle.memoryrun.specs.declared.outputs.Outputs.{Outputs}
 use Rattle.pegexplain.specs.PegNotes.{ExplainsNote}
