@@ -30,7 +30,10 @@ static ROWS: [Row; 2] = [
         "A <- 'a' { first }\nB <- 'b' { second }\n",
         Some("B"),
         1,
-        &[("bb", "second\nsecond\n", "", 0), ("a", "", "no match at byte 0\n", 1)],
+        &[
+            ("bb", "second\nsecond\n", "", 0),
+            ("a", "", "no match at byte 0\n", 1),
+        ],
     ),
 ];
 

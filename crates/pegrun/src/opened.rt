@@ -97,11 +97,7 @@ fn checked_text(
 /// Reads and checks a grammar's text, and returns the notes on it and what runs it from the rule that settings name, or
 /// the first. All else of the settings is not looked at. The text's fault if it is not a grammar, or if an allocation
 /// fails.
-pub fn open_peg(
-    alloc: Global,
-    text: &[u8],
-    settings: &Settings<'_>,
-) -> Result<OpenedPeg, ReadFault>
+pub fn open_peg(alloc: Global, text: &[u8], settings: &Settings<'_>) -> Result<OpenedPeg, ReadFault>
     ensures opened { IfOk result (λ o. IsPegOpened text.now settings.now (map said_of o.notes.items) o.runner) }
     ensures fault { IfErr result (λ f. IsFaultOf text.now f) }
 {

@@ -38,5 +38,5 @@ loop-note-preserved g c =
 pub returns-then-is_empty : goal.returns-then-is_empty
 returns-then-is_empty g c =
     let zero : length c.args.notes.now ≡ 0 =
-        (Decides-eqb (length c.args.notes.now) 0).0 (sym c.is_empty.ensures ∙ c.if-is_empty.true) in
+    (Decides-eqb (length c.args.notes.now) 0).0 (sym c.is_empty.ensures ∙ c.if-is_empty.true) in
     rw (c.new-told.ensures.items, nil_from_length c.args.notes.now zero) no_note
