@@ -48,11 +48,11 @@ static WAYS_BACK: [(&[&[usize]], usize, &[usize]); 6] = [
 // Returns whether the way back is that one, where none stands for no way.
 fn is_way_back(
     alloc: Global,
+    chains: &Chains,
     steps: &[&[usize]],
     from: usize,
     way: &[usize],
 ) -> Result<bool, Fail> {
-    let chains = chains_from(alloc, steps, from)?;
     match chains.way_back(alloc, steps, from)? {
         Some(found) => Ok(found.as_slice() == way),
         None => Ok(way.is_empty()),
@@ -63,7 +63,8 @@ fn is_way_back(
 fn finds_ways_back(rt: HostRuntime) -> Result<(), Fail> {
     one_way_back();
     for row in &WAYS_BACK {
-        assert!(rt; is_way_back(rt.alloc(), row.0, row.1, row.2)?);
+        let chains = chains_from(rt.alloc(), row.0, row.1)?;
+        assert!(rt; is_way_back(rt.alloc(), &chains, row.0, row.1, row.2)?);
     }
     Ok(())
 }
