@@ -2,7 +2,8 @@
  *
  * fanquber_peg runs a grammar in the syntax of peg(1) on an input, as pegi(1) does. fanquber_abnf judges the lines of an
  * input by a grammar in ABNF (RFC 5234, RFC 7405), as abnfi(1) does. fanquber_abnf_open reads such a grammar once, and
- * fanquber_abnf_judge judges line after line by it. */
+ * fanquber_abnf_judge judges line after line by it; fanquber_peg_open and fanquber_peg_run do the same for input after
+ * input of a grammar of peg(1). */
 #ifndef FANQUBER_H
 #define FANQUBER_H
 
@@ -32,8 +33,8 @@ enum {
     FANQUBER_OVERLONG = 3,    /* a unit or a line is longer than the limit */
     FANQUBER_FAULT = 4,       /* an allocation for an output failed */
     FANQUBER_NO_MEMORY = 5,   /* another allocation failed */
-    FANQUBER_BAD_SETTINGS = 6 /* the settings are out of range, the name is no UTF-8, or a judge is open that is to be
-                               * closed, or closed that is to be open: nothing was done */
+    FANQUBER_BAD_SETTINGS = 6 /* the settings are out of range, the name is no UTF-8, or a judge or a runner is open that is
+                               * to be closed, or closed that is to be open: nothing was done */
 };
 
 enum { FANQUBER_DEFAULT_LIMIT = 65536, FANQUBER_MAX_LIMIT = 16777216 };
@@ -47,7 +48,7 @@ typedef struct fanquber_settings {
     bool raw;        /* fanquber_peg: actions are printed verbatim */
     bool viable;     /* fanquber_abnf: `no N` in place of `no`: the longest viable beginning has N letters */
     bool nul;        /* fanquber_abnf: lines end with NUL in place of LF, and may hold LF */
-    bool explain;    /* a fault of the grammar, a note on it, or a stop of peg is explained behind its message */
+    bool explain;    /* a fault of the grammar, notes, refused lines and stops are explained */
 } fanquber_settings;
 
 #define FANQUBER_SETTINGS { FANQUBER_DEFAULT_LIMIT, FANQUBER_RUN, FANQUBER_BYTES, false, false, false, false, false }
@@ -122,6 +123,29 @@ fanquber_answer fanquber_abnf_judge(fanquber_judge *judge, const void *line, siz
 
 /* Frees what an open judge holds, and closes it. */
 void fanquber_abnf_close(fanquber_judge *judge);
+
+/* What runs a grammar of peg(1) that is read and checked once. It begins as FANQUBER_RUNNER, which is closed. The fields
+ * belong to the library. It may be moved, stays on its thread, and serves one call at a time, as a judge does. */
+typedef struct fanquber_runner {
+    void *at;
+    bool is_open;
+} fanquber_runner;
+
+#define FANQUBER_RUNNER { NULL, false }
+
+/* Opens a closed runner by a grammar in the syntax of peg(1), and writes what fanquber_peg tells of the grammar into the
+ * buffer, its notes or the fault of its text. The status is FANQUBER_DONE and the runner is open, or FANQUBER_REFUSED,
+ * FANQUBER_NO_MEMORY or FANQUBER_BAD_SETTINGS, and it stays closed. The mode is not looked at. out_len is 0. */
+fanquber_result fanquber_peg_open(const fanquber_settings *settings, const void *grammar, size_t grammar_len,
+                                  const void *name, size_t name_len, fanquber_runner *runner, void *err, size_t err_size);
+
+/* Runs the grammar on an input, and writes what fanquber_peg would with the settings of opening, but for what that tells of
+ * the grammar. The status is that of the run, or FANQUBER_BAD_SETTINGS, and nothing was done, where the runner is closed. */
+fanquber_result fanquber_peg_run(fanquber_runner *runner, const void *input, size_t input_len, void *out, size_t out_size,
+                                 void *err, size_t err_size);
+
+/* Frees what an open runner holds, and closes it. */
+void fanquber_peg_close(fanquber_runner *runner);
 
 #ifdef __cplusplus
 }

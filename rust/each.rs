@@ -1,8 +1,9 @@
-//! `run_each` of fanquber.rs gives what `run` gives for each input, and a judge tells what `run` tells of its grammar.
+//! `run_each` of fanquber.rs gives what `run` gives for each input, a judge tells what `run` tells of its grammar, and a
+//! runner writes what `run` does behind that.
 #[allow(dead_code)]
 mod fanquber;
 
-use fanquber::{Error, Judge, Opened, Settings, Tool, run, run_each};
+use fanquber::{Error, Judge, Opened, OpenedPeg, Runner, Settings, Tool, run, run_each};
 
 fn each_is_a_run(text: &str, settings: &Settings) -> Result<(), Error> {
     let inputs: [&[u8]; 4] = [b"tea", b"", b"milk2", b"tea"];
@@ -15,6 +16,15 @@ fn each_is_a_run(text: &str, settings: &Settings) -> Result<(), Error> {
     Ok(())
 }
 
+fn runner_is_a_run(text: &str, settings: &Settings) -> Result<(), Error> {
+    let OpenedPeg::Runner(mut runner) = Runner::open(text.as_bytes(), settings)? else { panic!("refused") };
+    for input in [b"tea".as_slice(), b"", b"milk2"] {
+        let (is, want) = (runner.run(input)?, run(Tool::Peg, text.as_bytes(), settings, input)?);
+        assert_eq!((&is.out, [&runner.notes[..], &is.err].concat(), is.status), (&want.out, want.err, want.status));
+    }
+    Ok(())
+}
+
 fn main() -> Result<(), Error> {
     let words = "S <- < [a-z]+ > { yytext }\n";
     for explain in [false, true] {
@@ -22,6 +32,10 @@ fn main() -> Result<(), Error> {
         for text in [words, &format!("{words}T <- 'x'\n"), "S <- T\n", "S <- )\n"] {
             each_is_a_run(text, &settings)?;
         }
+        runner_is_a_run(words, &settings)?;
+        runner_is_a_run(&format!("{words}T <- 'x'\n"), &settings)?;
+        let refused = Runner::open(b"S <- )\n", &Settings::default())?;
+        assert!(matches!(refused, OpenedPeg::Refused(told) if told == b"line 1: syntax error\n"));
         let two = b"a = \"x\"\nb = \"y\"\n";
         let Opened::Judge(judge) = Judge::open(two, &settings)? else { panic!("refused") };
         assert_eq!(judge.notes, run(Tool::Abnf, two, &settings, b"")?.err);

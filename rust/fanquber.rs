@@ -70,6 +70,25 @@ unsafe extern "C" {
     fn fanquber_abnf_close(judge: *mut CJudge);
 }
 
+#[repr(C)]
+struct CRunner {
+    at: *mut u8,
+    is_open: bool,
+}
+
+#[link(name = "fanquber")]
+unsafe extern "C" {
+    fn fanquber_peg_open(
+        settings: *const CSettings, grammar: *const u8, grammar_len: usize, name: *const u8, name_len: usize,
+        runner: *mut CRunner, err: *mut u8, err_size: usize,
+    ) -> CResult;
+    fn fanquber_peg_run(
+        runner: *mut CRunner, input: *const u8, input_len: usize, out: *mut u8, out_size: usize, err: *mut u8,
+        err_size: usize,
+    ) -> CResult;
+    fn fanquber_peg_close(runner: *mut CRunner);
+}
+
 /// The greatest limit.
 pub const MAX_LIMIT: usize = 16_777_216;
 
@@ -371,5 +390,92 @@ impl Drop for Judge {
     fn drop(&mut self) {
         // SAFETY: the library left the judge so, and nothing uses it from now on.
         unsafe { fanquber_abnf_close(&mut self.own) }
+    }
+}
+
+/// What opening a grammar of peg(1) gives.
+pub enum OpenedPeg {
+    /// What runs it.
+    Runner(Runner),
+    /// The lines that say why it is refused.
+    Refused(Vec<u8>),
+}
+
+/// A grammar of peg(1) that is read once, and runs on input after input. It stays on its thread.
+pub struct Runner {
+    own: CRunner,
+    /// The notes on the grammar.
+    pub notes: Vec<u8>,
+}
+
+impl Runner {
+    /// Opens a grammar. The mode of the settings is not looked at.
+    pub fn open(grammar: &[u8], settings: &Settings) -> Result<OpenedPeg, Error> {
+        let asked = settings.for_c();
+        let name = settings.start.unwrap_or("").as_bytes();
+        let mut runner = Runner {
+            own: CRunner {
+                at: std::ptr::null_mut(),
+                is_open: false,
+            },
+            notes: vec![0; 1024],
+        };
+        loop {
+            // SAFETY: as in `run`; the runner is closed.
+            let got = unsafe {
+                fanquber_peg_open(
+                    &asked,
+                    grammar.as_ptr(),
+                    grammar.len(),
+                    name.as_ptr(),
+                    name.len(),
+                    &mut runner.own,
+                    runner.notes.as_mut_ptr(),
+                    runner.notes.len(),
+                )
+            };
+            let is_whole = got.err_len <= runner.notes.len();
+            runner.notes.resize(got.err_len, 0);
+            match got.status()? {
+                // SAFETY: the library left the runner so.
+                _ if !is_whole => unsafe { fanquber_peg_close(&mut runner.own) },
+                Status::Done => return Ok(OpenedPeg::Runner(runner)),
+                _ => return Ok(OpenedPeg::Refused(std::mem::take(&mut runner.notes))),
+            }
+        }
+    }
+
+    /// Runs the grammar on an input: the reply is that of `run` without the notes.
+    pub fn run(&mut self, input: &[u8]) -> Result<Reply, Error> {
+        let (mut out, mut err) = (vec![0; 4096], vec![0; 1024]);
+        loop {
+            // SAFETY: as in `run`; the library left the runner so, and nothing else uses it.
+            let got = unsafe {
+                fanquber_peg_run(
+                    &mut self.own,
+                    input.as_ptr(),
+                    input.len(),
+                    out.as_mut_ptr(),
+                    out.len(),
+                    err.as_mut_ptr(),
+                    err.len(),
+                )
+            };
+            let status = got.status()?;
+            if got.out_len <= out.len() && got.err_len <= err.len() {
+                out.truncate(got.out_len);
+                err.truncate(got.err_len);
+                return Ok(Reply { out, err, status });
+            }
+            out.resize(got.out_len.max(out.len()), 0);
+            err.resize(got.err_len.max(err.len()), 0);
+        }
+    }
+}
+
+impl Drop for Runner {
+    fn drop(&mut self) {
+        // SAFETY: the library left the runner so, and nothing uses it from now on.
+        unsafe { fanquber_peg_close(&mut self.own) }
     }
 }

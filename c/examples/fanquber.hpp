@@ -79,6 +79,7 @@ public:
 
 private:
     friend class judge;
+    friend class runner;
 
     /// Cuts what the runs wrote into their replies. What is told of the grammar stands once, before what the runs tell.
     static std::vector<reply> replies(const std::vector<fanquber_result> &results, const fanquber_result &all,
@@ -153,6 +154,57 @@ public:
 
 private:
     fanquber_judge own_ = FANQUBER_JUDGE;
+    std::string notes_;
+};
+
+/// A grammar of a peg that is read once, and runs on input after input. It stays on the thread that opens it.
+class runner {
+public:
+    /// Throws as the constructor of judge does.
+    explicit runner(const grammar &of) : notes_(1024, '\0') {
+        for (;;) {
+            const fanquber_result got =
+                fanquber_peg_open(&of.settings_, of.text_.data(), of.text_.size(), of.name_.data(), of.name_.size(), &own_,
+                                  &notes_[0], notes_.size());
+            const bool is_whole = got.err_len <= notes_.size();
+            if (!is_whole) fanquber_peg_close(&own_);
+            notes_.resize(got.err_len);
+            if (!is_whole) continue;
+            if (got.status == FANQUBER_NO_MEMORY) throw std::bad_alloc();
+            if (got.status == FANQUBER_BAD_SETTINGS) throw std::invalid_argument("fanquber: settings out of range");
+            if (got.status != FANQUBER_DONE) throw std::invalid_argument(notes_);
+            return;
+        }
+    }
+    runner(runner &&other) noexcept : own_(other.own_), notes_(std::move(other.notes_)) { other.own_ = fanquber_runner FANQUBER_RUNNER; }
+    runner &operator=(runner &&other) noexcept {
+        std::swap(own_, other.own_);
+        std::swap(notes_, other.notes_);
+        return *this;
+    }
+    ~runner() { fanquber_peg_close(&own_); }
+
+    /// The notes on the grammar.
+    const std::string &notes() const { return notes_; }
+
+    /// Runs the grammar on an input: the reply is that of grammar::run without the notes. Throws std::bad_alloc where an
+    /// allocation fails, and std::logic_error if the runner was moved from.
+    reply operator()(std::string_view input) {
+        std::string out(4096, '\0'), err(1024, '\0');
+        for (;;) {
+            const fanquber_result got = fanquber_peg_run(&own_, input.data() ? input.data() : "", input.size(), &out[0],
+                                                         out.size(), &err[0], err.size());
+            if (got.status == FANQUBER_BAD_SETTINGS) throw std::logic_error("fanquber: the runner was moved from");
+            if (got.status == FANQUBER_FAULT || got.status == FANQUBER_NO_MEMORY) throw std::bad_alloc();
+            const bool is_whole = got.out_len <= out.size() && got.err_len <= err.size();
+            if (is_whole || got.out_len > out.size()) out.resize(got.out_len);
+            if (is_whole || got.err_len > err.size()) err.resize(got.err_len);
+            if (is_whole) return {std::move(out), std::move(err), got.status};
+        }
+    }
+
+private:
+    fanquber_runner own_ = FANQUBER_RUNNER;
     std::string notes_;
 };
 

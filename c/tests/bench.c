@@ -1,8 +1,9 @@
 /* bench: what the calls of the library cost. It takes words in fours, and prints a row for each four:
  * TOOL GRAMMAR UNIT COUNT, where TOOL is abnfi or pegi, and a call's input is so many copies of UNIT; or it is windows, and
  * each copy is a window of a call of fanquber_peg_windows; or it is judge, and a call judges the line UNIT so many times by a
- * judge that was opened before, or it is cold, and the judge is opened for the call. COUNT `check` has the grammar checked
- * alone. The time is that of the processor. */
+ * judge that was opened before, or it is cold, and the judge is opened for the call; or it is runner, and a call runs an
+ * open grammar of peg(1) on UNIT so many times. COUNT `check` has the grammar checked alone. The time is that of the
+ * processor. */
 #include <fanquber.h>
 #include <stdio.h>
 #include <stdlib.h>
@@ -32,6 +33,17 @@ static int judged(fanquber_judge *judge, const fanquber_settings *settings, size
     return status;
 }
 
+/* Runs an input so many times, by a runner that is opened first where it is closed. Returns the last status. */
+static int run(fanquber_runner *runner, const fanquber_settings *settings, size_t grammar_len, const char *input,
+               size_t len, size_t count) {
+    int status = FANQUBER_DONE;
+    if (!runner->is_open)
+        status = fanquber_peg_open(settings, grammar, grammar_len, TEXT(""), runner, err, sizeof err).status;
+    for (; count > 0; count--)
+        status = fanquber_peg_run(runner, input, len, out, sizeof out, err, sizeof err).status;
+    return status;
+}
+
 /* Makes a call, and returns its status. */
 static int call(const char *tool, const fanquber_settings *settings, size_t grammar_len, const char *input, size_t len,
                 size_t count) {
@@ -57,12 +69,15 @@ int main(int count, char **words) {
         fanquber_settings settings = FANQUBER_SETTINGS;
         settings.mode = strcmp(words[at + 3], "check") == 0 ? FANQUBER_CHECK : FANQUBER_RUN;
         fanquber_judge judge = FANQUBER_JUDGE;
+        fanquber_runner runner = FANQUBER_RUNNER;
+        const bool is_runner = strcmp(words[at], "runner") == 0;
         const bool is_cold = strcmp(words[at], "cold") == 0, is_judge = is_cold || strcmp(words[at], "judge") == 0;
         double begun = seconds(), passed;
         long calls = 0;
         int status;
         do {
             if (is_judge) status = judged(&judge, &settings, grammar_len, words[at + 2], unit, units);
+            else if (is_runner) status = run(&runner, &settings, grammar_len, words[at + 2], unit, units);
             else status = call(words[at], &settings, grammar_len, input, unit * units, units);
             if (is_cold) fanquber_abnf_close(&judge);
             calls++;
@@ -71,6 +86,7 @@ int main(int count, char **words) {
         printf("%s %s %s: status %d, %.0f calls a second, %.1f us a call\n", words[at], words[at + 1], words[at + 3],
                status, calls / passed, passed / calls * 1e6);
         fanquber_abnf_close(&judge);
+        fanquber_peg_close(&runner);
         free(input);
     }
     return 0;

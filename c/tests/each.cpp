@@ -1,4 +1,5 @@
-// each: run_each of fanquber.hpp gives what run gives for each input, and a judge tells what run tells of its grammar.
+// each: run_each of fanquber.hpp gives what run gives for each input, a judge tells what run tells of its grammar, and a
+// runner writes what run does behind that.
 #include "../examples/fanquber.hpp"
 
 #include <iostream>
@@ -26,6 +27,16 @@ static void each_is_a_run(const std::string &text, bool explain) {
     CHECK(of.run_each({}).empty());
 }
 
+static void runner_is_a_run(const std::string &text, bool explain) {
+    fanquber::grammar of(fanquber::tool::peg, text);
+    of.settings().explain = explain;
+    fanquber::runner run(of);
+    for (const std::string_view input : {std::string_view("tea"), std::string_view(), std::string_view("milk2")}) {
+        const fanquber::reply got = run(input), want = of.run(input);
+        CHECK(got.out == want.out && run.notes() + got.err == want.err && got.status == want.status);
+    }
+}
+
 int main() {
     const std::string words = "S <- < [a-z]+ > { yytext }\n";
     for (const std::string &text : {words, words + "T <- 'x'\n", std::string("S <- T\n"), std::string("S <- )\n")}) {
@@ -41,6 +52,18 @@ int main() {
     explained.settings().explain = true;
     CHECK(fanquber::judge(two).notes() == two.run("").err);
     CHECK(fanquber::judge(explained).notes() == explained.run("").err);
+    for (const bool explain : {false, true}) {
+        runner_is_a_run(words, explain);
+        runner_is_a_run(words + "T <- 'x'\n", explain);
+    }
+    bool is_refused = false;
+    try {
+        fanquber::runner refused(fanquber::grammar(fanquber::tool::peg, "S <- )\n"));
+    } catch (const std::invalid_argument &fault) {
+        is_refused = fault.what() == std::string("line 1: syntax error\n");
+    }
+    CHECK(is_refused);
+    CHECK(fanquber::runner(of)("bcdefgh").out.size() == 7 * 901);
     fanquber::judge moved(two);
     const fanquber::judge kept = std::move(moved);
     bool threw = false;

@@ -1,5 +1,5 @@
-/* edges: what a call does with small buffers, with settings that are out of range, and with each setting, and what a judge
- * answers. */
+/* edges: what a call does with small buffers, with settings that are out of range, and with each setting, what a judge
+ * answers, and what a runner writes. */
 #include "check.h"
 
 #define LETTER_X "a = \"x\"\n"
@@ -230,8 +230,92 @@ static void judged_lines(void) {
     }
 }
 
+/* Opens a runner with a buffer that was filled with `#`. */
+static fanquber_runner opened_runner(const fanquber_settings *settings, const char *grammar, const char *name,
+                                     size_t err_size) {
+    fanquber_runner runner = FANQUBER_RUNNER;
+    memset(err, '#', ROOM);
+    got = fanquber_peg_open(settings, TEXT(grammar), TEXT(name), &runner, err, err_size);
+    return runner;
+}
+
+#define STARTS(code, told) \
+    CHECK(got.status == (code) && got.out_len == 0 && runner.is_open == ((code) == FANQUBER_DONE)); \
+    CHECK(got.err_len == strlen(told) && holds(err, err_size, TEXT(told)))
+
+#define WRITES(input, code, printed, told) \
+    do { \
+        memset(out, '#', ROOM); \
+        memset(err, '#', ROOM); \
+        got = fanquber_peg_run(&runner, TEXT(input), out, out_size, err, err_size); \
+        ENDS(code, printed, told); \
+    } while (0)
+
+/* What runners write, opened with each setting that they look at. */
+static void runs_of_runners(void) {
+    const char *words = "S <- < [a-z]+ > { yytext }\n";
+    fanquber_settings settings = FANQUBER_SETTINGS;
+    size_t out_size = ROOM, err_size = ROOM;
+    fanquber_runner runner = opened_runner(&settings, words, "", err_size);
+    STARTS(FANQUBER_DONE, "");
+    for (out_size = 0; out_size < 10; out_size++) {
+        err_size = ROOM - out_size;
+        WRITES("tea", FANQUBER_DONE, "tea\n", "");
+        WRITES("", FANQUBER_DONE, "", "");
+        WRITES("milk?", FANQUBER_NO_MATCH, "milk\n", "no match at byte 4\n");
+    }
+    got = fanquber_peg_open(&settings, TEXT(words), TEXT(""), &runner, err, err_size);
+    CHECK(got.status == FANQUBER_BAD_SETTINGS && runner.is_open); /* it is open */
+    WRITES("tea", FANQUBER_DONE, "tea\n", "");
+    fanquber_peg_close(&runner);
+    CHECK(!runner.is_open);
+    fanquber_peg_close(&runner);
+    WRITES("tea", FANQUBER_BAD_SETTINGS, "", "");
+    settings.limit = 0;
+    runner = opened_runner(&settings, words, "", err_size);
+    STARTS(FANQUBER_BAD_SETTINGS, "");
+    settings = (fanquber_settings){ 3, FANQUBER_CHECK, FANQUBER_BYTES, true, true, false, false, false };
+    for (err_size = 0; err_size < 32; err_size++) {
+        out_size = ROOM;
+        runner = opened_runner(&settings, "a <- 'x'\nb <- < 'y'+ > { (yytext) }\n", "b", err_size);
+        STARTS(FANQUBER_DONE, "rule 'a' defined but not used\n");
+        WRITES("yy", FANQUBER_DONE, " (yy) ", "");
+        WRITES("yyyy", FANQUBER_OVERLONG, "", "unit at byte 0 longer than 3 bytes\n");
+        fanquber_peg_close(&runner);
+    }
+    err_size = ROOM;
+    runner = opened_runner(&settings, words, "no_rule", err_size);
+    CHECK(got.status == FANQUBER_REFUSED && got.err_len > 0 && !runner.is_open);
+    settings.named = false;
+    runner = opened_runner(&settings, "S <- )\n", "", err_size);
+    STARTS(FANQUBER_REFUSED, "line 1: syntax error\n");
+    runner = opened_runner(&settings, "S <- T\n", "", err_size);
+    STARTS(FANQUBER_REFUSED, "rule 'T' used but not defined\n");
+}
+
+/* A runner that explains writes what a run writes behind the notes. */
+static void explained_runs(void) {
+    const char *grammar = "S <- 'ab' 'c'\nT <- 'y'\n", *inputs[] = { "abc", "abx", "" };
+    fanquber_settings settings = FANQUBER_SETTINGS;
+    settings.explain = true;
+    static char notes[1024], whole[1024], behind[1024];
+    fanquber_runner runner = FANQUBER_RUNNER;
+    got = fanquber_peg_open(&settings, TEXT(grammar), TEXT(""), &runner, notes, sizeof notes);
+    CHECK(got.status == FANQUBER_DONE && got.err_len > 0);
+    for (size_t at = 0; at < sizeof inputs / sizeof *inputs; at++) {
+        const fanquber_result all = fanquber_peg(&settings, TEXT(grammar), TEXT(""), TEXT(inputs[at]), out, ROOM, whole,
+                                                 sizeof whole);
+        const fanquber_result run = fanquber_peg_run(&runner, TEXT(inputs[at]), out, ROOM, behind, sizeof behind);
+        CHECK(run.status == all.status && run.out_len == all.out_len && run.err_len == all.err_len - got.err_len);
+        CHECK(memcmp(whole, notes, got.err_len) == 0 && memcmp(whole + got.err_len, behind, run.err_len) == 0);
+    }
+    fanquber_peg_close(&runner);
+}
+
 int main(void) {
     judged_lines();
+    runs_of_runners();
+    explained_runs();
     many_windows();
     windows_of_grammars();
     small_buffers();

@@ -1,6 +1,6 @@
 /* refused GRAMMAR: each allocation of a call is refused in turn. The status is then FANQUBER_FAULT or FANQUBER_NO_MEMORY,
- * or the reply is whole, and no memory is left behind, nor by a judge that was closed. GRAMMAR is that of RFC 3986. Link it
- * with the static library and -Wl,--wrap=malloc,--wrap=realloc,--wrap=free. */
+ * or the reply is whole, and no memory is left behind, nor by a judge or a runner that was closed. GRAMMAR is that of RFC
+ * 3986. Link it with the static library and -Wl,--wrap=malloc,--wrap=realloc,--wrap=free. */
 #include "check.h"
 
 enum { MOST = 1000000 };
@@ -95,6 +95,41 @@ static void sweep_judge(const char *grammar, size_t grammar_len, size_t limit) {
     CHECK(!"the sweep ends");
 }
 
+/* Does the same for a runner of a grammar with a note: to open it, to run each of two inputs twice, and to close it. */
+static void sweep_runner(void) {
+    const fanquber_settings settings = FANQUBER_SETTINGS;
+    const char *inputs[] = { "yxxz", "y?" }, *printed[] = { "(y)\n(z)\n", "(y)\n" };
+    const long base = live;
+    static char out[64], err[4096];
+    for (long granted = 0; granted < MOST; granted++) {
+        fanquber_runner runner = FANQUBER_RUNNER;
+        left = granted;
+        fanquber_result got = fanquber_peg_open(&settings, TEXT("a <- b / < [a-z] > { (yytext) }\nb <- 'x' 'x'\nc <- 'z'"),
+                                                TEXT(""), &runner, err, sizeof err);
+        CHECK(got.status == (runner.is_open ? FANQUBER_DONE : FANQUBER_NO_MEMORY));
+        CHECK(runner.is_open || live == base);
+        for (int turn = 0; turn < 4 && runner.is_open; turn++) {
+            got = fanquber_peg_run(&runner, TEXT(inputs[turn % 2]), out, sizeof out, err, sizeof err);
+            CHECK(got.status == turn % 2 || (got.status >= FANQUBER_FAULT && left == 0));
+            CHECK(got.out_len <= strlen(printed[turn % 2]) && memcmp(out, printed[turn % 2], got.out_len) == 0);
+            CHECK(got.status >= FANQUBER_FAULT || got.out_len == strlen(printed[turn % 2]));
+        }
+        int is_all = left > 0;
+        left = -1;
+        if (runner.is_open) { /* the runner serves on behind a refusal */
+            got = fanquber_peg_run(&runner, TEXT(inputs[0]), out, sizeof out, err, sizeof err);
+            CHECK(got.status == FANQUBER_DONE && got.out_len == strlen(printed[0]));
+        }
+        fanquber_peg_close(&runner);
+        CHECK(live == base);
+        if (is_all || wrong) {
+            printf("runner: %ld allocations refused in turn\n", granted);
+            return;
+        }
+    }
+    CHECK(!"the sweep ends");
+}
+
 /* Does the same for windows, of a grammar with a note: where the note is told, all runs are those of the grammar, and else
  * each stops. */
 static void sweep_windows(void) {
@@ -136,5 +171,6 @@ int main(int count, char **words) {
           "(y)\n(z)\n");
     sweep_windows();
     sweep_judge(grammar, grammar_len, 64);
+    sweep_runner();
     return wrong;
 }

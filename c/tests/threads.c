@@ -1,4 +1,4 @@
-/* threads GRAMMAR: four threads call the library at once, and each judges lines by a judge of its own; each reply is that of
+/* threads GRAMMAR: four threads call the library at once, and each has a judge and a runner of its own; each reply is that of
  * one thread. GRAMMAR is that of RFC 3986. */
 #include "check.h"
 #include <pthread.h>
@@ -30,6 +30,16 @@ static void *work(void *bad) {
             *(int *)bad = 1;
     }
     fanquber_abnf_close(&judge);
+    fanquber_runner runner = FANQUBER_RUNNER;
+    if (fanquber_peg_open(&settings, TEXT("a <- < . > { (yytext) }"), TEXT(""), &runner, err, sizeof err).status !=
+        FANQUBER_DONE)
+        *(int *)bad = 1;
+    for (int call = 0; call < CALLS * CALLS; call++) {
+        char out[64];
+        fanquber_result got = fanquber_peg_run(&runner, TEXT("xy"), out, sizeof out, err, sizeof err);
+        if (got.status != FANQUBER_DONE || got.out_len != 8 || memcmp(out, "(x)\n(y)\n", 8) != 0) *(int *)bad = 1;
+    }
+    fanquber_peg_close(&runner);
     return NULL;
 }
 

@@ -11,13 +11,13 @@ from ._library import (
     Mode,
     OutOfMemory,
     Overlong,
+    PegRunner,
     Reply,
     Status,
     Text,
     abnf,
     as_bytes,
     peg,
-    peg_each,
 )
 
 
@@ -36,7 +36,20 @@ def _raise_fault(reply: Reply) -> None:
         raise OutOfMemory("out of memory")
 
 
-class Abnf:
+class _PerThread:
+    """What opens something for each thread that asks for it."""
+
+    def __init__(self) -> None:
+        self._own = threading.local()
+
+    def __getstate__(self) -> Dict[str, Any]:
+        return {name: it for name, it in self.__dict__.items() if name != "_own"}
+
+    def __setstate__(self, state: Dict[str, Any]) -> None:
+        self.__dict__.update(state, _own=threading.local())
+
+
+class Abnf(_PerThread):
     """A grammar in ABNF (RFC 5234, RFC 7405), with the rule that judges lines: the first, if none is named.
 
     A line is bytes, or a `str`, which stands for its bytes in UTF-8. Its letters are its bytes, or its code points with
@@ -54,17 +67,11 @@ class Abnf:
         letters: Letters = Letters.BYTES,
         limit: int = DEFAULT_LIMIT,
     ) -> None:
+        super().__init__()
         self._text = as_bytes(text)
         self._rule, self._letters, self._limit = rule, letters, limit
-        self._own = threading.local()
         self.notes: List[str] = _lines(self._judge().opening.err)
         """What is noted of the grammar, and does not refuse it."""
-
-    def __getstate__(self) -> Dict[str, Any]:
-        return {name: it for name, it in self.__dict__.items() if name != "_own"}
-
-    def __setstate__(self, state: Dict[str, Any]) -> None:
-        self.__dict__.update(state, _own=threading.local())
 
     def _judge(self, viable: bool = False) -> AbnfJudge:
         """Returns what judges lines on this thread: it is opened when it is first asked for."""
@@ -128,32 +135,39 @@ def _peg_run(reply: Reply) -> PegRun:
     return PegRun(reply.out, is_whole, "" if is_whole else _lines(reply.err)[-1])
 
 
-class Peg:
+class Peg(_PerThread):
     """A grammar in the syntax of peg(1), with its start rule: the first, if none is named.
 
-    `GrammarError` if the grammar is refused, `OutOfMemory` if memory is.
+    `GrammarError` if the grammar is refused, `OutOfMemory` if memory is. Each thread reads the grammar once.
     """
 
     def __init__(
         self, text: Text, start: Optional[str] = None, *, raw: bool = False, limit: int = DEFAULT_LIMIT
     ) -> None:
+        super().__init__()
         self._text = as_bytes(text)
         self._start, self._raw, self._limit = start, raw, limit
-        reply = peg(self._text, mode=Mode.CHECK, limit=limit, start=start)
-        _raise_fault(reply)
-        self.notes: List[str] = _lines(reply.err)
+        self.notes: List[str] = _lines(self._runner().opening.err)
         """What is noted of the grammar, and does not refuse it."""
+
+    def _runner(self) -> PegRunner:
+        """Returns what runs the grammar on this thread: it is opened when it is first asked for."""
+        runner = getattr(self._own, "runner", None)
+        if runner is None:
+            runner = PegRunner(self._text, limit=self._limit, start=self._start, raw=self._raw)
+            _raise_fault(runner.opening)
+            self._own.runner = runner
+        return runner
 
     def run(self, data: Text) -> PegRun:
         """Returns what the actions print on an input, unit after unit. `Overlong` if a unit looks at more bytes than
         the limit."""
-        return _peg_run(peg(self._text, data, limit=self._limit, start=self._start, raw=self._raw))
+        return _peg_run(self._runner().run(as_bytes(data)))
 
     def run_each(self, texts: Iterable[Text]) -> List[PegRun]:
-        """Returns the same for each of some inputs. The grammar is read and checked once, which is faster than one run
-        each."""
-        replies = peg_each(self._text, list(texts), limit=self._limit, start=self._start, raw=self._raw)
-        return [_peg_run(reply) for reply in replies]
+        """Returns the same for each of some inputs."""
+        runner = self._runner()
+        return [_peg_run(runner.run(text)) for text in map(as_bytes, texts)]
 
     def canonical(self) -> bytes:
         """Returns the text of the grammar in its canonical form."""

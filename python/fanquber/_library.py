@@ -1,10 +1,10 @@
-"""The calls of libfanquber: whole runs, and judges of lines that are opened once."""
+"""The calls of libfanquber: whole runs, and grammars that are opened once."""
 import ctypes
 import ctypes.util
 import enum
 import os
 import threading
-from typing import Any, Dict, List, NamedTuple, Optional, Sequence, Union
+from typing import Any, Dict, List, NamedTuple, Optional, Sequence, Tuple, Union
 
 Text = Union[bytes, str]
 
@@ -93,7 +93,9 @@ class _Window(ctypes.Structure):
     _fields_ = [("at", ctypes.c_size_t), ("len", ctypes.c_size_t)]
 
 
-class _Judge(ctypes.Structure):
+class _Place(ctypes.Structure):
+    """A judge or a runner of C."""
+
     _fields_ = [("at", ctypes.c_void_p), ("is_open", ctypes.c_bool)]
 
 
@@ -108,11 +110,16 @@ def _loaded() -> ctypes.CDLL:
     windows = [ctypes.POINTER(_Window), ctypes.c_size_t, ctypes.POINTER(_Result), ctypes.c_size_t]
     library.fanquber_peg.argtypes = library.fanquber_abnf.argtypes = settings + text * 5
     library.fanquber_peg_windows.argtypes = settings + text * 3 + windows + text * 2
-    judge = [ctypes.POINTER(_Judge)]
-    library.fanquber_abnf_open.argtypes = settings + text * 2 + judge + text
-    library.fanquber_abnf_judge.argtypes, library.fanquber_abnf_judge.restype = judge + text, _Answer
-    library.fanquber_abnf_close.argtypes, library.fanquber_abnf_close.restype = judge, None
-    for call in ("fanquber_peg", "fanquber_abnf", "fanquber_peg_windows", "fanquber_abnf_open"):
+    place = [ctypes.POINTER(_Place)]
+    library.fanquber_abnf_open.argtypes = library.fanquber_peg_open.argtypes = settings + text * 2 + place + text
+    library.fanquber_abnf_judge.argtypes, library.fanquber_abnf_judge.restype = place + text, _Answer
+    library.fanquber_peg_run.argtypes = place + text * 3
+    for call in ("fanquber_abnf_close", "fanquber_peg_close"):
+        getattr(library, call).argtypes, getattr(library, call).restype = place, None
+    for call in (
+        "fanquber_peg", "fanquber_abnf", "fanquber_peg_windows", "fanquber_abnf_open", "fanquber_peg_open",
+        "fanquber_peg_run",
+    ):
         getattr(library, call).restype = _Result
     return library
 
@@ -221,44 +228,74 @@ class Answer(NamedTuple):
     reached: int
 
 
-# Judges that were let go on another thread than theirs, by their thread: it closes them when it opens the next.
-_left: Dict[int, List[_Judge]] = {}
+# What was let go on another thread than its own, by that thread, each with what closes it: the thread closes them when
+# it opens the next.
+_left: Dict[int, List[Tuple[Any, _Place]]] = {}
 
 
-class AbnfJudge:
-    """A grammar in ABNF that the library read once, for the thread that opens it."""
+class _Opened:
+    """A grammar that the library read once, for the thread that opens it."""
 
-    def __init__(
-        self, grammar: Text, *, limit: int, rule: Optional[str], letters: Letters, viable: bool = False
-    ) -> None:
-        self._judge, self._thread = _Judge(), threading.get_ident()
-        for judge in _left.pop(self._thread, []):
-            _library.fanquber_abnf_close(ctypes.byref(judge))
-        settings = _settings(limit, Mode.RUN, rule, letters=letters, viable=viable)
-        texts = [as_bytes(grammar), as_bytes(rule or "")]
+    def __init__(self, opens: Any, closes: Any, settings: _Settings, grammar: Text, start: Optional[str]) -> None:
+        self._closes, self._place, self._thread = closes, _Place(), threading.get_ident()
+        for close, place in _left.pop(self._thread, []):
+            close(ctypes.byref(place))
+        texts = [as_bytes(grammar), as_bytes(start or "")]
         words = [word for text in texts for word in (text, len(text))]
         room = 4096
         while True:
             err = ctypes.create_string_buffer(room)
-            got = _library.fanquber_abnf_open(ctypes.byref(settings), *words, ctypes.byref(self._judge), err, room)
+            got = opens(ctypes.byref(settings), *words, ctypes.byref(self._place), err, room)
             if got.err_len <= room:
                 break
-            _library.fanquber_abnf_close(ctypes.byref(self._judge))
+            closes(ctypes.byref(self._place))
             room = got.err_len
         self.opening = Reply(b"", err.raw[: got.err_len], Status(got.status))
         """What a run that checks the grammar writes."""
 
+    def __del__(self) -> None:
+        place = getattr(self, "_place", None)
+        if place is None:
+            return  # the settings were refused
+        if threading.get_ident() == self._thread:
+            self._closes(ctypes.byref(place))
+        else:
+            _left.setdefault(self._thread, []).append((self._closes, place))
+
+
+class AbnfJudge(_Opened):
+    """A grammar in ABNF that is opened."""
+
+    def __init__(
+        self, grammar: Text, *, limit: int, rule: Optional[str], letters: Letters, viable: bool = False
+    ) -> None:
+        settings = _settings(limit, Mode.RUN, rule, letters=letters, viable=viable)
+        super().__init__(_library.fanquber_abnf_open, _library.fanquber_abnf_close, settings, grammar, rule)
+
     def answer(self, line: bytes) -> Answer:
         """Returns the answer to a line. `Overlong` if it is longer than the limit."""
-        got = _library.fanquber_abnf_judge(ctypes.byref(self._judge), line, len(line))
+        got = _library.fanquber_abnf_judge(ctypes.byref(self._place), line, len(line))
         if got.status == Status.OVERLONG:
             raise Overlong(f"line of {len(line)} bytes is longer than the limit", b"")
         if got.status == Status.NO_MEMORY:
             raise OutOfMemory("out of memory")
         return Answer(got.status == Status.DONE, got.reached)
 
-    def __del__(self) -> None:
-        if threading.get_ident() == self._thread:
-            _library.fanquber_abnf_close(ctypes.byref(self._judge))
-        else:
-            _left.setdefault(self._thread, []).append(self._judge)
+
+class PegRunner(_Opened):
+    """A grammar of peg(1) that is opened. It keeps buffers of the size that its runs needed."""
+
+    def __init__(self, grammar: Text, *, limit: int, start: Optional[str], raw: bool) -> None:
+        settings = _settings(limit, Mode.RUN, start, raw=raw)
+        super().__init__(_library.fanquber_peg_open, _library.fanquber_peg_close, settings, grammar, start)
+        self._out, self._err = ctypes.create_string_buffer(4096), ctypes.create_string_buffer(256)
+
+    def run(self, data: bytes) -> Reply:
+        """Returns what a run writes on an input, without the notes."""
+        while True:
+            out, err = self._out, self._err
+            got = _library.fanquber_peg_run(ctypes.byref(self._place), data, len(data), out, len(out), err, len(err))
+            if got.out_len <= len(out) and got.err_len <= len(err):
+                return Reply(out[: got.out_len], err[: got.err_len], Status(got.status))
+            self._out = ctypes.create_string_buffer(max(len(out), got.out_len))
+            self._err = ctypes.create_string_buffer(max(len(err), got.err_len))

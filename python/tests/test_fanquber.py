@@ -73,6 +73,9 @@ class PegTest(unittest.TestCase):
         self.assertEqual(items.run("tea,milk\n"), (want, True, ""))
         self.assertEqual(items.run("tea,milk\n?"), (want, False, "no match at byte 9"))
         self.assertEqual(items.run(b""), (b"", True, ""))
+        noted = Peg("a <- 'x' { 1 }\nb <- 'y'\n")
+        self.assertEqual(noted.notes, ["rule 'b' defined but not used"])
+        self.assertEqual([noted.run("x?") for _ in range(2)], [(b"1\n", False, "no match at byte 1")] * 2)
 
     def test_each(self):
         runs = Peg(LIST).run_each(["tea\n", b"", "tea?", "milk,tea\n"])
@@ -94,21 +97,28 @@ class PegTest(unittest.TestCase):
         self.assertEqual(Peg("a<-'x'").canonical(), b'a <- "x"\n')
         with self.assertRaises(Overlong):
             Peg("a <- 'xxx'", limit=2).run("xxx")
+        for limit in (0, fanquber.MAX_LIMIT + 1):
+            with self.assertRaises(ValueError):
+                Peg("a <- 'x'", limit=limit)
         with self.assertRaises(GrammarError) as refused:
             Peg("a <- a")
         self.assertEqual(refused.exception.notes, ["possible infinite left recursion in rule 'a'"])
 
     def test_long_output(self):
-        self.assertEqual(Peg("a <- . { 123456789 }").run(b"x" * 20000).out, b"123456789\n" * 20000)
+        numbers = Peg("a <- . { 123456789 }")
+        for count in (1, 20000, 2):
+            self.assertEqual(numbers.run(b"x" * count).out, b"123456789\n" * count)
+        self.assertEqual(len(Peg("".join(f"r{at} <- 'x'\n" for at in range(500))).notes), 499)
 
 
 class ThreadsTest(unittest.TestCase):
     def test_four_at_once(self):
-        day, answers = Abnf(DAY), []
+        day, items, answers, runs = Abnf(DAY), Peg(LIST), [], []
 
         def judge():
             for _ in range(50):
                 answers.append(day.judge(["1985-04-12", "1985-4-12"]))
+                runs.append(items.run("tea\n").out)
 
         threads = [threading.Thread(target=judge) for _ in range(4)]
         for it in threads:
@@ -116,18 +126,21 @@ class ThreadsTest(unittest.TestCase):
         for it in threads:
             it.join()
         self.assertEqual(answers, [[True, False]] * 200)
+        self.assertEqual(runs, [b"item tea, 3 bytes\nend of the line\n"] * 200)
 
     def test_let_go_elsewhere(self):
         kept = []
-        thread = threading.Thread(target=lambda: kept.append(Abnf(DAY)))
+        thread = threading.Thread(target=lambda: kept.extend([Abnf(DAY), Peg(LIST)]))
         thread.start()
         thread.join()
         self.assertEqual(kept[0].judge(["1985-04-12", "1985-4-12"]), [True, False])
+        self.assertEqual(kept[1].run("tea"), (b"", False, "no match at byte 0"))
         kept.clear()
 
     def test_copies(self):
         day = pickle.loads(pickle.dumps(Abnf(DAY)))
         self.assertEqual((day.notes, day.derives("1985-04-12")), ([], True))
+        self.assertEqual(pickle.loads(pickle.dumps(Peg(LIST))).run("tea?").message, "no match at byte 0")
 
 
 class ExamplesTest(unittest.TestCase):

@@ -17,4 +17,5 @@ lf='
     abnfi $uri "$line$lf" check abnfi $uri "$line$lf" 1 abnfi $uri "$line$lf" 1000 \
     cold $uri "$line" 0 cold $uri "$line" 1 judge $uri "$line" 1 judge $uri "$line" 1000 \
     abnfi "$made/x.abnf" "x$lf" 1 abnfi "$made/x.abnf" "x$lf" 1000 judge "$made/x.abnf" x 1 \
-    pegi $json '[1,2]' check pegi $json '[1,2]' 1 windows $json '[1,2]' 1 windows $json '[1,2]' 1000
+    pegi $json '[1,2]' check pegi $json '[1,2]' 1 windows $json '[1,2]' 1 windows $json '[1,2]' 1000 \
+    runner $json '[1,2]' 1 runner $json '[1,2]' 1000

@@ -1,17 +1,26 @@
 #!/usr/bin/env python3
 """Makes the library for C out of what was proved.
 
-usage: library.py
+usage: library.py [--over-ci]
 
 It takes bin/libfanquber_c.a, which prove.py puts there, and makes of it in bin/ the static library libfanquber.a, the
 shared object libfanquber.so.1 with the link libfanquber.so, and fanquber.pc, which pkg-config reads. Both libraries
 give out the calls of c/fanquber.h and nothing else; the script fails otherwise. It needs a C compiler and objcopy
 (Debian: binutils). CC names the compiler, `cc` if not set, and RT the command, `rt` if not set.
+
+With --over-ci it makes bin/libfanquber_c.a too, over the libraries that `rt ci` left in crates/*/out, unless it is
+newer than all sources. `rt ci` proves the crate and keeps nothing of it, so this proves it once more, over what an
+earlier check in this checkout kept. Where a checkout has libraries of its own there, or that fails, prove.py makes it.
 """
 import os
 import pathlib
+import shutil
 import subprocess
 import sys
+
+sys.path.insert(0, str(pathlib.Path(__file__).resolve().parents[1]))  # scripts/, for what groups share
+from build.prove import MOST, processors
+from crates import below, listed, uses
 
 TOP = pathlib.Path(__file__).resolve().parents[2]
 CRATE = "fanquber_c"
@@ -29,10 +38,56 @@ def run(*words, **others):
         sys.exit(f"library.py: {fault}")
 
 
-def kit_archive():
-    """Returns the kit's archive that allocates from the C library."""
-    page = run(*RT, "doc", stdout=subprocess.PIPE, text=True).stdout.strip()
-    return pathlib.Path(page).parent / "c/liblibc_c.a"
+def kit():
+    """Returns the folder of the toolchain."""
+    return pathlib.Path(run(*RT, "doc", stdout=subprocess.PIPE, text=True).stdout.strip()).parent
+
+
+def lacking():
+    """Returns the programs that the library cannot be made without and that are not here."""
+    return [it for it in (CC[0], "ar", "nm", "objcopy") if not shutil.which(it)]
+
+
+def newer_source(proved):
+    """Returns a source of the library that is newer than the archive, if there is one."""
+    crates = {CRATE, *below(TOP, CRATE)}
+    sources = (it for crate in crates for it in (TOP / "crates" / crate / "src").rglob("*.rt"))
+    return next((it for it in sources if it.stat().st_mtime > proved.stat().st_mtime), None)
+
+
+def over_ci(archive):
+    """Returns the command that proves the crate over the libraries that `rt ci` left, and makes its archive."""
+    page, libraries = kit(), sorted(below(TOP, CRATE))
+    named = listed(TOP)[CRATE].partition(":")[2].split()
+    ours = {it: f"../{it}/out/rlib/{it}.rlib" for it in uses(TOP)[CRATE]}
+    externs = [f"{it}={ours.get(it, page / 'rlibs' / f'{it}.rlib')}" for it in ("std", *named)]
+    found = [page / "rlibs", *(f"../{it}/out/rlib" for it in libraries)]
+    return [
+        page / "bin/rattle", "build", "--crate-name", CRATE, "src/lib.rt", "--crate-type", "staticlib",
+        *(word for it in externs for word in ("--extern", it)),
+        *(word for it in found for word in ("-L", f"dependency={it}")),
+        "--antt-project", page / "rattle/logic/antt-project.json", "--logic-built", page / "logic_built",
+        "--incremental", "out/incremental", "--jobs", min(processors(), MOST),
+        "--toolchain", page / "toolchain", "--backend", "llvm", "-o", archive
+    ]
+
+
+def prove(proved):
+    """Makes the proved archive out of what `rt ci` left, or has prove.py make it."""
+    if proved.is_file() and not newer_source(proved):
+        return
+    made = [TOP / "crates" / it / "out/rlib" for it in below(TOP, CRATE)]
+    # `rt ci` writes no stamp; `rt check` writes one, and its libraries may be older than their sources
+    if all((it / f"{it.parts[-3]}.rlib").is_dir() and not (it / "stamp").is_file() for it in made):
+        proved.parent.mkdir(exist_ok=True)
+        words = [str(it) for it in over_ci(proved)]
+        try:
+            subprocess.run(words, cwd=TOP / "crates" / CRATE, stdout=subprocess.DEVNULL, check=True)
+            return
+        except (OSError, subprocess.CalledProcessError) as fault:
+            print(f"library.py: {fault}; prove.py makes {CRATE}", flush=True)
+            proved.unlink(missing_ok=True)
+    run(sys.executable, "-B", TOP / "scripts/build/prove.py", CRATE)
 
 
 def names():
@@ -52,7 +107,8 @@ def make(proved, folder):
     """Makes both libraries of the proved one, in a folder."""
     folder.mkdir(exist_ok=True)
     whole, static, shared = folder / "fanquber.o", folder / "libfanquber.a", folder / SONAME
-    run(*CC, "-r", "-nostdlib", "-o", whole, "-Wl,--whole-archive", proved, "-Wl,--no-whole-archive", kit_archive())
+    allocator = kit() / "c/liblibc_c.a"
+    run(*CC, "-r", "-nostdlib", "-o", whole, "-Wl,--whole-archive", proved, "-Wl,--no-whole-archive", allocator)
     run("objcopy", *(f"--keep-global-symbol={it}" for it in names()), whole)
     static.unlink(missing_ok=True)
     run("ar", "rcsD", static, whole)
@@ -70,5 +126,12 @@ def make(proved, folder):
             sys.exit(f"library.py: {library.name} gives out {found}, and is to give out {names()}")
 
 
+def main(words):
+    proved = TOP / "bin" / f"lib{CRATE}.a"
+    if words == ["--over-ci"]:
+        prove(proved)
+    make(proved, TOP / "bin")
+
+
 if __name__ == "__main__":
-    make(TOP / "bin" / f"lib{CRATE}.a", TOP / "bin")
+    main(sys.argv[1:])

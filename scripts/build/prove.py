@@ -37,7 +37,7 @@ MOST = 4
 
 
 def processors():
-    """Returns how many processors the run may use."""
+    """Returns how many processors a run may use."""
     jobs = os.environ.get("JOBS")
     if jobs:
         return int(jobs) if re.fullmatch("[1-9][0-9]*", jobs) else sys.exit(f"JOBS={jobs}: no number from 1 on")
@@ -197,4 +197,5 @@ def main(named):
     return status
 
 
-sys.exit(main(sys.argv[1:]))
+if __name__ == "__main__":
+    sys.exit(main(sys.argv[1:]))

@@ -42,6 +42,10 @@ EXEMPT = (
     # It does so too, and adds the line that `first_loop` finds, which has an edit, or those of `push_steps`, whose
     # clause equates.
     "pegexplain: notes.explain_peg_note",
+    # It passes on what its helpers return, whose clauses equate.
+    "peghints: told.peg_hints",
+    # It tells what its helpers find, of which `is_barren` has an edit.
+    "abnfhints: hints.abnf_hints",
     # It passes on what `nullable` marks, and `need` has an edit.
     "gramcheck: nullable.nullable_rules",
     # It passes on what `analysed` marks for `check_peg`, which has an edit.
@@ -54,11 +58,14 @@ EXEMPT = (
     "toolrun: finish.finish",
     # Another function of the crate has such a body, and its edit shows the same mistake.
     "commands: command.abnfi_command", "mains: mains.abnfi_main", "leastset: needs.are_needs_within",
+    "abnfcheck: table_marks.productive_rules", "toolrun: told.told_notes", "rulenames: used_names.add_use",
     "pegmatch: leaves.match_any", "feed: Feed.front", "pegnodes: cut.cut_grammar", "pegnodes: star_tables.find_tables",
     "pegnodes: template.cut_templates", "fanquber_c: exports.fanquber_abnf",
+    "fanquber_c: run_exports.fanquber_peg_open",
     # A crate above has such an edit.
     "abnfrun: AbnfJudge.judge", "memoryrun: whole_run.abnf_in_memory", "memoryrun: whole_run.peg_in_memory",
     "itemsets: Chart.spots", "toolrun: plan.plan_of", "toolrun: tool.act", "noteplaces: places.places_of",
+    "abnfcheck: table_marks.sound_rules",
 )
 
 

@@ -81,6 +81,16 @@ REACHED_EXPLAINED = abnf("a reached name explained", b"s = t\nt = s / u\n", b"X\
 STOP_EXPLAINED = peg("a stop explained", b"S <- 'a' ('=' [0-9]+ ';')* {x}", b"a=12,", [b"x\n"],
                      b"no match at byte 1\n  byte 4, line 1, column 5, in the unit at byte 0\n  a=12,\n      ^\n"
                      b'  expected [0-9] in S\n  expected ";" in S\n', 1, words=["-x"])
+REFUSED_EXPLAINED = abnf("refused lines explained", b'd = 2DIGIT "-" 2DIGIT\n', b"12x3\n12-34\n12-\n123456\n",
+                         [NO, YES, NO],
+                         b'line 1, letter 3: expected "-"\n  12x3\n    ^\n'
+                         b"line 3 ends too early: expected %x30-39\n  12-\n     ^\n"
+                         b"line 4 longer than 5 bytes\n  -l allows at most 16777216\n", 3, words=["-x", "-l", "5"])
+HINTED = abnf("hints on a grammar", b'a = "x" b / "y"\nb = %x39-30\n', b"y\n", [YES],
+              b"rule 'b' derives nothing\n  line 2: 'b' is defined\n"
+              b"reversed numbers in rule 'b'\n  line 2: %x39-30 derives nothing\n", words=["-x"])
+PEG_HINTED = peg("a hint on a choice", b"S <- 'a' / 'ab' {x}", b"a", [],
+                 b"alternative never taken in rule 'S'\n  line 1: \"ab\" behind \"a\"\n", words=["-x"])
 PRINTED = peg("a grammar printed", b"A<-('x')/[b-da^-]*", b"", [b'A <- "x" / [\\055\\136a-d]*\n'], words=PRINT)
 ALTERNATIVES = b'k = %s"Ab"\n  / "cd"\nK =/ 2*3%x78'
 LINES = b"Ab\nab\nCD\nxx\nxxxx\n"
@@ -124,12 +134,15 @@ GROWING = [
     TAKEN_LISTED,
     NONE_TAKEN,
     STOP_EXPLAINED,
+    REFUSED_EXPLAINED,
+    HINTED,
+    PEG_HINTED,
 ]
 
 
 # The runs whose writes fail.
 WRITTEN = [USERNAME, WORDS, NOTED, ABNF_NOTED, PRINTED, ABNF_PRINTED, CHECKED, ABNF_CHECKED, EXPLAINED, ABNF_EXPLAINED,
-           TAKEN, TAKEN_PRINTED, TAKEN_LISTED, NONE_TAKEN]
+           HINTED, TAKEN, TAKEN_PRINTED, TAKEN_LISTED, NONE_TAKEN]
 
 
 class Tools:
@@ -178,11 +191,12 @@ def is_as_stated(run, ended):
 
 
 def may_go_on(run, number):
-    """Tells whether a run may go on without that growth. Earley's sets answer where the automaton has no memory, and
-    notes are written by pieces where there is none for their lines."""
+    """Tells whether a run may go on without that growth. Earley's sets answer where the automaton has no memory, notes
+    are written by pieces where there is none for their lines, and a unit that is kept may not be asked for."""
     has_automaton = run.program == "abnfi" and "-m" not in run.words and run.name not in NO_AUTOMATON
     has_notes = bool(run.told) and "-x" not in run.words and run.program != "abnfx"
-    return has_automaton or has_notes or number <= len(run.words) + GROWTHS_OF_WORDS
+    keeps_units = run.program == "pegi" and "-x" in run.words and run.status == 0
+    return has_automaton or has_notes or keeps_units or number <= len(run.words) + GROWTHS_OF_WORDS
 
 
 def explained_beginnings(told):

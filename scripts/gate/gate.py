@@ -3,8 +3,8 @@
 libraries and the completions; if these are green `rt ci`; if that is green too the programs as users run them: those
 that `rt ci` built are put into bin/, and run on the folders of examples/ and the examples of the manual pages, on
 random cases against slow answers, by item sets alone, on grammars of a megabyte and lines of 16 MB that are made to
-cost much, and with memory, writes, reads and stack refused; then what shells complete, what is packed, and, if `make
-lib` made it, the library for C are tested.
+cost much, and with memory, writes, reads and stack refused; then what shells complete, what is packed, and the library
+for C, which is made over what `rt ci` proved, are tested.
 
 usage: gate.py
 
@@ -16,6 +16,9 @@ import pathlib
 import shutil
 import subprocess
 import sys
+
+sys.path.insert(0, str(pathlib.Path(__file__).resolve().parents[1]))  # scripts/, for what groups share
+from build.library import lacking
 
 PROGRAMS = ("pegi", "abnfi", "abnfx")
 # What is looked at before anything is proved, and what the programs are run by.
@@ -67,6 +70,11 @@ def put_programs():
     return True
 
 
+def put_library():
+    """Makes the library for C in bin/, where there is a C compiler. Tells whether that went well."""
+    return bool(lacking()) or script("build/library.py", "--over-ci")
+
+
 def main():
     if not all([script(*it) for it in BEFORE]):
         print("gate.py: a script says above what is wrong; nothing was proved")
@@ -75,7 +83,7 @@ def main():
     green = status == 0
     if green:
         print(last, flush=True)
-        green = put_programs() and all([script(*it) for it in BEHIND])
+        green = put_programs() and put_library() and all([script(*it) for it in BEHIND])
     print(last, flush=True)
     return 0 if green else status or 1
 

@@ -1,7 +1,7 @@
 #!/usr/bin/env python3
-"""Tests the library for C that `make lib` proved: each folder of examples/ runs through C and through the package of
-python/; then come settings, buffers and windows at their edges, four threads at once, each allocation refused in turn,
-and the examples and tests in C++ and Rust.
+"""Tests the library for C that the gate or `make lib` made: each folder of examples/ runs through C and through the
+package of python/; then come settings, buffers and windows at their edges, four threads at once, each allocation
+refused in turn, and the examples and tests in C++ and Rust.
 
 usage: library_test.py
 
@@ -18,26 +18,23 @@ import sys
 import tempfile
 
 sys.path.insert(0, str(pathlib.Path(__file__).resolve().parents[1]))  # scripts/, for what groups share
-from build.library import CC, CRATE, SONAME, TOP, make, run
-from crates import below
+from build.library import CC, CRATE, SONAME, TOP, lacking, make, newer_source, run
 
 CXX = os.environ.get("CXX", "c++").split()
 FLAGS = ["-O2", "-Wall", "-Wextra"]
-# What the example in each language prints.
-DAYS = b"yes\nno\nstatus 1\n"
+# What the examples in each language print.
+PRINTS = {"days": b"yes\nno\nstatus 1\n", "words": b"tea\nstatus 0\nmilk\nstatus 1\n"}
 REFUSED = ["-Wl,--wrap=malloc", "-Wl,--wrap=realloc", "-Wl,--wrap=free"]
 
 
 def why_skipped(proved):
     """Returns why nothing is tested, if it is so."""
-    missing = [it for it in (CC[0], "ar", "nm", "objcopy") if not shutil.which(it)]
-    if missing:
-        return f"no {', '.join(missing)}"
+    if lacking():
+        return f"no {', '.join(lacking())}"
     if not proved.is_file():
         return "`make lib` has not made it"
-    sources = (it for crate in {CRATE, *below(TOP, CRATE)} for it in (TOP / "crates" / crate / "src").rglob("*.rt"))
-    newer = [it for it in sources if it.stat().st_mtime > proved.stat().st_mtime]
-    return f"{newer[0].relative_to(TOP)} is newer: run `make lib`" if newer else ""
+    newer = newer_source(proved)
+    return f"{newer.relative_to(TOP)} is newer: run `make lib`" if newer else ""
 
 
 class Test:
@@ -81,7 +78,8 @@ class Test:
     def in_c(self):
         """Runs what is written in C."""
         uris = TOP / "examples/rfc3986/rfc3986.abnf"
-        self.ends("days.c", [self.built(CC, TOP / "c/examples/days.c")], out=DAYS)
+        for name, out in PRINTS.items():
+            self.ends(f"{name}.c", [self.built(CC, TOP / f"c/examples/{name}.c")], out=out)
         told = [self.examples(self.built(CC, TOP / "c/examples/run.c"))]
         self.ends("edges", [self.built(CC, TOP / "c/tests/edges.c")], out=b"")
         self.ends("threads", [self.built(CC, TOP / "c/tests/threads.c", "-pthread"), uris], out=b"")
@@ -92,12 +90,13 @@ class Test:
     def in_others(self):
         """Runs the examples and tests in C++ and Rust, and the tests in Python."""
         if shutil.which(CXX[0]):
-            self.ends("days.cpp", [self.built([*CXX, "-std=c++17"], TOP / "c/examples/days.cpp")], out=DAYS)
+            for name, out in PRINTS.items():
+                self.ends(f"{name}.cpp", [self.built([*CXX, "-std=c++17"], TOP / f"c/examples/{name}.cpp")], out=out)
             self.ends("each.cpp", [self.built([*CXX, "-std=c++17"], TOP / "c/tests/each.cpp")], out=b"")
         else:
             print(f"library: C++: no compiler {CXX[0]}: skipped")
         if shutil.which("rustc"):
-            for name, out in (("days", DAYS), ("each", b"")):
+            for name, out in (*PRINTS.items(), ("each", b"")):
                 program = self.folder / f"{name}_rs"
                 run("rustc", "--edition", "2021", "-O", "-o", program, "-L", f"native={self.folder}",
                     TOP / f"rust/{name}.rs")

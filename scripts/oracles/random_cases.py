@@ -8,8 +8,8 @@ of them by each program; 20000 if it is not given. Cases and their order follow 
 cases were compared; at the first disagreement it prints the case and ends with status 1. A program that is not built is
 skipped. With -u half of the runs of abnfi have its option `-u utf8`; so it is with -w and its option `-w`, and with -z
 and its option `-z`. With -x half of the runs of both have the option `-x`, half of these with what explains
-their notes (slow_notes.py) and how the run of pegi stops (slow_stops.py), the others of a text with a fault
-(slow_faults.py): a grammar's, of which some bytes are changed.
+their notes, with hints (slow_notes.py, slow_hints.py), how the run of pegi stops (slow_stops.py), and refused lines
+(slow_refused.py), the others of a text with a fault (slow_faults.py): a grammar's, of which some bytes are changed.
 """
 import argparse
 import collections
@@ -24,8 +24,10 @@ import random_abnf
 import random_peg
 import slow_abnf
 import slow_faults
+import slow_hints
 import slow_notes
 import slow_peg
+import slow_refused
 import slow_stops
 
 TOP = pathlib.Path(__file__).resolve().parents[2]
@@ -46,12 +48,21 @@ def spoiled(r, text):
     return text
 
 
-def explained(r, case, start, fault_of, notes_of):
+def parted(message):
+    """Returns the notes at the front of a message, and the rest."""
+    lines = message.splitlines(keepends=True)
+    count = next((at for at, it in enumerate(lines) if not slow_notes.kind_of(it[:-1].decode("latin-1"))), len(lines))
+    return b"".join(lines[:count]), b"".join(lines[count:])
+
+
+def explained(r, case, start, fault_of, notes_of, hints_of):
     """Returns a run with `-x`, half of them of the spoiled text; none where that text has no fault."""
     words = [*case.words, "-x"]
     if r.random() < 0.5:
         out, message, status = case.wanted
-        return case._replace(words=words, wanted=(out, notes_of(case.grammar, message, start), status))
+        notes, rest = parted(message)
+        told = notes_of(case.grammar, notes, start) + hints_of(case.grammar) + rest
+        return case._replace(words=words, wanted=(out, told, status))
     text = spoiled(r, case.grammar)
     told = fault_of(text)
     return told and Case(words, text, case.given, (b"", told.encode(), 2), 1)
@@ -73,7 +84,8 @@ def peg_case(r, may_be_explained=False):
         out, message, status = wanted
         behind = slow_stops.behind_stop(rules, given, limit, start) if status in (1, 3) else b""
         case = case._replace(wanted=(out, message + behind, status))
-        return explained(r, case, start, slow_faults.peg, functools.partial(slow_notes.peg, grammar=rules))
+        return explained(r, case, start, slow_faults.peg, functools.partial(slow_notes.peg, grammar=rules),
+                         functools.partial(slow_notes.peg_hints, grammar=rules))
     return case
 
 
@@ -93,7 +105,14 @@ def abnf_case(r, may_be_utf8=False, may_be_viable=False, may_be_nul=False, may_b
     *wanted, count = slow_abnf.answer(rules, given, limit, judged, is_utf8, is_viable, end)
     case = Case(words, text, given, tuple(wanted), count)
     if may_be_explained and r.random() < 0.5:
-        return explained(r, case, judged, slow_faults.abnf, slow_notes.abnf)
+        out, message, status = wanted
+        if status != 2:
+            notes, _ = slow_abnf.notes_on(slow_abnf.Rules(rules), judged)
+            message = notes + slow_refused.behind_notes(rules, given, limit, judged, is_utf8, end)
+        hints = functools.partial(slow_hints.abnf_hints, start=judged, letters="utf8" if is_utf8 else "bytes",
+                                  end=end[0])
+        case = case._replace(wanted=(out, message, status))
+        return explained(r, case, judged, slow_faults.abnf, slow_notes.abnf, hints)
     return case
 
 

@@ -11,7 +11,7 @@ KINDS = [("rule '", "' redefined", "redefined"), ("rule '", "' extended before i
          ("rule '", "' used but not defined", "undefined"), ("prose in rule '", "'", "prose"),
          ("rule '", "' defined but not used", "unused"), ("possible infinite loop in rule '", "'", "loop"),
          ("possible infinite left recursion in rule '", "'", "left")]
-SHOWN, AGAIN, CHAIN, STEPS, WAYS = 60, 8, 8, 8, 8
+SHOWN, AGAIN, CHAIN, STEPS, WAYS, HINTS = 60, 8, 8, 8, 8, 16
 
 
 def cut(name):
@@ -23,7 +23,7 @@ class Places:
     """Where a text defines and uses its rules; `key` is what names of one rule have in common."""
 
     def __init__(self, text, tokens, signs, line_end, key):
-        self.key, self.named, self.bodies, self.repeats, within = key, {}, {}, {}, None
+        self.key, self.named, self.bodies, self.repeats, self.literals, within = key, {}, {}, {}, {}, None
         for token, behind in zip(tokens, tokens[1:]):
             line = len(re.findall(line_end, text[:token.start])) + 1
             if token.kind in ("Ident", "Name") and behind.kind in signs:
@@ -32,6 +32,8 @@ class Places:
                 self.bodies[within].append((token.kind == "Prose", token.text, line))
             elif token.kind in ("Star", "Plus") and within is not None:
                 self.repeats.setdefault(within, []).append(line)
+            elif token.kind == "Literal" and within is not None:
+                self.literals.setdefault(within, []).append(line)
 
     def begin(self, name, line, adds):
         """Begins a definition. Returns the rule to whose bodies it belongs; none where it does not stand."""
@@ -115,6 +117,23 @@ def repeats(e):
         yield e
 
 
+def first_that_takes(alternatives, later):
+    """Returns the first of the alternatives before a later one that is a literal and takes wherever that does, since
+    it takes at the front of the literal with which the later one begins; none if none does."""
+    first = later[1][0] if later[0] == "seq" and later[1] else later
+    return next((it[1] for it in alternatives if it[0] == first[0] == "bytes"
+                 and slow_peg.Matcher({}, first[1]).match(it, 0) is not None), None)
+
+
+def literals(e, behind=None):
+    """Yields the literals in an expression, each with that behind which its alternative is never taken."""
+    if e[0] == "bytes":
+        yield e[1], behind
+    for number, part in enumerate(slow_peg.parts(e)):
+        before = first_that_takes(e[1][:number], part) if e[0] == "choice" else None
+        yield from literals(part, behind if e[0] == "seq" and number == 0 else before)
+
+
 class PegPlaces(Places):
     """Of a text of peg(1) also what the bodies of the rules are."""
 
@@ -164,6 +183,16 @@ class PegPlaces(Places):
         way = self.way(name.decode())
         told = "".join(self.step(*it) for it in list(zip(way, way[1:] + way[:1]))[:STEPS])
         return told + (f"  and {len(way) - STEPS} more\n" if len(way) > STEPS else "")
+
+    def hints(self):
+        """Returns what is told of alternatives that are never taken."""
+        told = [f"alternative never taken in rule '{cut(name.encode())}'\n"
+                f"  line {line}: {cut(canonical(('bytes', later)).encode())}"
+                f" behind {cut(canonical(('bytes', earlier)).encode())}\n"
+                for name, e in self.rules.items()
+                for line, (later, earlier) in zip(self.literals.get(name.encode(), []), literals(e))
+                if earlier is not None]
+        return "".join(told[:HINTS]) + (f"  and {len(told) - HINTS} more\n" if len(told) > HINTS else "")
 
     def lines_on(self, kind, name, start):
         if kind == "left":
@@ -234,6 +263,12 @@ def peg(text, message, start, grammar):
     """Returns the messages of pegi on a grammar and an input, with what explains the notes."""
     tokens = slow_faults.tokens_of(text, slow_faults.PEG_WHITE, slow_faults.PEG_TOKENS, True)
     return explained(message, PegPlaces(text, tokens, grammar), start and start.encode())
+
+
+def peg_hints(text, grammar):
+    """Returns the hints on a grammar, of which the text is given, too."""
+    tokens = slow_faults.tokens_of(text, slow_faults.PEG_WHITE, slow_faults.PEG_TOKENS, True)
+    return PegPlaces(text, tokens, grammar).hints().encode("latin-1")
 
 
 def abnf(text, message, judged):

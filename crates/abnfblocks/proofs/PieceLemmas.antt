@@ -34,10 +34,6 @@ abbrev pub is_nothing : Option ReadFault → Bool
 is_nothing None = true
 is_nothing (Some fault) = false
 
-pub fault-told : (a b : List ℕ) (fault told : ReadFault) → a ≡ b → told ≡ fault → fault ≢ faults.Memory
-    → IsFaultOf a fault → IsOutcome b (Some told)
-fault-told a b fault told same e other h = rw e (subst (λ (text : List ℕ). IsFaultOf text fault) same h, other)
-
 pub outcome-bars : FaultsBar → (text : List ℕ) (fault : ReadFault) → IsOutcome text (Some fault) → IsAbnf text → ⊥
 outcome-bars bar text fault (is_fault, other) (definitions, reads) = bar text definitions fault is_fault other reads
 

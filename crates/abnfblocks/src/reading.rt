@@ -1,5 +1,5 @@
 //! What the lines of a block read as.
-ghost use Rattle.std.specs.Prelude.{◌≡◌, ◌≢◌, map, IfOk};
+ghost use Rattle.std.specs.Prelude.{map, IfOk};
 ghost use Rattle.rfctext.specs.TextLines.{numbered};
 ghost use Rattle.abnfblocks.specs.TextBlocks.{block_text};
 ghost use Rattle.abnfblocks.specs.FoundBlocks.{IsOutcome};
@@ -9,16 +9,6 @@ use abnfread::read_abnf;
 use rfctext::TextLine;
 use ruletable::{Memory, ReadFault};
 use std::alloc::Global;
-
-// The fault, but for want of memory.
-fn told_fault(fault: ReadFault) -> Result<ReadFault, Memory>
-    ensures { IfOk result (λ f. (f ≡ fault) × (fault ≢ ReadFault.Memory)) }
-{
-    match fault {
-        ReadFault::Memory => Err(Memory),
-        other => Ok(other),
-    }
-}
 
 /// Returns what is wrong with the lines as ABNF, if something is. They are read without that margin.
 ///
@@ -34,9 +24,7 @@ pub(crate) fn fault_of(
     let text = joined_text(alloc, margin_size, lines)?;
     match read_abnf(alloc, &text) {
         Ok(_) => Ok(None),
-        Err(fault) => {
-            let told = told_fault(fault)?;
-            Ok(Some(told))
-        }
+        Err(ReadFault::Memory) => Err(Memory),
+        Err(fault) => Ok(Some(fault)),
     }
 }

@@ -197,7 +197,7 @@ module _ (rules : List Rule) (given : Option (List ℕ)) (names : List (List ℕ
   abbrev count : ℕ
   count = length rules
 
-  id_at : {n : List ℕ} {m : ℕ} → IsPlace Fold n names m → IsIdAt count m (id_of rules n)
+  pub id_at : {n : List ℕ} {m : ℕ} → IsPlace Fold n names m → IsIdAt count m (id_of rules n)
   id_at {n = n} {m = m} p = place_id rules more (subst (λ l. IsPlace Fold n l m) graph.all p)
 
   -- each rule has a name
@@ -211,14 +211,14 @@ module _ (rules : List Rule) (given : Option (List ℕ)) (names : List (List ℕ
   pub user_below : (user m : ℕ) → Step rows user m → user < count
   user_below user m step = ⊎_elim (λ lt. lt) (λ le. absurd (empty_row user m le step)) (cases_lt user count)
 
-  record StepUse (user m : ℕ) : Type 0 where
-    body : Element
-    name : List ℕ
-    body_is : slice_get (bodies rules) user ≡ Some body
-    within : Within body (e.Name name)
-    place : IsPlace Fold name names m
+  pub record StepUse (user m : ℕ) : Type 0 where
+    pub body : Element
+    pub name : List ℕ
+    pub body_is : slice_get (bodies rules) user ≡ Some body
+    pub within : Within body (e.Name name)
+    pub place : IsPlace Fold name names m
 
-  step_use : (user m : ℕ) → Step rows user m → StepUse user m
+  pub step_use : (user m : ℕ) → Step rows user m → StepUse user m
   step_use user m step =
       let b = body_there rules user (user_below user m step) in
       let u = id_use m (graph.are_rows.ids user b.0 b.1) step in
@@ -239,12 +239,12 @@ module _ (rules : List Rule) (given : Option (List ℕ)) (names : List (List ℕ
       (λ high. absurd (let le = high.0 in omega (arith, lt, le))) (id_at u.place) in
       record { body = u.body; name = u.name; body_is = u.body_is; within = u.within; id_is = is }
 
-  record StepFor (user id : ℕ) : Type 0 where
-    target : ℕ
-    step : Step rows user target
-    is : IsIdAt count target id
+  pub record StepFor (user id : ℕ) : Type 0 where
+    pub target : ℕ
+    pub step : Step rows user target
+    pub is : IsIdAt count target id
 
-  uses_for : (user : ℕ) (body : Element) (name : List ℕ) → slice_get (bodies rules) user ≡ Some body
+  pub uses_for : (user : ℕ) (body : Element) (name : List ℕ) → slice_get (bodies rules) user ≡ Some body
       → Within body (e.Name name) → StepFor user (id_of rules name)
   uses_for user body name at within =
       let f = use_id (graph.are_rows.ids user body at) (within_name within) in

@@ -1,6 +1,7 @@
 pub mod AbnfNotesLemmas
 pub mod AimLemmas
 mod BeginsMemberLemmas
+mod BrokenNeedsLemmas
 mod DerivesDecidedLemmas
 mod ElementNeedsLemmas
 mod FiniteLeastLemmas

@@ -2,6 +2,7 @@ pub mod AbnfGrammar
 pub mod AbnfNotes
 pub mod AbnfUses
 pub mod Beginnings
+pub mod BrokenNeeds
 pub mod Decided
 pub mod Derivable
 pub mod NameChains

@@ -14,6 +14,7 @@ mod prose;
 mod reached_names;
 mod rule_marks;
 mod sound_abnf;
+mod table_marks;
 
 pub use abnf_check::{Checked, check_abnf};
 pub use decided_law::{derivation_is_decided, furthest_is_found};
@@ -22,3 +23,4 @@ pub use notes_law::one_list_of_abnf_notes;
 pub use productive_marks::productive;
 pub use reached_names::{NameChains, name_chains, one_name_chain};
 pub use sound_abnf::SoundAbnf;
+pub use table_marks::{productive_rules, sound_rules};

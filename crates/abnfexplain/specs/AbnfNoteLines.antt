@@ -3,7 +3,7 @@ use Rattle.std.specs.Prelude.{ℕ, List, Option}
 use Rattle.abnfread.specs.AbnfKinds.{ends_list}
 use Rattle.abnfread.specs.AbnfSlices.{White, First}
 use Rattle.abnfread.specs.declared.kind.AbnfKind.{AbnfKind}
-use Rattle.abnfread.specs.declared.kind.AbnfKind.TheVariants.{Name, Is, Adds, Prose}
+use Rattle.abnfread.specs.declared.kind.AbnfKind.TheVariants.{Name, Is, Adds, Prose, Num}
 use Rattle.noteplaces.specs.ExplainedNotes.{ArePlaces, IsNoteExplained}
 use Rattle.noteplaces.specs.declared.places.Places.{Places}
 use Rattle.noteplaces.specs.declared.sign.Sign.{Sign}
@@ -18,6 +18,7 @@ sign_of Name = signs.Name
 sign_of Is = signs.Defines
 sign_of Adds = signs.Adds
 sign_of Prose = signs.Prose
+sign_of Num = signs.Number
 sign_of _ = signs.Other
 
 -- the places of a text's definitions

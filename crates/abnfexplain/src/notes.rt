@@ -21,6 +21,7 @@ impl Signs<AbnfKind> for AbnfSigns {
             AbnfKind::Is => Sign::Defines,
             AbnfKind::Adds => Sign::Adds,
             AbnfKind::Prose => Sign::Prose,
+            AbnfKind::Num => Sign::Number,
             _ => Sign::Other,
         }
     }

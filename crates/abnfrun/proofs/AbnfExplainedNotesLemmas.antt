@@ -1,6 +1,7 @@
 -- What explains a note is one text.
 -- Serves: one_statement_of_abnf, run_abnf (right)
-use Rattle.std.proofs.Common.{◌≡◌, ◌⊎◌, inl, inr, ℕ, List, [], ◌++◌, Option, sym, ◌∙◌, ap, subst}
+use Rattle.std.proofs.Common.{◌≡◌, ◌⊎◌, inl, inr, ℕ, List, ◌++◌, length, Option, sym, ◌∙◌, ap, subst}
+use Rattle.std.proofs.lemmas.List.{length-map}
 use Rattle.ruletable.specs.Notes.{Said}
 use Rattle.ruletable.specs.declared.note.NoteKind.{NoteKind}
 use Rattle.ruletable.specs.declared.note.NoteKind.TheVariants.{Redefined, ExtendedEarly, Undefined, Prose, Unused}
@@ -8,7 +9,7 @@ use Rattle.ruletable.specs.declared.note.NoteKind.TheVariants.{LeftRecursion, Lo
 use Rattle.ruletable.specs.Rules as table
 use Rattle.abnfread.specs.AbnfReading.{Reads}
 use Rattle.abnfread.specs.AbnfTable.{IsCoreTable, IsTableOf}
-use Rattle.abnfread.specs.AbnfViews.{rules_of}
+use Rattle.abnfread.specs.AbnfViews.{rule_of, rules_of}
 use Rattle.abnfread.specs.declared.elem.Elem.{Elem}
 use Rattle.abnfread.specs.Element.{Definition, Rule}
 use Rattle.abnfcheck.specs.NameChains.{IsNameChain}
@@ -60,13 +61,15 @@ explanation_is_one lines reading one text start note a b g h =
 
 -- the rules of a text with the core rules that it leaves alone
 pub rules_are_all : (text : List ℕ) (file core : table.Rules Elem) (again early : List ℕ) (rules : table.Rules Elem)
+    (count : ℕ) → count ≡ length file.rules
     → ((definitions : List Definition) × Reads text definitions × IsTableOf definitions file again early)
-    → IsCoreTable core → rules ≡ with_core file core.rules → AreAllRules text rules
-rules_are_all text file core again early rules (ds, reads, t) c is = record {
+    → IsCoreTable core → rules ≡ with_core file core.rules → AreAllRules text rules count
+rules_are_all text file core again early rules count many (ds, reads, t) c is = record {
   definitions = ds;
   reads = reads;
   folds = ap (λ z. z.names) is ∙ t.names;
   all = ap rules_of is ∙ all_same ds file core t.names t.kept c.listed;
+  counted = many ∙ sym (length-map file.rules rule_of) ∙ ap length t.kept;
 }
 
 -- the line of a chain stands behind notes of two kinds

@@ -17,9 +17,12 @@ use Rattle.abnfrun.specs.AbnfAnswers.{again, cut_again, printed, no_memory}
 use Rattle.abnfprint.specs.AbnfReadBack.{file_rules}
 use Rattle.abnfrun.specs.AbnfNoted.{all_rules, again_in, early_in, judged_of, AreNotesOn, IsRefusedFor, AreAgain}
 use Rattle.abnfrun.specs.AbnfNoted.{rule_given}
-use Rattle.abnfrun.specs.AbnfReply.{AnswersFor, form_of, printed_rules, JudgeReply}
+use Rattle.abnfrun.specs.AbnfTextHints.{AreTextHints}
+use Rattle.abnfrun.specs.AbnfReply.{AnswersFor, RefusalFor, form_of, printed_rules, JudgeReply}
 use Rattle.abnfrun.proofs.IsAnswerOnLemmas.{FurthestIsOne}
 use Rattle.abnfrun.proofs.IsAnswerToLemmas.{TextIsOne, one_answer}
+use Rattle.letters.specs.declared.alphabet.Alphabet.{Alphabet}
+use Rattle.refusedlines.specs.Refusals.{IsRefusalTold}
 use Rattle.lines.specs.declared.answers.Answer.{Answer}
 use Rattle.lines.proofs.LinesReplyLemmas.{one_lines_reply}
 use Rattle.toolrun.specs.Input.{Input}
@@ -29,13 +32,18 @@ use Rattle.toolrun.specs.RunSteps as steps
 use Rattle.toolrun.specs.declared.settings.Settings.{Settings}
 use Rattle.toolrun.proofs.OneStatementLemmas.{Stated, one_stated, one-explained, is_noted, is_checked, is_run}
 use Rattle.toolrun.proofs.OneStatementLemmas.{is_again, is_printed}
-use Rattle.toolrun.proofs.ToldNotesLemmas.{told-one}
-use Rattle.toolrun.specs.ToldNotes.{ToldNotes}
+use Rattle.toolrun.proofs.ToldNotesLemmas.{hinted-one, told-one}
+use Rattle.toolrun.specs.ToldNotes.{HintedNotes, ToldNotes, WhyNoted}
 
 -- each line has one answer
 abbrev AnswersAreOne : Settings → Type 0
 AnswersAreOne settings = (rules : List Rule) (judged : ℕ) (line : List ℕ) (a b : Answer)
     → AnswersFor rules judged settings line a → AnswersFor rules judged settings line b → a ≡ b
+
+-- a refused line is explained by one text
+abbrev pub RefusalsAreOne : Type 0
+RefusalsAreOne = (alphabet : Alphabet) (rules : List Rule) (judged : ℕ) (line : List ℕ) (number : ℕ) (a b : List ℕ)
+    → IsRefusalTold alphabet rules judged line number a → IsRefusalTold alphabet rules judged line number b → a ≡ b
 
 -- the notes on redefinitions are one list
 one_again : (definitions : List Definition) (a b : List Said) → AreAgain definitions a → AreAgain definitions b → a ≡ b
@@ -53,18 +61,29 @@ abbrev NotesAreOne : Type 0
 NotesAreOne = (text : List ℕ) (start : Option (List ℕ)) (note : Said) (a b : List ℕ)
     → ExplainsAbnfNote text start note a → ExplainsAbnfNote text start note b → a ≡ b
 
+-- the hints on a text are one text
+abbrev HintsAreOne : Type 0
+HintsAreOne = (text : List ℕ) (settings : Settings) (a b : List ℕ) → AreTextHints text settings a
+    → AreTextHints text settings b → a ≡ b
+
 module _ (settings : Settings) (input : Input) where
   -- what a run of these definitions states
   abbrev RunOf : List Definition → Reply → Type 0
   RunOf definitions = JudgeReply (all_rules definitions) (judged_of definitions (rule_given settings)) settings input
 
-  one_run : AnswersAreOne settings → (definitions : List Definition) (a b : Reply) → RunOf definitions a
-      → RunOf definitions b → a.status ≢ 5 → b.status ≢ 5 → a ≡ b
-  one_run one definitions a b (steps.replied r g) (steps.replied q h) m n =
-      one_lines_reply (AnswersFor (all_rules definitions) (judged_of definitions (rule_given settings)) settings)
-      (one (all_rules definitions) (judged_of definitions (rule_given settings))) (form_of settings) input a b g h
-  one_run one definitions a b (steps.no_memory point out reply before replies front) h m n = absurd (m refl)
-  one_run one definitions a b g (steps.no_memory point out reply before replies front) m n = absurd (n refl)
+  one_run : AnswersAreOne settings → RefusalsAreOne → (definitions : List Definition) (a b : Reply)
+      → RunOf definitions a → RunOf definitions b → a.status ≢ 5 → b.status ≢ 5 → a ≡ b
+  one_run one refusal definitions a b (steps.replied_told r g) (steps.replied_told q h) m n =
+      let rules = all_rules definitions in
+      let judged = judged_of definitions (rule_given settings) in
+      one_lines_reply (AnswersFor rules judged settings) (one rules judged) (form_of settings) input settings.explain
+      (RefusalFor rules judged settings) (refusal settings.letters rules judged) a b g h
+  one_run one refusal definitions a b (steps.unexplained plain replies told tells lack) h m n = absurd (m refl)
+  one_run one refusal definitions a b (steps.cut_short point out told reply before tells replies front) h m n =
+      absurd (m refl)
+  one_run one refusal definitions a b g (steps.unexplained plain replies told tells lack) m n = absurd (n refl)
+  one_run one refusal definitions a b g (steps.cut_short point out told reply before tells replies front) m n =
+      absurd (n refl)
 
   notes_are_one : (definitions : List Definition) (a b : List Said) → AreNotesOn definitions (rule_given settings) a
       → AreNotesOn definitions (rule_given settings) b → a ≡ b
@@ -77,6 +96,7 @@ module _ (settings : Settings) (input : Input) where
         (λ definitions. AreNotesOn definitions (rule_given settings))
         (λ definitions notes. IsRefusedFor definitions (rule_given settings))
         (λ definitions notes. IsRefusedFor definitions (rule_given settings) → ⊥) AreAgain
+        (HintedNotes settings (ExplainsAbnfNote text) (AreTextHints text settings))
         (ToldNotes settings (ExplainsAbnfNote text)) RunOf
         (λ definitions. printed_rules (file_rules definitions)) settings.mode
 
@@ -106,30 +126,37 @@ module _ (settings : Settings) (input : Input) where
         inr (record { definitions = ds; reads = r; states = is_printed are mode })
     parts_of_states notes reply (no_memory within) ample = absurd (ample refl)
 
-    one_of_text : ExplanationsAreOne → NotesAreOne → AnswersAreOne settings → (notes others : List ℕ) (a b : Reply)
-        → IsStated notes a → IsStated others b → a.status ≢ 5 → b.status ≢ 5 → (notes ≡ others) × (a ≡ b)
-    one_of_text explained told one = one_stated (IsFaultOf text)
+    one_of_text : ExplanationsAreOne → NotesAreOne → HintsAreOne → AnswersAreOne settings → RefusalsAreOne
+        → (notes others : List ℕ) (a b : Reply) → IsStated notes a → IsStated others b → a.status ≢ 5
+        → b.status ≢ 5 → (notes ≡ others) × (a ≡ b)
+    one_of_text explained told hints one refusal = one_stated (IsFaultOf text)
         (λ fault. Explained settings (Explains text fault)) (Reads text)
         (λ definitions. AreNotesOn definitions (rule_given settings))
         (λ definitions notes. IsRefusedFor definitions (rule_given settings))
         (λ definitions notes. IsRefusedFor definitions (rule_given settings) → ⊥) AreAgain
+        (HintedNotes settings (ExplainsAbnfNote text) (AreTextHints text settings))
         (ToldNotes settings (ExplainsAbnfNote text)) RunOf
         (λ definitions. printed_rules (file_rules definitions)) settings.mode (one-reading text) (one-fault text)
         (λ fault. one-explained settings (Explains text fault) (explained text fault)) (no-fault text) notes_are_one
         one_again
-        (λ notes. told-one (λ note. one-explained settings (ExplainsAbnfNote text (rule_given settings) note)
-        (told text (rule_given settings) note)))
-        (λ definitions notes bad fine. fine bad) (one_run one)
+        (hinted-one settings (ExplainsAbnfNote text) (AreTextHints text settings) one_line (hints text settings))
+        (λ notes. told-one one_line)
+        (λ definitions notes bad fine. fine bad) (one_run one refusal)
+      where
+        one_line : (note : Said) (a b : List ℕ) → WhyNoted settings (ExplainsAbnfNote text) note a
+            → WhyNoted settings (ExplainsAbnfNote text) note b → a ≡ b
+        one_line note = one-explained settings (ExplainsAbnfNote text (rule_given settings) note)
+            (told text (rule_given settings) note)
 
 -- one list of notes and one reply
-pub one_statement : ExplanationsAreOne → NotesAreOne → TextIsOne → FurthestIsOne → (text : List ℕ) (settings : Settings)
-    (input : Input) (notes others : List ℕ) (a b : Reply) →
+pub one_statement : ExplanationsAreOne → NotesAreOne → HintsAreOne → TextIsOne → FurthestIsOne → RefusalsAreOne
+    → (text : List ℕ) (settings : Settings) (input : Input) (notes others : List ℕ) (a b : Reply) →
     AbnfStates text settings input notes a → AbnfStates text settings input others b → a.status ≢ 5 → b.status ≢ 5
     → (notes ≡ others) × (a ≡ b)
-one_statement explained told one furthest text settings input notes others a b g h m n =
-    one_of_text settings input text explained told
+one_statement explained told hints one furthest refusal text settings input notes others a b g h m n =
+    one_of_text settings input text explained told hints
     (λ rules judged line. one_answer one furthest settings.letters rules judged line
-    settings.viable) notes others a b (parts_of_states settings input text notes a g m)
+    settings.viable) refusal notes others a b (parts_of_states settings input text notes a g m)
     (parts_of_states settings input text others b h n) m n
 
 -- what spells definitions is not too long

@@ -1,5 +1,6 @@
 mod AbnfExplainedNotesLemmas
 pub mod AbnfStatesLemmas
+pub mod AbnfTextHintsLemmas
 pub mod AllRulesLemmas
 pub mod AreRedefinitionsLemmas
 pub mod EarlyInLemmas

@@ -1,6 +1,7 @@
 -- The answer to one line is the reply to the input that is that line.
 -- Serves: answers_as_a_run, open_abnf
-use Rattle.std.proofs.Common.{◌≡◌, ℕ, true, false, List, [], ◌∷◌, ◌++◌, refl, sym, arith, ◌≤◌, ◌+◌, length, drop}
+use Rattle.std.proofs.Common.{◌≡◌, ℕ, Bool, true, false, List, [], ◌∷◌, ◌++◌, refl, sym, ap, arith, ◌≤◌, ◌+◌, length}
+use Rattle.std.proofs.Common.{drop}
 use Rattle.std.specs.Prelude.{Some, None, Option}
 use Rattle.std.proofs.lemmas.List.{append-nil, drop_all, length-append}
 use Rattle.abnfcheck.specs.AbnfGrammar.{Grammar}
@@ -9,41 +10,62 @@ use Rattle.abnfread.specs.AbnfViews.{rules_of}
 use Rattle.abnfrun.specs.AbnfAnswers.{AbnfStates, judges}
 use Rattle.abnfrun.specs.AbnfLanguage.{IsChecked}
 use Rattle.abnfrun.specs.AbnfNoted.{all_rules, judged_of, rule_given}
-use Rattle.abnfrun.specs.AbnfReply.{AnswersFor, IsAnswerTo, form_of}
-use Rattle.abnfrun.specs.OpenAbnf.{IsOpened, answer_alone, line_alone}
+use Rattle.abnfrun.specs.AbnfReply.{AnswersFor, IsAnswerTo, RefusalFor, form_of}
+use Rattle.abnfrun.specs.OpenAbnf.{IsOpened, TellsAlone, answer_alone, line_alone}
+use Rattle.abnfrun.specs.AbnfTextHints.{AreTextHints}
 use Rattle.abnfrun.specs.OpenJudge.{OpenJudge}
-use Rattle.lines.specs.InputLines.{HasNoEnd, Lines, Ends, LinesReply, IsLine, none, one_more, finished, behind}
-use Rattle.lines.specs.InputLines.{answer_text, says_yes, status_after, place_taken}
+use Rattle.lines.specs.InputLines.{HasNoEnd, StandsAt, with_end, none, one_more, finished, at_front, behind}
+use Rattle.lines.specs.InputLines.{answer_text, refused_by, status_after, place_taken}
+use Rattle.lines.specs.LineRefusals.{LinesReply, TellsLine, count_untold, none_told, one_told}
 use Rattle.lines.specs.declared.answers.Answer.{Answer}
+use Rattle.lines.specs.declared.answers.Answer.TheVariants.{Yes, No, NoAfter}
 use Rattle.lines.specs.declared.line.LineForm.{LineForm}
-use Rattle.lines.specs.declared.line_loop.At.{At}
+use Rattle.lines.specs.declared.reached.At.{At}
 use Rattle.ruletable.specs.Notes.{Said}
 use Rattle.toolrun.specs.Input.{Input}
 use Rattle.toolrun.specs.Reply.{Reply}
-use Rattle.toolrun.specs.RunSteps.{Replies, replied}
+use Rattle.toolrun.specs.Explained.{ExplainedIf}
+use Rattle.toolrun.specs.RunEnd.{more_refused}
+use Rattle.toolrun.specs.RunSteps.{replied_told}
 use Rattle.toolrun.specs.Status.{code_of}
-use Rattle.toolrun.specs.ToldNotes.{ToldNotes}
+use Rattle.toolrun.specs.ToldNotes.{HintedNotes}
 use Rattle.toolrun.specs.declared.settings.Mode.TheVariants.{Run}
 use Rattle.toolrun.specs.declared.settings.Settings.{Settings}
 use Rattle.toolrun.specs.declared.stop.Stop.TheVariants.{Quiet}
 
-module _ (Told : List ℕ → Answer → Type 0) (form : LineForm) (line : List ℕ) (said : Answer) where
+-- of one refused line no more are told
+none_more : (asked : Bool) (said : Answer) → more_refused (count_untold asked (refused_by said)) ≡ []
+none_more true Yes = refl
+none_more true No = refl
+none_more true (NoAfter n) = refl
+none_more false said = refl
+
+-- no lines explain a run that ends quietly
+quiet_ends : (asked : Bool) → ExplainedIf asked (λ text. text ≡ []) []
+quiet_ends true = refl
+quiet_ends false = refl
+
+module _ (Told : List ℕ → Answer → Type 0) (asked : Bool) (Refusal : List ℕ → ℕ → List ℕ → Type 0) (form : LineForm)
+    (line : List ℕ) (said : Answer) (why : List ℕ) where
   abbrev alone : Input
   alone = record { bytes = line ++ form.end ∷ []; fault = false }
 
-  abbrev front : At
-  front = record { place = 0; count = 0; all = true }
-
   abbrev after : At
-  after = behind front (length line) said
+  after = behind at_front (length line + 1) said
 
-  abbrev reply : Reply
-  reply = record {
+  abbrev reply_of : List ℕ → Reply
+  reply_of told = record {
     out = answer_text said;
-    err = [];
-    status = code_of (status_after (says_yes said));
+    err = told;
+    status = code_of (status_after (refused_by said));
     taken = length line + 1;
   }
+
+  abbrev reply : Reply
+  reply = reply_of why
+
+  one_counted : after.refused ≡ refused_by said
+  one_counted = omega arith
 
   all_is_taken : length (line ++ form.end ∷ []) ≡ length line + 1
   all_is_taken = length-append line (form.end ∷ [])
@@ -55,19 +77,34 @@ module _ (Told : List ℕ → Answer → Type 0) (form : LineForm) (line : List 
   one_line_taken = omega (arith, all_is_taken)
 
   pub one_line_replies : HasNoEnd form.end line → length line ≤ form.limit → Told line said
-      → Replies (Lines Told form alone) (Ends Told form alone) (place_taken form.limit alone) reply
-  one_line_replies one within told = record {
-    point = after;
-    before = answer_text said;
-    last = [];
-    stop = Quiet (status_after after.all);
-    steps = one_more front [] line said none (record { after = []; cut = refl; one = one; within = within }) told;
-    ends = finished (nothing_is_left, refl);
-    out = sym (append-nil (answer_text said));
-    err = refl;
-    status = refl;
-    taken = one_line_taken;
-  }
+      → TellsLine Told asked Refusal at_front line said why → LinesReply Told asked Refusal form alone reply
+  one_line_replies one within told tells =
+      let stands : StandsAt form alone 0 line (length line + 1) =
+      with_end line (record { after = []; cut = refl; one = one; within = within }) in
+      record {
+        plain = reply_of [];
+        replies = record {
+          point = after;
+          before = answer_text said;
+          last = [];
+          stop = Quiet (status_after after.refused);
+          steps = one_more at_front [] line (length line + 1) said none stands told;
+          ends = finished (nothing_is_left, refl);
+          out = sym (append-nil (answer_text said));
+          err = refl;
+          status = ap (λ n. code_of (status_after n)) (sym one_counted);
+          taken = one_line_taken;
+        };
+        before = why;
+        tells = record {
+          first = why;
+          refusals = one_told at_front [] line (length line + 1) said why none_told stands told tells;
+          is = rw (one_counted, none_more asked said) (sym (append-nil why));
+        };
+        why = [];
+        explains = quiet_ends asked;
+        told = ap reply_of (sym (append-nil why));
+      }
 
 -- a text that was checked, and whose grammar is refused
 pub refused_is_opened : (text : List ℕ) (settings : Settings) (notes : List Said) (sound : Option Grammar)
@@ -99,14 +136,18 @@ judge_is_opened text settings notes sound grammar judge is some made =
 
 -- the answer of an open grammar to a line is what a run of its text states for that line alone
 pub open_states : (text line : List ℕ) (settings : Settings) (notes : List Said) (told : List ℕ) (judge : OpenJudge)
-    (said : Answer) → settings.mode ≡ Run → IsOpened text settings notes (Some judge)
-    → ToldNotes settings (ExplainsAbnfNote text) notes told → HasNoEnd (form_of settings).end line
+    (said : Answer) (why : List ℕ) → settings.mode ≡ Run → IsOpened text settings notes (Some judge)
+    → HintedNotes settings (ExplainsAbnfNote text) (AreTextHints text settings) notes told
+    → HasNoEnd (form_of settings).end line
     → length line ≤ judge.limit
     → IsAnswerTo judge.letters judge.viable (rules_of judge.grammar.rules) judge.grammar.judged line said
-    → AbnfStates text settings (line_alone settings line) told (answer_alone settings line said)
-open_states text line settings notes told judge said run is tells one within answers =
+    → TellsAlone judge settings line said why
+    → AbnfStates text settings (line_alone settings line) told (answer_alone settings line said why)
+open_states text line settings notes told judge said why run is tells one within answers explains =
     let j = is.ready.1 in
-    judges is.definitions notes told (answer_alone settings line said) is.reads is.are_notes tells is.ready.0 run
-    (replied _ (one_line_replies (AnswersFor (all_rules is.definitions) (judged_of is.definitions (rule_given settings))
-    settings) (form_of settings) line said one (rw (← j.limit) within)
-    (rw (j.letters, j.viable, j.rules, j.judged) at answers)))
+    let rules = all_rules is.definitions in
+    let judged = judged_of is.definitions (rule_given settings) in
+    judges is.definitions notes told (answer_alone settings line said why) is.reads is.are_notes tells is.ready.0 run
+    (replied_told _ (one_line_replies (AnswersFor rules judged settings) settings.explain
+    (RefusalFor rules judged settings) (form_of settings) line said why one (rw (← j.limit) within)
+    (rw (j.letters, j.viable, j.rules, j.judged) at answers) (rw (j.letters, j.rules, j.judged) at explains)))

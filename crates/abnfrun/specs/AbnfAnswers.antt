@@ -10,14 +10,16 @@ use Rattle.abnfread.specs.Element.{Definition}
 use Rattle.abnfprint.specs.AbnfReadBack.{file_rules}
 use Rattle.abnfrun.specs.AbnfNoted.{all_rules, judged_of, AreNotesOn, IsRefusedFor, AreAgain, rule_given}
 use Rattle.abnfrun.specs.AbnfReply.{printed_rules, JudgeReply}
+use Rattle.abnfrun.specs.AbnfTextHints.{AreTextHints}
 use Rattle.toolrun.specs.Explained.{Explained}
 use Rattle.toolrun.specs.Input.{Input}
 use Rattle.toolrun.specs.Reply.{Reply, notes_alone, refusal, unexplained_fault, without_memory}
-use Rattle.toolrun.specs.ToldNotes.{CutNotes, ToldNotes}
+use Rattle.toolrun.specs.ToldNotes.{CutNotes, HintedNotes, ToldNotes}
 use Rattle.toolrun.specs.declared.settings.Mode.TheVariants.{Run, Check, Print}
 use Rattle.toolrun.specs.declared.settings.Settings.{Settings}
 
--- what is stated for a grammar's text and an input: the notes, each explained if that is asked, and what follows them
+-- what is stated for a grammar's text and an input: the notes, each explained and with hints behind them if that is
+-- asked, and what follows them
 pub data AbnfStates (text : List ℕ) (settings : Settings) (input : Input) : List ℕ → Reply → Type 0 where
   -- the text has a fault, which is told, and explained if that is asked
   refused : (fault : ReadFault) (why : List ℕ) → IsFaultOf text fault → fault ≢ Memory
@@ -27,18 +29,20 @@ pub data AbnfStates (text : List ℕ) (settings : Settings) (input : Input) : Li
       → AbnfStates text settings input [] (unexplained_fault fault)
   -- the text is a grammar that is refused
   noted : (definitions : List Definition) (notes : List Said) (told : List ℕ) → Reads text definitions
-      → AreNotesOn definitions (rule_given settings) notes → ToldNotes settings (ExplainsAbnfNote text) notes told →
+      → AreNotesOn definitions (rule_given settings) notes
+      → HintedNotes settings (ExplainsAbnfNote text) (AreTextHints text settings) notes told →
       IsRefusedFor definitions (rule_given settings) → settings.mode ≢ Print
       → AbnfStates text settings input told (notes_alone 2)
   -- it is a grammar that is not refused, and no more is asked
   checked : (definitions : List Definition) (notes : List Said) (told : List ℕ) → Reads text definitions
-      → AreNotesOn definitions (rule_given settings) notes → ToldNotes settings (ExplainsAbnfNote text) notes told →
+      → AreNotesOn definitions (rule_given settings) notes
+      → HintedNotes settings (ExplainsAbnfNote text) (AreTextHints text settings) notes told →
       (IsRefusedFor definitions (rule_given settings) → ⊥) → settings.mode ≡ Check
       → AbnfStates text settings input told (notes_alone 0)
   -- the lines of the input are judged by its judged rule
   judges : (definitions : List Definition) (notes : List Said) (told : List ℕ) (stated : Reply)
       → Reads text definitions → AreNotesOn definitions (rule_given settings) notes
-      → ToldNotes settings (ExplainsAbnfNote text) notes told →
+      → HintedNotes settings (ExplainsAbnfNote text) (AreTextHints text settings) notes told →
       (IsRefusedFor definitions (rule_given settings) → ⊥) → settings.mode ≡ Run →
       JudgeReply (all_rules definitions) (judged_of definitions (rule_given settings)) settings input stated
       → AbnfStates text settings input told stated

@@ -1,5 +1,5 @@
 -- What explains a note on the grammar of a text: its lines, and by which rules the judged one reaches its name.
-use Rattle.std.specs.Prelude.{◌≡◌, ℕ, List, [], ◌++◌, Option}
+use Rattle.std.specs.Prelude.{◌≡◌, ℕ, List, [], ◌++◌, length, Option}
 use Rattle.ruletable.specs.Notes.{Said}
 use Rattle.ruletable.specs.Rules as table
 use Rattle.ruletable.specs.declared.note.NoteKind.{NoteKind}
@@ -12,8 +12,9 @@ use Rattle.abnfread.specs.declared.elem.Elem.{Elem}
 use Rattle.abnfcheck.specs.NameChains.{AreNameChains, IsNameChain}
 use Rattle.abnfexplain.specs.AbnfNoteLines.{AreAbnfPlaces, ExplainsNote}
 use Rattle.abnfexplain.specs.ChainLines.{chain_told}
+use Rattle.abnfprint.specs.AbnfReadBack.{file_rules}
 use Rattle.abnfrun.specs.AbnfNoted.{all_rules}
-use Rattle.abnfrun.specs.declared.note_places.AbnfPlaces.{AbnfPlaces}
+use Rattle.abnfrun.specs.declared.abnf_places.AbnfPlaces.{AbnfPlaces}
 
 -- the line of the chain to a name, where that name is given for the judged rule
 pub record IsReachLine (text : List ℕ) (start : Option (List ℕ)) (name line : List ℕ) : Type 0 where
@@ -37,16 +38,19 @@ pub record ExplainsAbnfNote (text : List ℕ) (start : Option (List ℕ)) (note 
   pub behind : IsReachBehind text start note.kind note.name line
   pub is : why ≡ lines ++ line
 
--- the code's rules are those of a text, and behind them the core rules that it leaves alone
-pub record AreAllRules (text : List ℕ) (rules : table.Rules Elem) : Type 0 where
+-- the code's rules are those of a text, so many, and behind them the core rules that it leaves alone
+pub record AreAllRules (text : List ℕ) (rules : table.Rules Elem) (count : ℕ) : Type 0 where
   pub definitions : List Definition
   pub reads : Reads text definitions
   pub folds : rules.names ≡ Fold
   pub all : rules_of rules ≡ all_rules definitions
+  pub counted : count ≡ length (file_rules definitions)
 
--- the code's places are those of a text, with the chains from its judged rule
+-- the code's places are those of a text, with the chains from its judged rule, and its rules
 pub record AreNotePlaces (text : List ℕ) (start : Option (List ℕ)) (found : AbnfPlaces) : Type 0 where
   pub definitions : List Definition
   pub reads : Reads text definitions
   pub places : AreAbnfPlaces text found.places
   pub chains : AreNameChains (all_rules definitions) start found.chains
+  pub all : rules_of found.rules ≡ all_rules definitions
+  pub counted : found.count ≡ length (file_rules definitions)

@@ -9,13 +9,13 @@ use Rattle.letters.specs.Letters.{has}
 use Rattle.letters.specs.Utf8Text.{IsLongestText, Spells}
 use Rattle.letters.specs.declared.alphabet.Alphabet.{Alphabet}
 use Rattle.letters.specs.declared.alphabet.Alphabet.TheVariants.{Bytes, Utf8}
-use Rattle.lines.specs.InputLines.{Ends, Lines, LinesReply, place_taken}
+use Rattle.lines.specs.LineRefusals.{LinesReply, LinesStates}
 use Rattle.lines.specs.declared.answers.Answer.{Answer}
 use Rattle.lines.specs.declared.line.LineForm.{LineForm}
 use Rattle.lines.specs.declared.answers.Answer.TheVariants.{Yes, No, NoAfter}
+use Rattle.refusedlines.specs.Refusals.{IsRefusalTold}
 use Rattle.toolrun.specs.Input.{Input}
 use Rattle.toolrun.specs.Reply.{Reply, text_alone}
-use Rattle.toolrun.specs.RunSteps.{Replies}
 use Rattle.toolrun.specs.declared.settings.Settings.{Settings}
 
 -- the canonical text of these rules is written, and nothing is taken
@@ -56,13 +56,17 @@ AnswersFor rules judged settings = IsAnswerTo settings.letters settings.viable r
 abbrev pub form_of : Settings → LineForm
 form_of settings = record { limit = settings.limit; end = cond settings.nul 0 (code "\n") }
 
--- each line of the input is judged by that rule, and no allocation fails
-abbrev pub JudgeReplies : List Rule → ℕ → Settings → Input → Reply → Type 0
-JudgeReplies rules judged settings input reply =
-    Replies (Lines (AnswersFor rules judged settings) (form_of settings) input)
-    (Ends (AnswersFor rules judged settings) (form_of settings) input) (place_taken settings.limit input) reply
+-- what explains a refused line of that number
+abbrev pub RefusalFor : List Rule → ℕ → Settings → List ℕ → ℕ → List ℕ → Type 0
+RefusalFor rules judged settings = IsRefusalTold settings.letters rules judged
 
--- each line of the input is judged by that rule, or the first ones if an allocation fails
+-- each line of the input is judged by that rule, and the first refused ones are explained if that is asked; no
+-- allocation fails
+abbrev pub JudgeReplies : List Rule → ℕ → Settings → Input → Reply → Type 0
+JudgeReplies rules judged settings input reply = LinesReply (AnswersFor rules judged settings) settings.explain
+    (RefusalFor rules judged settings) (form_of settings) input reply
+
+-- so it is, or the first lines are if an allocation fails
 abbrev pub JudgeReply : List Rule → ℕ → Settings → Input → Reply → Type 0
-JudgeReply rules judged settings input reply = LinesReply (AnswersFor rules judged settings) (form_of settings) input
-    reply
+JudgeReply rules judged settings input reply = LinesStates (AnswersFor rules judged settings) settings.explain
+    (RefusalFor rules judged settings) (form_of settings) input reply

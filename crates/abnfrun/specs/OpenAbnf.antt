@@ -1,14 +1,15 @@
 -- What opening a grammar's text gives.
-use Rattle.std.specs.Prelude.{◌≡◌, ℕ, true, false, List, [], ◌∷◌, ◌++◌, length, Option, MatchOption, min, ◌+◌}
-use Rattle.abnfcheck.specs.AbnfGrammar.{Grammar}
+use Rattle.std.specs.Prelude.{◌≡◌, ℕ, false, List, [], ◌∷◌, ◌++◌, length, Option, MatchOption, ◌+◌}
 use Rattle.abnfread.specs.AbnfReading.{Reads}
 use Rattle.abnfread.specs.AbnfViews.{rules_of}
 use Rattle.abnfread.specs.Element.{Definition}
 use Rattle.abnfrun.specs.AbnfNoted.{all_rules, judged_of, AreNotesOn, IsRefusedFor, rule_given}
-use Rattle.abnfrun.specs.AbnfReply.{form_of}
+use Rattle.abnfrun.specs.AbnfReply.{IsAnswerTo, form_of}
 use Rattle.abnfrun.specs.OpenJudge.{OpenJudge}
-use Rattle.lines.specs.InputLines.{answer_text, says_yes, status_after, taken_at}
+use Rattle.lines.specs.InputLines.{answer_text, at_front, refused_by, status_after}
+use Rattle.lines.specs.LineRefusals.{TellsLine}
 use Rattle.lines.specs.declared.answers.Answer.{Answer}
+use Rattle.refusedlines.specs.Refusals.{IsRefusalTold}
 use Rattle.ruletable.specs.Notes.{Said}
 use Rattle.toolrun.specs.Input.{Input}
 use Rattle.toolrun.specs.Reply.{Reply}
@@ -35,11 +36,17 @@ pub record IsOpened (text : List ℕ) (settings : Settings) (notes : List Said) 
 abbrev pub line_alone : Settings → List ℕ → Input
 line_alone settings line = record { bytes = line ++ (form_of settings).end ∷ []; fault = false }
 
--- the reply to the input that is one line: its answer
-abbrev pub answer_alone : Settings → List ℕ → Answer → Reply
-answer_alone settings line said = record {
+-- what is told of the line with that answer, if it is refused and explanations are asked for
+abbrev pub TellsAlone : OpenJudge → Settings → List ℕ → Answer → List ℕ → Type 0
+TellsAlone judge settings = TellsLine
+    (IsAnswerTo judge.letters judge.viable (rules_of judge.grammar.rules) judge.grammar.judged) settings.explain
+    (IsRefusalTold judge.letters (rules_of judge.grammar.rules) judge.grammar.judged) at_front
+
+-- the reply to the input that is one line: its answer, and what is told of it
+abbrev pub answer_alone : Settings → List ℕ → Answer → List ℕ → Reply
+answer_alone settings line said told = record {
   out = answer_text said;
-  err = [];
-  status = code_of (status_after (says_yes said));
+  err = told;
+  status = code_of (status_after (refused_by said));
   taken = length line + 1;
 }

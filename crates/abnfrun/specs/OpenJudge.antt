@@ -1,6 +1,7 @@
 -- A grammar that judges lines, and what it judges them by.
-use Rattle.std.specs.Prelude.{◌≡◌, ℕ, Bool, true, false, Option, IfSome}
+use Rattle.std.specs.Prelude.{◌≡◌, ℕ, ◌+◌, List, Bool, true, false, Option, IfSome}
 use Rattle.abnfread.specs.AbnfViews.{rules_of}
+use Rattle.abnfread.specs.Element.{Rule}
 use Rattle.abnfcheck.specs.AbnfGrammar.{Grammar}
 use Rattle.flatgrammar.specs.Flat.{Flat}
 use Rattle.flatgrammar.specs.Lowered.{IsLowered}
@@ -21,3 +22,9 @@ pub record IsReadyFor (grammar : Grammar) (letters : Alphabet) (viable : Bool) (
   pub lowered : viable ≡ false → IsLowered (rules_of grammar.rules) grammar.judged flat
   pub tells : viable ≡ true → TellsBeginnings (has letters) (rules_of grammar.rules) grammar.judged flat
   pub same : IfSome automaton (λ a. a ≡ flat)
+
+-- The flat grammar tells viable beginnings of lines of one letter more than so many. Refused lines of so many are
+-- explained by it.
+pub record ExplainsLines (rules : List Rule) (judged : ℕ) (letters : Alphabet) (limit : ℕ) (more : Flat) : Type 0 where
+  pub longer : more.limit ≡ limit + 1
+  pub tells : TellsBeginnings (has letters) rules judged more

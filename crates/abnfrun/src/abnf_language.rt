@@ -7,12 +7,15 @@ ghost use Rattle.abnfread.specs.AbnfViews.{rules_of};
 ghost use Rattle.abnfprint.specs.CanonicalAbnf.{grammar_text};
 ghost use Rattle.abnfrun.specs.AbnfAnswers.{AbnfStates};
 ghost use Rattle.abnfrun.specs.AbnfExplainedNotes.{AreNotePlaces, ExplainsAbnfNote};
+ghost use Rattle.abnfrun.specs.AbnfTextHints.{AreTextHints};
 ghost use Rattle.abnfrun.specs.AbnfLanguage.{IsChecked, IsPrintable, IsReadAs};
 ghost use Rattle.abnfrun.specs.AbnfNoted.{AreRedefinitions};
 ghost use Rattle.abnfrun.specs.AbnfReply.{JudgeReply};
 
+use crate::abnf_places::AbnfPlaces;
+use crate::hints::hints_of;
 use crate::line_judge::{judge_lines, lines_have_answers};
-use crate::note_places::{AbnfPlaces, explain_reached, note_places};
+use crate::note_places::{explain_reached, note_places};
 use abnfcheck::{SoundAbnf, check_abnf};
 use abnfexplain::explain_abnf_fault;
 use abnfprint::print_abnf;
@@ -21,7 +24,7 @@ use feed::Source;
 use rulenames::{marks_at, note_marked};
 use ruletable::{Memory, Note, NoteKind, ReadFault, Sink, WriteFault};
 use std::alloc::Global;
-use toolrun::{Checked, Ending, Language, Settings, plain_ending};
+use toolrun::{Checked, Ending, Language, Settings};
 
 /// Returns the notes on the rules that a grammar defines again, alone, by the order of the rules.
 fn redefined_in(alloc: Global, abnf: &Abnf) -> Result<Vec<Note>, Memory>
@@ -54,6 +57,8 @@ impl Language for AbnfLanguage {
 
     ghost explains_note = { ExplainsAbnfNote };
 
+    ghost are_hints = { AreTextHints };
+
     ghost is_read = { λ text abnf. IsReadAs text abnf.rules abnf.core abnf.redefined.items abnf.extended.items };
 
     ghost is_checked = { IsChecked };
@@ -85,6 +90,14 @@ impl Language for AbnfLanguage {
         explain_reached(alloc, places, start, note)
     }
 
+    fn hints(
+        alloc: Global,
+        places: &AbnfPlaces,
+        settings: &Settings<'_>,
+    ) -> Result<Vec<u8>, Memory> {
+        hints_of(alloc, places, settings)
+    }
+
     fn check(
         alloc: Global,
         grammar: Abnf,
@@ -109,7 +122,7 @@ impl Language for AbnfLanguage {
         reader: &mut R,
         out: &mut O,
     ) -> Result<Ending, WriteFault> {
-        plain_ending(judge_lines(alloc, grammar, settings, reader, out))
+        judge_lines(alloc, grammar, settings, reader, out)
     }
 
     fn follows() {

@@ -18,11 +18,14 @@ use toolrun::{Settings, Status, run_tool};
 ///   and nothing is read. If the settings ask for explanations, behind that line stand those that explain it: a picture
 ///   of the token that decides, its column, exactly the kinds of tokens that could stand there, and a usual mistake.
 /// - If it is to be printed, its canonical text is written on `out`, `Done`; but if it defines a rule again, the notes
-///   on that are written on `err`, `Refused`. Nothing is read, and no other check is made. If the settings ask for
-///   explanations, behind a note on a rule that is defined again, extended early, or not used, stand the lines of its
-///   definitions; behind others the first use of a name that is not defined, and the first prose of a rule.
+///   on that are written on `err`, `Refused`. Nothing is read, and no other check is made.
 /// - Else the notes on it are written on `err`. If it is refused, or only to be checked, that is all: `Refused`, or
 ///   `Done`, and nothing is read.
+/// - If the settings ask for explanations, behind a note on a rule that is defined again, extended early, or not used,
+///   stand the lines of its definitions; behind others the first use of a name that is not defined, and the first prose
+///   of a rule, with the names of the rules by which the judged rule reaches these. Behind all notes stand hints on
+///   rules that derive nothing, on reversed ranges, and on a judged rule that derives no line, unless the grammar is to
+///   be printed.
 /// - A line ends before an LF, or before a NUL byte if the settings say so, and a last piece without an end is a line
 ///   if it is not empty; all other bytes belong to their line. It is answered by `yes` exactly if the judged rule
 ///   derives it: the rule named in the settings, or else the first. The letters of a line are its bytes; or, if the
@@ -31,6 +34,9 @@ use toolrun::{Settings, Status, run_tool};
 /// - A line that is not derived is answered by `no`. If the settings ask for viable beginnings, it is answered by `no
 ///   N`: the first N of its letters, and no more, begin something that the judged rule derives. Of a line that is not
 ///   UTF-8 these letters are those of its longest beginning that is.
+/// - If the settings ask for explanations, on `err` stands before the message in which the run ends: of each of the
+///   first 16 lines that are not derived, where it is refused and which letters can stand there, all of them and no
+///   other, and whether the line can end there; and how many more there are.
 /// - A line of more than `limit` bytes is not answered: `line K longer than L bytes`, `Overlong`; K counts from 1.
 /// - After a fault of the reader a line is judged only if its end was read: else `read error`, `Fault`. So is an input
 ///   of 9,223,372,036,854,775,807 bytes taken to end.

@@ -13,8 +13,10 @@ ghost use Rattle.toolrun.specs.declared.settings.Settings.{Settings};
 
 use abnfcheck::{furthest_is_found, one_name_chain};
 use abnfexplain::{one_explanation_of_abnf, one_note_explanation_of_abnf};
+use abnfhints::one_text_of_abnf_hints;
 use abnfread::one_reading;
 use letters::utf8_is_decided;
+use refusedlines::refusal_is_one;
 
 /// A list of rules, a judged rule and settings have at most one reply to an input.
 pub fn one_reply_of_abnf()
@@ -23,6 +25,7 @@ pub fn one_reply_of_abnf()
 {
     furthest_is_found();
     utf8_is_decided();
+    refusal_is_one();
 }
 
 /// A text in ABNF is a grammar of at most one list of definitions, or has at most one fault, and never both; but memory
@@ -44,7 +47,9 @@ pub fn one_statement_of_abnf()
     one_explanation_of_abnf();
     one_note_explanation_of_abnf();
     one_name_chain();
+    one_text_of_abnf_hints();
     one_reading();
     furthest_is_found();
     utf8_is_decided();
+    refusal_is_one();
 }

@@ -2,8 +2,10 @@
 #![tactic(auto)]
 
 mod abnf_language;
+mod abnf_places;
 mod abnf_run;
 mod engines;
+mod hints;
 mod laws;
 mod line_judge;
 mod note_places;
@@ -11,11 +13,11 @@ mod open_law;
 mod opened;
 
 pub use abnf_language::AbnfLanguage;
+pub use abnf_places::AbnfPlaces;
 pub use abnf_run::run_abnf;
 pub use feed::{Broken, Source, SourceOf};
 pub use laws::{one_reply_of_abnf, one_statement_of_abnf};
 pub use lines::Answer;
-pub use note_places::AbnfPlaces;
 pub use open_law::answers_as_a_run;
 pub use opened::{AbnfJudge, OpenedAbnf, open_abnf};
 pub use toolrun::{

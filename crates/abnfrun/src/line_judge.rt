@@ -1,15 +1,17 @@
 //! The lines of an input, judged by a grammar.
-ghost use Rattle.std.specs.Prelude.{◌≡◌, ◌≤◌, ℕ, Bool, List, false, true, length, map, IfOk, IfSome};
+ghost use Rattle.std.specs.Prelude.{◌≡◌, ◌≤◌, ◌+◌, ℕ, Bool, List, false, true, length, map, IfOk, IfSome, is_some};
 ghost use Rattle.abnfread.specs.Element.{Rule};
 ghost use Rattle.abnfread.specs.AbnfViews.{rules_of};
 ghost use Rattle.abnfrun.specs.AbnfReply.{IsAnswerTo, JudgeReply, form_of};
+ghost use Rattle.abnfrun.specs.OpenJudge.{ExplainsLines};
 ghost use Rattle.abnfrun.specs.LetterAnswers.{IsAnswerOn, torn};
 ghost use Rattle.flatgrammar.specs.Lowered.{IsLowered};
 ghost use Rattle.flatgrammar.specs.ToldBeginnings.{TellsBeginnings};
 ghost use Rattle.letters.specs.Letters.{has};
 ghost use Rattle.letters.specs.Utf8Text.{IsText};
 ghost use Rattle.lines.specs.declared.answers.Answer.{Answer};
-ghost use Rattle.toolrun.specs.Stopped.{Performs};
+ghost use Rattle.refusedlines.specs.Refusals.{IsRefusalTold};
+ghost use Rattle.toolrun.specs.Stopped.{Fulfils};
 ghost use Rattle.toolrun.specs.Stream.{passed};
 
 use crate::engines::Engines;
@@ -20,19 +22,21 @@ use flatgrammar::{Flat, Verdict, lower};
 use lazydfa::Automaton;
 use letters::{Alphabet, CodePoint, Letter, decode, utf8_is_decided, utf8_len};
 use lines::{Answer, Judge, LineForm, run_lines};
+use refusedlines::{Explainer, RefusedLine, explain_refused};
 use ruletable::{Memory, Sink, WriteFault};
 use std::alloc::Global;
-use toolrun::{Settings, Stop};
+use toolrun::{Ending, Settings, Stop};
 use viable::lower_viable;
 
 /// Answers lines by a grammar: whether its judged rule derives them, and how far they begin something that it derives
-/// if that is asked for.
+/// if that is asked for. It explains refused lines by the flat grammar for lines of one letter more, if there is one.
 #[derive(Drop)]
 pub struct LineJudge<'a> {
     pub(crate) grammar: &'a SoundAbnf,
     pub(crate) letters: Alphabet,
     pub(crate) viable: bool,
     pub(crate) flat: &'a Flat,
+    pub(crate) explainer: Option<&'a Flat>,
     ghost lowered: { viable ≡ false → ∥ IsLowered (rules_of grammar.now.rules) grammar.now.judged flat.now ∥₁ },
     ghost tells: { viable ≡ true → ∥ TellsBeginnings (has letters) (rules_of grammar.now.rules) grammar.now.judged
         flat.now ∥₁ },
@@ -41,6 +45,7 @@ pub struct LineJudge<'a> {
 /// The memory that lines are judged in: that of the judges of their letters, and their code points.
 #[derive(Drop)]
 pub struct Work {
+    alloc: Global,
     pub(crate) engines: Engines,
     points: Vec<CodePoint>,
 }
@@ -51,6 +56,7 @@ impl Work {
         ensures { IfSome result.engines.automaton (λ a. a ≡ flat.now) }
     {
         Work {
+            alloc,
             engines: Engines {
                 chart: Chart::new(alloc),
                 automaton: automaton_of(alloc, flat),
@@ -159,17 +165,72 @@ fn judge_points(judges: &LineJudge<'_>, work: &mut Work, line: &[u8]) -> Result<
     Ok(Answer::No)
 }
 
+/// Returns the lines that explain a refused line of that number, by the flat grammar for lines of one letter more.
+/// `Memory` if an allocation fails.
+fn explain_line(
+    judges: &LineJudge<'_>,
+    more: &Flat,
+    work: &mut Work,
+    line: RefusedLine<'_>,
+) -> Result<Vec<u8>, Memory>
+    requires within { length line.bytes.now ≤ judges.now.flat.now.limit }
+    requires explains { ExplainsLines (rules_of judges.now.grammar.now.rules) judges.now.grammar.now.judged
+        judges.now.letters judges.now.flat.now.limit more.now }
+    ensures same { work.new.engines.automaton ≡ work.old.engines.automaton }
+    ensures told { IfOk result (λ why. IsRefusalTold judges.now.letters (rules_of judges.now.grammar.now.rules)
+        judges.now.grammar.now.judged line.entry.bytes.now line.entry.number why.items) }
+{
+    let explainer = Explainer {
+        grammar: judges.grammar,
+        letters: judges.letters,
+        flat: more,
+    };
+    let mut why = Vec::new(work.alloc);
+    explain_refused(
+        work.alloc,
+        &mut work.engines.chart,
+        &explainer,
+        line,
+        &mut why,
+    )?;
+    Ok(why)
+}
+
 impl Judge<Work> for LineJudge<'_> {
     ghost told = { λ j. IsAnswerTo j.letters j.viable (rules_of j.grammar.now.rules) j.grammar.now.judged };
 
+    ghost explains = { λ j. is_some j.explainer };
+
+    ghost refusal = { λ j. IsRefusalTold j.letters (rules_of j.grammar.now.rules) j.grammar.now.judged };
+
     ghost served = { λ j. j.flat.now.limit };
 
-    ghost works_in = { λ j work. IfSome work.engines.automaton (λ a. a ≡ j.flat.now) };
+    ghost works_in = { λ j work. IfSome work.engines.automaton (λ a. a ≡ j.flat.now)
+        × IfSome j.explainer (λ more. ExplainsLines (rules_of j.grammar.now.rules) j.grammar.now.judged j.letters
+        j.flat.now.limit more.now) };
 
     fn judge(&self, work: &mut Work, line: &[u8]) -> Result<Answer, Memory> {
         match self.letters {
             Alphabet::Bytes => judge_bytes(self, work, line),
             Alphabet::Utf8 => judge_points(self, work, line),
+        }
+    }
+
+    fn is_explained(&self) -> bool {
+        self.explainer.is_some()
+    }
+
+    fn explain(&self, work: &mut Work, line: &[u8], number: usize) -> Result<Vec<u8>, Memory> {
+        match self.explainer {
+            Some(more) => {
+                let refused = RefusedLine {
+                    bytes: line,
+                    number,
+                };
+                explain_line(self, more, work, refused)
+            }
+            // its contract says that refused lines are explained
+            None => Err(Memory),
         }
     }
 
@@ -197,6 +258,24 @@ pub(crate) fn lowered(
     lower(alloc, grammar, settings.limit)
 }
 
+/// Lowers a grammar for lines of one letter more than settings allow, by which refused lines are explained, if settings
+/// ask for that. `Memory` if an allocation fails.
+fn explainer_of(
+    alloc: Global,
+    grammar: &SoundAbnf,
+    settings: &Settings<'_>,
+) -> Result<Option<Flat>, Memory>
+    ensures asked { IfOk result (λ made. is_some made ≡ settings.now.explain) }
+    ensures explains { IfOk result (λ made. IfSome made (ExplainsLines (rules_of grammar.now.rules)
+        grammar.now.judged settings.now.letters settings.now.limit)) }
+{
+    if settings.explain {
+        let more = lower_viable(alloc, grammar, settings.letters, settings.limit + 1)?;
+        return Ok(Some(more));
+    }
+    Ok(None)
+}
+
 /// Returns an automaton of a flat grammar; `None` if it has none, or an allocation fails.
 fn automaton_of(alloc: Global, flat: &Flat) -> Option<Automaton>
     ensures { IfSome result (λ a. a ≡ flat.now) }
@@ -218,30 +297,35 @@ fn line_form(settings: &Settings<'_>) -> LineForm
 }
 
 /// Judges the lines of what a reader gives by a grammar, and writes the answer to each: `yes`, `no`, or `no` and a
-/// number.
+/// number. If settings ask for that, it tells what explains the first refused lines.
 pub fn judge_lines<R: Source, O: Sink>(
     alloc: Global,
     grammar: &SoundAbnf,
     settings: &Settings<'_>,
     reader: &mut R,
     out: &mut O,
-) -> Result<Stop, WriteFault>
+) -> Result<Ending, WriteFault>
     requires reader_is_fresh { R.failed reader.old ≡ false }
     requires reader_is_open { R.ended reader.old ≡ false }
     requires out_is_fresh { O.failed out.old ≡ false }
-    ensures { Performs (JudgeReply (rules_of grammar.now.rules) grammar.now.judged settings.now)
+    ensures { Fulfils (JudgeReply (rules_of grammar.now.rules) grammar.now.judged settings.now)
         (passed R.remaining R.failed reader.old reader.new) (passed O.contents O.failed out.old out.new) result }
 {
     lines_have_answers();
     let Ok(flat) = lowered(alloc, grammar, settings) else {
-        return Ok(Stop::NoMemory);
+        return Ok(Ending::Plain(Stop::NoMemory));
+    };
+    let Ok(explainer) = explainer_of(alloc, grammar, settings) else {
+        return Ok(Ending::Plain(Stop::NoMemory));
     };
     let mut work = Work::new(alloc, &flat);
+    let explainer = explainer.as_ref();
     let judge = LineJudge {
         grammar,
         letters: settings.letters,
         viable: settings.viable,
         flat: &flat,
+        explainer,
     };
     let form = line_form(settings);
     run_lines(alloc, &judge, &mut work, form, reader, out)

@@ -8,31 +8,30 @@ ghost use Rattle.abnfexplain.specs.ChainLines.{chain_told};
 ghost use Rattle.abnfrun.specs.AbnfExplainedNotes.{AreAllRules, AreNotePlaces, ExplainsAbnfNote, IsReachBehind};
 ghost use Rattle.abnfrun.specs.AbnfNoted.{all_rules};
 
+use crate::abnf_places::AbnfPlaces;
 use abnfcheck::{NameChains, join, name_chains};
 use abnfexplain::{abnf_places, explain_abnf_note, push_chain};
 use abnfread::{Elem, read_abnf};
-use noteplaces::Places;
 use ruletable::{Memory, Note, NoteKind, RuleTable};
 use std::alloc::Global;
 
-/// Where a text defines and uses its rules, and by which rules the judged one reaches a name.
+// The rules of a text, and behind them the core rules that it leaves alone; and how many the text has.
 #[derive(Drop)]
-pub struct AbnfPlaces {
-    /// Where it defines its rules, and what their bodies mention.
-    pub places: Places,
-    /// The chains of names from the judged rule.
-    pub chains: NameChains,
+struct AllRules {
+    rules: RuleTable<Elem>,
+    count: usize,
 }
 
 // Returns the rules of a text, and behind them the core rules that it leaves alone. A text whose grammar has notes
 // reads, so that it is memory that fails here.
-fn all_rules_of(alloc: Global, text: &[u8]) -> Result<RuleTable<Elem>, Memory>
-    ensures { IfOk result (λ rules. AreAllRules text.now rules) }
+fn all_rules_of(alloc: Global, text: &[u8]) -> Result<AllRules, Memory>
+    ensures { IfOk result (λ all. AreAllRules text.now all.rules all.count) }
 {
     match read_abnf(alloc, text) {
         Ok(abnf) => {
+            let count = abnf.rules.len();
             let rules = join(alloc, abnf.rules, abnf.core)?;
-            Ok(rules)
+            Ok(AllRules { rules, count })
         }
         Err(_) => Err(Memory),
     }
@@ -49,9 +48,14 @@ pub(crate) fn note_places(
     ensures { IfOk result (λ places. AreNotePlaces text.now (option_copied start.entry) places) }
 {
     let places = abnf_places(alloc, text)?;
-    let rules = all_rules_of(alloc, text)?;
+    let AllRules { rules, count } = all_rules_of(alloc, text)?;
     let chains = name_chains(alloc, &rules, start)?;
-    Ok(AbnfPlaces { places, chains })
+    Ok(AbnfPlaces {
+        places,
+        chains,
+        rules,
+        count,
+    })
 }
 
 // Adds the line of the chain to a name, if one reaches it.

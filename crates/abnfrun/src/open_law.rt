@@ -4,22 +4,25 @@ ghost use Rattle.abnfrun.specs.AbnfExplainedNotes.{ExplainsAbnfNote};
 ghost use Rattle.abnfread.specs.AbnfViews.{rules_of};
 ghost use Rattle.abnfrun.specs.AbnfAnswers.{AbnfStates};
 ghost use Rattle.abnfrun.specs.AbnfReply.{IsAnswerTo, form_of};
-ghost use Rattle.abnfrun.specs.OpenAbnf.{IsOpened, answer_alone, line_alone};
+ghost use Rattle.abnfrun.specs.OpenAbnf.{IsOpened, TellsAlone, answer_alone, line_alone};
+ghost use Rattle.abnfrun.specs.AbnfTextHints.{AreTextHints};
 ghost use Rattle.abnfrun.specs.OpenJudge.{OpenJudge};
 ghost use Rattle.lines.specs.InputLines.{HasNoEnd};
 ghost use Rattle.lines.specs.declared.answers.Answer.{Answer};
 ghost use Rattle.ruletable.specs.Notes.{Said};
-ghost use Rattle.toolrun.specs.ToldNotes.{ToldNotes};
+ghost use Rattle.toolrun.specs.ToldNotes.{HintedNotes};
 ghost use Rattle.toolrun.specs.declared.settings.Mode.TheVariants.{Run};
 ghost use Rattle.toolrun.specs.declared.settings.Settings.{Settings};
 
 /// Says that the answer of an open grammar to a line is what a run of its text states for that line alone, behind its
-/// notes. It does nothing.
+/// notes and hints, with what explains a refused line if that is asked. It does nothing.
 pub fn answers_as_a_run()
     ensures { (text line : List ℕ) (settings : Settings) (notes : List Said) (told : List ℕ) (judge : OpenJudge)
-        (said : Answer) → settings.mode ≡ Run → IsOpened text settings notes (Some judge) →
-        ToldNotes settings (ExplainsAbnfNote text) notes told → HasNoEnd (form_of settings).end line →
+        (said : Answer) (why : List ℕ) → settings.mode ≡ Run → IsOpened text settings notes (Some judge) →
+        HintedNotes settings (ExplainsAbnfNote text) (AreTextHints text settings) notes told →
+        HasNoEnd (form_of settings).end line →
         length line ≤ judge.limit →
         IsAnswerTo judge.letters judge.viable (rules_of judge.grammar.rules) judge.grammar.judged line said →
-        AbnfStates text settings (line_alone settings line) told (answer_alone settings line said) }
+        TellsAlone judge settings line said why →
+        AbnfStates text settings (line_alone settings line) told (answer_alone settings line said why) }
 {}

@@ -63,6 +63,7 @@ impl AbnfJudge {
             letters: self.letters,
             viable: self.viable,
             flat: &self.flat,
+            explainer: None,
         };
         judge.judge(&mut self.work, line)
     }

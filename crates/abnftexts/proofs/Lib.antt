@@ -1,7 +1,14 @@
+pub mod ClearLinesLemmas
+pub mod EachLemmas
 pub mod JoinRunLemmas
 pub mod JoinedGrammarLemmas
 pub mod JoinedReplyLemmas
 pub mod OwnRuleLemmas
+pub mod OneDefinitionLemmas
+pub mod OneRuleLemmas
+pub mod OwnLinesLemmas
+pub mod RuleSignLemmas
 pub mod RulesTakenLemmas
+pub mod SpelledRulesLemmas
 pub mod TextRulesLemmas
 pub mod UndefinedLemmas

@@ -4,6 +4,7 @@ pub mod JoinedGrammar
 pub mod JoinedViews
 pub mod OwnReadings
 pub mod RulesGathered
+pub mod SpelledRules
 pub mod TakenRules
 pub mod TextPlaces
 pub mod TextRules

@@ -5,8 +5,9 @@ use Rattle.lexer.specs.TokenLists.{Tok}
 use Rattle.ruletable.specs.Rules.{same_name}
 use Rattle.ruletable.specs.declared.lines.LineRule.TheVariants.{Lf}
 use Rattle.ruletable.specs.declared.table.NameCase.TheVariants.{Fold}
-use Rattle.noteplaces.specs.BodyMentions.{MentionedAt, kind_uses, mentions_in}
+use Rattle.noteplaces.specs.BodyMentions.{MentionedAt, is_kind, mentions_in}
 use Rattle.noteplaces.specs.DefinitionHeads.{sign_at}
+use Rattle.noteplaces.specs.declared.mentions.MentionKind.TheVariants.{Use}
 use Rattle.abnfread.specs.CoreRules.{core_names}
 use Rattle.abnfread.specs.MarkedTokens.{AreTokens}
 use Rattle.abnfread.specs.declared.kind.AbnfKind.{AbnfKind}
@@ -24,7 +25,7 @@ pub record UsedName : Type 0 where
 
 -- the use that a mention in the lines of a rule is, if it is one
 abbrev pub used_at : RuleLines → MentionedAt → List UsedName
-used_at place m = if kind_uses m.kind then record {
+used_at place m = if is_kind Use m.kind then record {
   text = place.name;
   line = number_at place.lines m.line;
   name = m.text;

@@ -1,8 +1,12 @@
-//! Laws of what is stated for texts: there is at most one joined grammar, and one reply.
-ghost use Rattle.std.specs.Prelude.{◌≡◌, ◌≢◌, ℕ, List};
+//! Laws of what is stated for texts: there is at most one joined grammar, and one reply; and what the grammar reads as.
+ghost use Rattle.std.specs.Prelude.{◌≡◌, ◌≢◌, ◌≤◌, ℕ, List, [], length, map};
+ghost use Rattle.abnfread.specs.AbnfReading.{IsFaultOf, Reads};
+ghost use Rattle.abnfread.specs.Element.{Definition};
+ghost use Rattle.lexer.specs.declared.limits.TheConstants.{MAX_GRAMMAR as MOST};
 ghost use Rattle.abnftexts.specs.JoinRun.{JoinStates};
 ghost use Rattle.abnftexts.specs.JoinedGrammar.{AreTextsJoined, GrammarJoined};
 ghost use Rattle.abnftexts.specs.RulesGathered.{NamedText};
+ghost use Rattle.abnftexts.specs.SpelledRules.{AreSpelled, given_by, joined_places, joined_rules, unplaced};
 ghost use Rattle.toolrun.specs.Input.{Input};
 ghost use Rattle.toolrun.specs.Reply.{Reply};
 
@@ -11,6 +15,7 @@ use abnfblocks::one_finding;
 use abnfread::{AbnfKind, one_reading};
 use lexer::one_list;
 use rfctext::one_keeping;
+use ruletable::ReadFault;
 
 /// Says that texts make up at most one joined grammar. What is told of them and the reply of a run that joins them in a
 /// form are one too, but for those that tell want of memory, status 5.
@@ -26,3 +31,20 @@ pub fn one_joining()
     one_finding();
     one_list::<AbnfKind>();
 }
+
+/// Says what the joined grammar of texts is read as: a definition for each rule that is printed, in that order, with
+/// its name, its elements, and `=` or `=/`. They are the definitions that the rules' own lines are read as, but for
+/// where their names stand. A grammar that has some rule is read unless it is too long, and has no other fault.
+pub fn joined_reading()
+    ensures reads { (texts : List NamedText) (j : GrammarJoined) → AreTextsJoined texts j → j.grammar ≢ []
+        → length j.grammar ≤ MOST → (definitions : List Definition) × Reads j.grammar definitions }
+    ensures long { (texts : List NamedText) (j : GrammarJoined) (fault : ReadFault) → AreTextsJoined texts j
+        → j.grammar ≢ [] → IsFaultOf j.grammar fault → fault ≢ ReadFault.Memory → fault ≡ ReadFault.TooLong }
+    ensures rules { (texts : List NamedText) (j : GrammarJoined) (definitions : List Definition)
+        (a : AreTextsJoined texts j) → Reads j.grammar definitions
+        → map given_by definitions ≡ joined_rules a.gathered }
+    ensures spelled { (texts : List NamedText) (j : GrammarJoined) (definitions : List Definition)
+        (a : AreTextsJoined texts j) → Reads j.grammar definitions → (alone : List Definition)
+        × AreSpelled (joined_places a.gathered) (joined_rules a.gathered) alone
+        × (map unplaced definitions ≡ map unplaced alone) }
+{}

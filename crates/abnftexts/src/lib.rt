@@ -16,5 +16,5 @@ mod uses;
 
 pub use gathered::SourceText;
 pub use joined::{JoinedTexts, join_texts};
-pub use laws::one_joining;
+pub use laws::{joined_reading, one_joining};
 pub use run::{JoinForm, run_join};

@@ -1,5 +1,5 @@
 //! What lines alone are read as.
-ghost use Rattle.std.specs.Prelude.{◌≡◌, ◌≢◌, ◌<◌, length, map, IfOk};
+ghost use Rattle.std.specs.Prelude.{◌≡◌, ◌<◌, length, map, IfOk};
 ghost use Rattle.abnfread.specs.AbnfViews.{rules_of};
 ghost use Rattle.abnfjoin.specs.GivenRules.{text_rule};
 ghost use Rattle.rfctext.specs.TextLines.{numbered};
@@ -44,16 +44,6 @@ fn first_rule(alloc: Global, rules: RuleTable<Elem>, adds: bool) -> Result<Given
     Ok(GivenRule { adds, name, body })
 }
 
-// The fault, but for want of memory.
-fn told_fault(fault: ReadFault) -> Result<ReadFault, Memory>
-    ensures { IfOk result (λ f. (f ≡ fault) × (fault ≢ ReadFault.Memory)) }
-{
-    match fault {
-        ReadFault::Memory => Err(Memory),
-        other => Ok(other),
-    }
-}
-
 /// Returns what the lines alone are read as, without that margin.
 ///
 /// # Errors
@@ -71,9 +61,7 @@ pub(crate) fn own_reading(
             let rule = first_rule(alloc, grammar.rules, adds_first(lines))?;
             Ok(OwnReading::Rule(rule))
         }
-        Err(fault) => {
-            let told = told_fault(fault)?;
-            Ok(OwnReading::Fault(told))
-        }
+        Err(ReadFault::Memory) => Err(Memory),
+        Err(fault) => Ok(OwnReading::Fault(fault)),
     }
 }

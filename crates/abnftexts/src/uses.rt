@@ -43,7 +43,7 @@ fn push_use<'a>(
             })?;
             Ok(())
         }
-        MentionKind::Prose | MentionKind::Repeat => Ok(()),
+        _ => Ok(()),
     }
 }
 

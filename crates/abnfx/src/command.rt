@@ -1,4 +1,6 @@
 //! The command line.
+ghost use Rattle.std.specs.Prelude.{◌≡◌, Some, codes};
+ghost use Rattle.clap.specs.Words.{found_of, one_text};
 
 use abnftexts::JoinForm;
 use clap::{Arg, ArgAction, ArgMatches, Command, value_parser};
@@ -55,7 +57,14 @@ pub(crate) fn abnfx_command<'a>(alloc: Global) -> Result<Command<'a>, AllocError
 }
 
 /// Returns the form that the words ask for.
-pub(crate) fn form_of(matches: &ArgMatches<'_>) -> JoinForm {
+pub(crate) fn form_of(matches: &ArgMatches<'_>) -> JoinForm
+    ensures listed { one_text (found_of matches.now) (codes "list") ≡ Some (codes "true")
+        → result ≡ JoinForm.Listed }
+    ensures canonical { one_text (found_of matches.now) (codes "list") ≡ Some (codes "false")
+        → one_text (found_of matches.now) (codes "canonical") ≡ Some (codes "true") → result ≡ JoinForm.Canonical }
+    ensures plain { one_text (found_of matches.now) (codes "list") ≡ Some (codes "false")
+        → one_text (found_of matches.now) (codes "canonical") ≡ Some (codes "false") → result ≡ JoinForm.Plain }
+{
     if matches.get_flag("list") {
         JoinForm::Listed
     } else if matches.get_flag("canonical") {

@@ -1,5 +1,8 @@
 //! The run of the program.
 ghost use Rattle.std.specs.Prelude.{◌≡◌, false};
+ghost use Rattle.std.specs.Io.KnownBytes.{Keeps};
+ghost use Rattle.abnfx.specs.TextEnds.{AsksNoHelp, EndsOrStops, TextEnds, unread_status};
+ghost use Rattle.clap.specs.Words.{kind_of};
 
 use crate::command::{abnfx_command, form_of};
 use crate::texts::{Unread, read_texts, sources_of};
@@ -15,6 +18,8 @@ use toolrun::{Status, Stop, close_run, end_run};
 pub(crate) fn refuse<O: Sink, E: Sink>(told: &[u8], out: &mut O, err: &mut E) -> Status
     requires out_is_fresh { O.failed out.old ≡ false }
     requires err_is_fresh { E.failed err.old ≡ false }
+    ensures kept { Keeps (O.contents out.old) (O.contents out.new) }
+    ensures ends { TextEnds (O.failed out.new) (E.failed err.new) Status.Refused result }
 {
     if write_whole(err, told).is_err() {
         return close_run(out, err);
@@ -26,6 +31,7 @@ pub(crate) fn refuse<O: Sink, E: Sink>(told: &[u8], out: &mut O, err: &mut E) ->
 fn show_help<O: Sink, E: Sink>(text: &[u8], out: &mut O, err: &mut E) -> Status
     requires out_is_fresh { O.failed out.old ≡ false }
     requires err_is_fresh { E.failed err.old ≡ false }
+    ensures ends { TextEnds (O.failed out.new) (E.failed err.new) Status.Done result }
 {
     match write_whole(out, text) {
         Ok(()) => end_run(Ok(Stop::Quiet(Status::Done)), out, err),
@@ -37,6 +43,12 @@ fn show_help<O: Sink, E: Sink>(text: &[u8], out: &mut O, err: &mut E) -> Status
 fn end_unparsed<O: Sink, E: Sink>(alloc: Global, error: &Error, out: &mut O, err: &mut E) -> Status
     requires out_is_fresh { O.failed out.old ≡ false }
     requires err_is_fresh { E.failed err.old ≡ false }
+    ensures refused { AsksNoHelp (kind_of error.now) → Keeps (O.contents out.old) (O.contents out.new)
+        × EndsOrStops (O.failed out.new) (E.failed err.new) Status.Refused result }
+    ensures helped { kind_of error.now ≡ ErrorKind.DisplayHelp
+        → EndsOrStops (O.failed out.new) (E.failed err.new) Status.Done result }
+    ensures no_memory { kind_of error.now ≡ ErrorKind.OutOfMemory
+        → TextEnds (O.failed out.new) (E.failed err.new) Status.NoMemory result }
 {
     if error.kind() == ErrorKind::OutOfMemory {
         return end_run(Ok(Stop::NoMemory), out, err);
@@ -55,6 +67,8 @@ fn end_unparsed<O: Sink, E: Sink>(alloc: Global, error: &Error, out: &mut O, err
 fn end_told<O: Sink, E: Sink>(pieces: &[&[u8]], status: Status, out: &mut O, err: &mut E) -> Status
     requires out_is_fresh { O.failed out.old ≡ false }
     requires err_is_fresh { E.failed err.old ≡ false }
+    ensures kept { Keeps (O.contents out.old) (O.contents out.new) }
+    ensures ends { TextEnds (O.failed out.new) (E.failed err.new) status result }
 {
     if write_pieces(err, pieces).is_err() {
         return close_run(out, err);
@@ -66,6 +80,8 @@ fn end_told<O: Sink, E: Sink>(pieces: &[&[u8]], status: Status, out: &mut O, err
 fn end_unread<O: Sink, E: Sink>(why: &Unread<'_>, out: &mut O, err: &mut E) -> Status
     requires out_is_fresh { O.failed out.old ≡ false }
     requires err_is_fresh { E.failed err.old ≡ false }
+    ensures kept { Keeps (O.contents out.old) (O.contents out.new) }
+    ensures ends { TextEnds (O.failed out.new) (E.failed err.new) (unread_status why.now) result }
 {
     match why {
         Unread::Unreadable(path) => end_told(

@@ -1,4 +1,7 @@
 //! The texts.
+ghost use Rattle.std.specs.Prelude.{◌≡◌, IfOk, map};
+ghost use Rattle.abnftexts.specs.RulesGathered.{named_text};
+ghost use Rattle.abnfx.specs.TextsRead.{text_read};
 
 use abnftexts::SourceText;
 use ruletable::Memory;
@@ -75,7 +78,9 @@ pub(crate) fn read_texts<'a, R: Files + AllocGlobal>(
 }
 
 // The text with its name.
-fn source_of<'b>(text: &'b FileText<'_>) -> SourceText<'b> {
+fn source_of<'b>(text: &'b FileText<'_>) -> SourceText<'b>
+    ensures { named_text result ≡ text_read text.now }
+{
     SourceText {
         name: text.path.as_bytes(),
         bytes: text.bytes.as_slice(),
@@ -86,7 +91,9 @@ fn source_of<'b>(text: &'b FileText<'_>) -> SourceText<'b> {
 pub(crate) fn sources_of<'b>(
     alloc: Global,
     texts: &'b [FileText<'_>],
-) -> Result<Vec<SourceText<'b>>, Memory> {
+) -> Result<Vec<SourceText<'b>>, Memory>
+    ensures { IfOk result (λ sources. map named_text sources.items ≡ map text_read texts.now) }
+{
     let mut sources = Vec::new(alloc);
     for text in texts {
         sources.push(source_of(text))?;

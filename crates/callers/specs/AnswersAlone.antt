@@ -1,5 +1,5 @@
 -- Answers of an open grammar, as runs tell them.
-use Rattle.std.specs.Prelude.{◌≡◌, ℕ, false, List}
+use Rattle.std.specs.Prelude.{◌≡◌, ℕ, false, List, []}
 use Rattle.abnfrun.specs.AbnfAnswers.{AbnfStates}
 use Rattle.abnfrun.specs.AbnfReply.{form_of}
 use Rattle.abnfrun.specs.OpenAbnf.{answer_alone, line_alone}
@@ -13,4 +13,4 @@ use Rattle.toolrun.specs.declared.settings.Settings.{Settings}
 abbrev pub AnswersAlone : List ℕ → Settings → List ℕ → Answer → Type 0
 AnswersAlone text settings line said = settings.mode ≡ Run → settings.explain ≡ false
     → HasNoEnd (form_of settings).end line
-    → (told : List ℕ) × AbnfStates text settings (line_alone settings line) told (answer_alone settings line said)
+    → (told : List ℕ) × AbnfStates text settings (line_alone settings line) told (answer_alone settings line said [])

@@ -18,3 +18,7 @@ IsCommentAnswer line (NoAfter n) = ⊥
 -- lines of at most 65,536 bytes, each with an LF behind it
 abbrev pub comment_form : LineForm
 comment_form = record { limit = 65536; end = code "\n" }
+
+-- no text explains a line that is refused
+abbrev pub IsUnexplained : List ℕ → ℕ → List ℕ → Type 0
+IsUnexplained line number why = ⊥

@@ -1,21 +1,26 @@
 //! A caller of `lines`.
 ghost use Rattle.std.specs.Prelude.{◌≡◌, false};
+ghost use Rattle.callers.specs.CommentLines.{IsUnexplained};
 ghost use Rattle.callers.specs.CommentLines.{IsCommentAnswer, comment_form};
-ghost use Rattle.lines.specs.InputLines.{LinesReply};
-ghost use Rattle.toolrun.specs.Stopped.{Performs};
+ghost use Rattle.lines.specs.LineRefusals.{LinesStates};
+ghost use Rattle.toolrun.specs.Stopped.{Fulfils};
 ghost use Rattle.toolrun.specs.Stream.{passed};
 
 use feed::Source;
 use lines::{Answer, Judge, LineForm, run_lines};
 use ruletable::{Memory, Sink, WriteFault};
 use std::alloc::Global;
-use toolrun::Stop;
+use toolrun::Ending;
 
 /// Judges lines by their first byte.
 pub struct Comments;
 
 impl Judge<()> for Comments {
     ghost told = { λ _ line said. IsCommentAnswer line said };
+
+    ghost explains = { λ _. false };
+
+    ghost refusal = { λ _. IsUnexplained };
 
     ghost served = { λ _. 65536 };
 
@@ -28,6 +33,15 @@ impl Judge<()> for Comments {
         Ok(Answer::No)
     }
 
+    fn is_explained(&self) -> bool {
+        false
+    }
+
+    // no line is explained
+    fn explain(&self, _work: &mut (), _line: &[u8], _number: usize) -> Result<Vec<u8>, Memory> {
+        Err(Memory)
+    }
+
     fn decided(&self) {}
 }
 
@@ -36,11 +50,11 @@ pub fn answer_comments<R: Source, O: Sink>(
     alloc: Global,
     reader: &mut R,
     out: &mut O,
-) -> Result<Stop, WriteFault>
+) -> Result<Ending, WriteFault>
     requires reader_is_fresh { R.failed reader.old ≡ false }
     requires reader_is_open { R.ended reader.old ≡ false }
     requires out_is_fresh { O.failed out.old ≡ false }
-    ensures { Performs (LinesReply IsCommentAnswer comment_form)
+    ensures { Fulfils (LinesStates IsCommentAnswer false IsUnexplained comment_form)
         (passed R.remaining R.failed reader.old reader.new) (passed O.contents O.failed out.old out.new) result }
 {
     let form = LineForm {

@@ -1,11 +1,11 @@
 -- What is told once for all windows, and the runs behind it.
 -- Serves: fanquber_peg_windows
-use Rattle.std.proofs.Common.{◌≡◌, ℕ, List, [], ◌∷◌, ◌++◌, refl, sym, ◌∙◌, ap, arith, ◌<◌, append-nil}
+use Rattle.std.proofs.Common.{◌≡◌, ℕ, List, [], ◌∷◌, ◌++◌, refl, sym, ◌∙◌, ap, arith, ◌<◌, append-nil, inr}
 use Rattle.std.specs.Prelude.{Result, Ok, Err}
-use Rattle.fanquber_c.proofs.WindowRunsLemmas.{planned_is_memory}
+use Rattle.fanquber_c.proofs.WindowRunsLemmas.{planned_is_behind}
 use Rattle.fanquber_c.specs.FrontText.{IsFrontOf, StandsFirst, fault_told, not_told, quieted, told_once}
 use Rattle.fanquber_c.specs.WindowRuns.{WindowRun}
-use Rattle.memoryrun.specs.MemoryRun.{IsMemoryRun}
+use Rattle.fanquber_c.specs.WindowsRun.{IsRunBehind}
 use Rattle.memoryrun.specs.PlannedRun.{IsPlannedRun}
 use Rattle.ruletable.proofs.AppendsLemmas.{IsBeginning-nil, IsBeginning-same}
 use Rattle.ruletable.specs.Faults.{fault_text}
@@ -29,7 +29,7 @@ module _ {T : Type 0} (States : Input → List ℕ → Reply → Type 0) (Does :
   behind_fault : (fault : ReadFault) → IsPlan (Behind States) first (does_of Does (Err (Refused fault)))
       → (bytes : List ℕ) (run : WindowRun)
       → IsPlannedRun (does_of Does (Err (Quiet status.Refused))) bytes run.out run.err run.code
-      → IsMemoryRun States bytes run.out ((first ++ fault_text fault) ++ run.err) run.code
+      → IsRunBehind States (first ++ fault_text fault) bytes run
   behind_fault fault plan bytes run p = by (plan.stated (bounded bytes) (stopped (Refused fault)) refl)
     where
       quiet : run.code < 4 → (run.out ≡ []) × (run.err ≡ []) × (run.code ≡ 2)
@@ -39,26 +39,36 @@ module _ {T : Type 0} (States : Input → List ℕ → Reply → Type 0) (Does :
       begun = rw p.does at p.part
 
       by : Behind States (bounded bytes) first (stopped (Refused fault))
-          → IsMemoryRun States bytes run.out ((first ++ fault_text fault) ++ run.err) run.code
+          → IsRunBehind States (first ++ fault_text fault) bytes run
       by (behind_notes s) = record {
         notes = first;
         stated = stopped (Refused fault);
         states = s;
-        whole = λ low. let all = quiet low in (all.0, rw all.1 (append-nil (first ++ fault_text fault)), all.2);
+        whole = λ low. let all = quiet low in (
+          all.0,
+          rw all.1 (append-nil (first ++ fault_text fault)),
+          all.2,
+          inr ((fault_text fault, refl), refl),
+        );
         part = begun;
       }
       by (in_reply empty s) = record {
         notes = [];
         stated = told_behind first (stopped (Refused fault));
         states = s;
-        whole = λ low. let all = quiet low in (all.0, rw all.1 (append-nil (first ++ fault_text fault)), all.2);
+        whole = λ low. let all = quiet low in (
+          all.0,
+          rw all.1 (append-nil (first ++ fault_text fault)),
+          all.2,
+          inr (IsBeginning-nil (first ++ fault_text fault), refl),
+        );
         part = begun;
       }
 
   -- nothing is told once, and the run of a window stops for want of memory
   without_front : {D : Input → Reply → Type 0} → IsPlan (Behind States) first D → (bytes : List ℕ) (run : WindowRun)
       → IsPlannedRun (does_of Does (Err NoMemory)) bytes run.out run.err run.code
-      → IsMemoryRun States bytes run.out ([] ++ run.err) run.code
+      → IsRunBehind States [] bytes run
   without_front plan bytes run p = by (plan.some (bounded bytes)).0 (plan.stated (bounded bytes)
       (plan.some (bounded bytes)).0 (plan.some (bounded bytes)).1)
     where
@@ -69,7 +79,7 @@ module _ {T : Type 0} (States : Input → List ℕ → Reply → Type 0) (Does :
       begun = rw p.does at p.part
 
       by : (reply : Reply) → Behind States (bounded bytes) first reply
-          → IsMemoryRun States bytes run.out ([] ++ run.err) run.code
+          → IsRunBehind States [] bytes run
       by reply (behind_notes s) = record {
         notes = first;
         stated = reply;
@@ -89,14 +99,14 @@ module _ {T : Type 0} (States : Input → List ℕ → Reply → Type 0) (Does :
   behind_notes_alone : (task : Result T Stop) (told : List ℕ) → told ≡ first ++ []
       → IsPlan (Behind States) first (does_of Does task) → (bytes : List ℕ) (run : WindowRun)
       → IsPlannedRun (does_of Does task) bytes run.out run.err run.code
-      → IsMemoryRun States bytes run.out (told ++ run.err) run.code
+      → IsRunBehind States told bytes run
   behind_notes_alone task told is plan bytes run p =
-      rw (is ∙ append-nil first) (planned_is_memory States first (does_of Does task) plan bytes run p)
+      rw (is ∙ append-nil first) (planned_is_behind States first (does_of Does task) plan bytes run p)
 
   behind_all : (task : Result T Stop) (told : List ℕ) → told ≡ first ++ fault_told task
       → IsPlan (Behind States) first (does_of Does task) → (bytes : List ℕ) (run : WindowRun)
       → IsPlannedRun (does_of Does (quieted task)) bytes run.out run.err run.code
-      → IsMemoryRun States bytes run.out (told ++ run.err) run.code
+      → IsRunBehind States told bytes run
   behind_all (Ok t) = behind_notes_alone (Ok t)
   behind_all (Err (Quiet code)) = behind_notes_alone (Err (Quiet code))
   behind_all (Err (NoMatch s)) = behind_notes_alone (Err (NoMatch s))
@@ -108,12 +118,12 @@ module _ {T : Type 0} (States : Input → List ℕ → Reply → Type 0) (Does :
   behind_all (Err Unreadable) = behind_notes_alone (Err Unreadable)
 
   -- the run of a window, behind what is told once
-  pub front_is_memory : (task rest : Result T Stop) (told : List ℕ) → IsFrontOf first task told rest
+  pub front_is_behind : (task rest : Result T Stop) (told : List ℕ) → IsFrontOf first task told rest
       → IsPlan (Behind States) first (does_of Does task) → (bytes : List ℕ) (run : WindowRun)
       → IsPlannedRun (does_of Does rest) bytes run.out run.err run.code
-      → IsMemoryRun States bytes run.out (told ++ run.err) run.code
-  front_is_memory task rest told (told_once is) = behind_all task told is
-  front_is_memory task rest told (not_told is) = λ plan bytes run p. rw is (without_front plan bytes run p)
+      → IsRunBehind States told bytes run
+  front_is_behind task rest told (told_once is) = behind_all task told is
+  front_is_behind task rest told (not_told is) = λ plan bytes run p. rw is (without_front plan bytes run p)
 
   stands_before : (told : List ℕ) (input : Input) (reply : Reply) → Behind States input first reply
       → IsBeginning told (first ++ reply.err)

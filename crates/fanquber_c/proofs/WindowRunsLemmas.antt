@@ -1,17 +1,18 @@
 -- One window behind others.
 -- Serves: fanquber_peg_windows
 use Rattle.std.proofs.Common.{◌≡◌, ℕ, true, false, List, [], ◌∷◌, ◌++◌, refl, sym, ◌∙◌, ap, arith, ◌<◌, length, take}
-use Rattle.std.proofs.Common.{append_assoc, map, slice_index_or, slice_set, ◌+◌}
+use Rattle.std.proofs.Common.{append_assoc, map, slice_index_or, slice_set, ◌+◌, inl, inr}
 use Rattle.std.proofs.lemmas.List.{append-nil, take_more, take_more_set}
 use Rattle.std.specs.Prelude.{Result, Ok, Err, if◌then◌else◌}
 use Rattle.std.specs.List.{flat_map}
 use Rattle.std.specs.Result.{is_err, is_ok}
 use Rattle.fanquber_c.specs.WindowRuns.{AreWindowRuns, HaveRun, IsSaved, IsWindowRun, WindowRun, more, none, outside}
 use Rattle.fanquber_c.specs.WindowRuns.{part, window_bytes, ran, result_of, whole}
+use Rattle.fanquber_c.specs.WindowsRun.{IsRunBehind}
 use Rattle.fanquber_c.specs.declared.result.CResult.{CResult}
 use Rattle.fanquber_c.specs.declared.windows.CWindow.{CWindow}
-use Rattle.memoryrun.specs.MemoryRun.{IsMemoryRun}
 use Rattle.memoryrun.specs.PlannedRun.{IsPlannedRun}
+use Rattle.ruletable.proofs.AppendsLemmas.{IsBeginning-nil}
 use Rattle.ruletable.specs.Writing.{IsBeginning}
 use Rattle.toolrun.specs.Input.{Input, bounded}
 use Rattle.toolrun.specs.Plan.{Behind, IsPlan, behind_notes, in_reply, told_behind}
@@ -103,25 +104,25 @@ module _ (Ran Seen : List ℕ → WindowRun → Type 0) (input : List ℕ)
     results_are = h.results_are;
   }
 
--- a planned run behind what is told first is a run
-pub planned_is_memory : (States : Input → List ℕ → Reply → Type 0) (first : List ℕ) (Does : Input → Reply → Type 0)
+-- a planned run behind what is told first is one
+pub planned_is_behind : (States : Input → List ℕ → Reply → Type 0) (first : List ℕ) (Does : Input → Reply → Type 0)
     → IsPlan (Behind States) first Does → (bytes : List ℕ) (run : WindowRun)
-    → IsPlannedRun Does bytes run.out run.err run.code
-    → IsMemoryRun States bytes run.out (first ++ run.err) run.code
-planned_is_memory States first Does plan bytes run p = by (plan.stated (bounded bytes) p.stated p.does)
+    → IsPlannedRun Does bytes run.out run.err run.code → IsRunBehind States first bytes run
+planned_is_behind States first Does plan bytes run p = by (plan.stated (bounded bytes) p.stated p.does)
   where
-    by : Behind States (bounded bytes) first p.stated → IsMemoryRun States bytes run.out (first ++ run.err) run.code
+    by : Behind States (bounded bytes) first p.stated → IsRunBehind States first bytes run
     by (behind_notes s) = record {
       notes = first;
       stated = p.stated;
       states = s;
-      whole = λ low. let all = p.whole low in (all.0, ap (λ w. first ++ w) all.1, all.2);
+      whole = λ low. let all = p.whole low in (all.0, ap (λ w. first ++ w) all.1, all.2, inl refl);
       part = p.part;
     }
     by (in_reply empty s) = record {
       notes = [];
       stated = told_behind first p.stated;
       states = s;
-      whole = λ low. let all = p.whole low in (all.0, ap (λ w. first ++ w) all.1, all.2);
+      whole = λ low. let all = p.whole low in
+          (all.0, ap (λ w. first ++ w) all.1, all.2, inr (IsBeginning-nil first, empty));
       part = p.part;
     }

@@ -1,8 +1,10 @@
 pub mod Asking
 pub mod BufferRun
 pub mod FrontText
+pub mod GrammarOpenings
 pub mod JudgeCall
 pub mod OpenCall
 pub mod PointerOwns
+pub mod RunCall
 pub mod WindowRuns
 pub mod WindowsRun

@@ -17,7 +17,7 @@ use std::alloc::Global;
 use toolrun::{Status, plan_of};
 
 /// Lays what a run wrote into the buffers, as much of it as there is room for.
-fn hand_out(outputs: &Outputs, out: &mut [u8], err: &mut [u8]) -> CResult
+pub(crate) fn hand_out(outputs: &Outputs, out: &mut [u8], err: &mut [u8]) -> CResult
     ensures out { IsLaid outputs.now.out.items (record { old = out.old; new = out.new; len = result.out_len }) }
     ensures err { IsLaid outputs.now.err.items (record { old = err.old; new = err.new; len = result.err_len }) }
     ensures status { result.status ≡ code_of outputs.now.status }

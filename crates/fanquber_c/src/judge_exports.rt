@@ -2,6 +2,7 @@
 ghost use Rattle.std.specs.Prelude.{◌≡◌, None};
 ghost use Rattle.fanquber_c.specs.JudgeCall.{IsJudgeCall};
 ghost use Rattle.fanquber_c.specs.OpenCall.{IsOpenCall};
+ghost use Rattle.fanquber_c.specs.GrammarOpenings.{IsAbnfOpening};
 
 use crate::answer::{CAnswer, judge_line, without_answer};
 use crate::asked::{BAD_SETTINGS, CSettings, settings_of};
@@ -25,7 +26,7 @@ pub extern "C" fn fanquber_abnf_open(
     err: &mut [u8],
 ) -> CResult
     ensures out { result.out_len ≡ 0 }
-    ensures call { IsOpenCall asked.now name.now grammar.now
+    ensures call { IsOpenCall (λ settings. IsAbnfOpening grammar.now settings) asked.now name.now
         (record { old = place.old.judge.held; new = place.new.judge.held })
         (record { old = err.old; new = err.new; len = result.err_len }) result.status }
 {

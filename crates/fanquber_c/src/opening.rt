@@ -1,95 +1,15 @@
-//! A grammar that is opened for C.
-ghost use Rattle.std.specs.Prelude.{◌≡◌, [], None, map, IfOk};
-ghost use Rattle.abnfexplain.specs.AbnfExplained.{Explains};
-ghost use Rattle.abnfrun.specs.AbnfExplainedNotes.{ExplainsAbnfNote};
-ghost use Rattle.abnfread.specs.AbnfReading.{IsFaultOf};
+//! A grammar in ABNF that is opened for C.
+ghost use Rattle.std.specs.Prelude.{◌≡◌, None, map};
 ghost use Rattle.abnfrun.specs.OpenAbnf.{IsOpened};
-ghost use Rattle.fanquber_c.specs.OpenCall.{IsOpening};
+ghost use Rattle.fanquber_c.specs.GrammarOpenings.{IsAbnfOpening};
 ghost use Rattle.ruletable.specs.Notes.{said_of};
-ghost use Rattle.toolrun.specs.Explained.{Explained};
 ghost use Rattle.toolrun.specs.Status.{code_of};
-ghost use Rattle.toolrun.specs.ToldNotes.{ToldNotes};
 
-use crate::front::text_of_first;
 use crate::judge::{CJudge, put_judge};
+use crate::told::{Told, tell_fault, text_of_notes, told_nothing};
 use abnfrun::{AbnfLanguage, OpenedAbnf, open_abnf};
-use ruletable::{Memory, Note, ReadFault};
 use std::alloc::Global;
-use toolrun::{First, Language, Settings, Status, Told as AllTold, told_notes};
-
-/// What is told of a grammar that was to be opened, and the status.
-#[derive(Drop)]
-pub(crate) struct Told {
-    pub(crate) text: Vec<u8>,
-    pub(crate) status: Status,
-}
-
-/// Returns what is told where an allocation failed.
-fn told_nothing(alloc: Global) -> Told
-    ensures text { result.text.items ≡ [] }
-    ensures status { result.status ≡ Status.NoMemory }
-{
-    Told {
-        text: Vec::new(alloc),
-        status: Status::NoMemory,
-    }
-}
-
-/// Returns the lines that explain a fault, if that is asked. `Memory` if an allocation fails.
-fn explanation(
-    alloc: Global,
-    grammar: &[u8],
-    settings: &Settings<'_>,
-    fault: ReadFault,
-) -> Result<Vec<u8>, Memory>
-    requires { IsFaultOf grammar.now fault }
-    ensures { IfOk result (λ why. Explained settings.now (Explains grammar.now fault) why.items) }
-{
-    if !settings.explain {
-        return Ok(Vec::new(alloc));
-    }
-    AbnfLanguage::explain_fault(alloc, grammar, fault)
-}
-
-/// Tells the fault of a grammar's text, with what explains it if that is asked.
-fn tell_fault(alloc: Global, grammar: &[u8], settings: &Settings<'_>, fault: ReadFault) -> Told
-    requires { IsFaultOf grammar.now fault }
-    ensures { IsOpening grammar.now settings.now result.text.items None (code_of result.status) }
-{
-    if fault == ReadFault::Memory {
-        return told_nothing(alloc);
-    }
-    let Ok(why) = explanation(alloc, grammar, settings, fault) else {
-        return told_nothing(alloc);
-    };
-    match text_of_first(alloc, &First::Fault { fault, why }) {
-        Ok(text) => Told {
-            text,
-            status: Status::Refused,
-        },
-        Err(Memory) => told_nothing(alloc),
-    }
-}
-
-/// Returns what a run tells of the notes on a grammar: their lines, each explained if that is asked. `Memory` if an
-/// allocation fails.
-fn text_of_notes(
-    alloc: Global,
-    grammar: &[u8],
-    settings: &Settings<'_>,
-    notes: Vec<Note>,
-) -> Result<Vec<u8>, Memory>
-    ensures { IfOk result (λ text. ToldNotes settings.now (ExplainsAbnfNote grammar.now) (map said_of notes.items)
-        text.items) }
-{
-    if !settings.explain {
-        return text_of_first(alloc, &First::Notes(notes));
-    }
-    match told_notes::<AbnfLanguage>(alloc, grammar, settings.start, notes.as_slice()) {
-        AllTold::Whole(text) => Ok(text),
-        AllTold::Part(_) => Err(Memory),
-    }
-}
+use toolrun::{Settings, Status};
 
 /// Tells the notes on a grammar that was opened, and puts what judges lines by it, if there is one, into an empty
 /// place.
@@ -102,10 +22,10 @@ fn place_opened(
 ) -> Told
     requires empty { place.old.judge.held ≡ None }
     requires opened { IsOpened grammar.now settings.now (map said_of opened.notes.items) opened.judge }
-    ensures { IsOpening grammar.now settings.now result.text.items place.new.judge.held (code_of result.status) }
+    ensures { IsAbnfOpening grammar.now settings.now result.text.items place.new.judge.held (code_of result.status) }
 {
     let OpenedAbnf { notes, judge } = opened;
-    let Ok(text) = text_of_notes(alloc, grammar, settings, notes) else {
+    let Ok(text) = text_of_notes::<AbnfLanguage>(alloc, grammar, settings, notes) else {
         return told_nothing(alloc);
     };
     let Some(judge) = judge else {
@@ -134,10 +54,10 @@ pub(crate) fn open_into(
     place: &mut CJudge,
 ) -> Told
     requires { place.old.judge.held ≡ None }
-    ensures { IsOpening grammar.now settings.now result.text.items place.new.judge.held (code_of result.status) }
+    ensures { IsAbnfOpening grammar.now settings.now result.text.items place.new.judge.held (code_of result.status) }
 {
     match open_abnf(alloc, grammar, settings) {
         Ok(opened) => place_opened(alloc, grammar, settings, opened, place),
-        Err(fault) => tell_fault(alloc, grammar, settings, fault),
+        Err(fault) => tell_fault::<AbnfLanguage>(alloc, grammar, settings, fault),
     }
 }

@@ -6,6 +6,8 @@ mod abnfblocks_found;
 #[cfg(test)]
 mod abnfcheck_notes;
 #[cfg(test)]
+mod abnfhints_told;
+#[cfg(test)]
 mod abnfjoin_calls;
 #[cfg(test)]
 mod abnfprint_print;

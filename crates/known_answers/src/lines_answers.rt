@@ -1,5 +1,5 @@
 //! The answers to the lines of small inputs, by hand.
-ghost use Rattle.std.specs.Prelude.{◌≡◌, ◌-◌, length, ltb, if◌then◌else◌};
+ghost use Rattle.std.specs.Prelude.{◌≡◌, ◌-◌, false, length, ltb, if◌then◌else◌};
 ghost use Rattle.lines.specs.declared.answers.Answer.TheVariants as answer;
 
 use feed::SourceOf;
@@ -7,7 +7,7 @@ use lines::{Answer, Judge, LineForm, run_lines};
 use ruletable::{Memory, SinkOf};
 use std::process::Abort;
 use std::rt::HostRuntime;
-use toolrun::{Status, Stop};
+use toolrun::{Ending, Status, Stop};
 
 /// Says yes to the lines of at most so many bytes. To another line it says no, and by how many bytes it is longer if it
 /// counts.
@@ -21,6 +21,10 @@ impl Judge<u8> for Short {
     ghost told = { λ short line said. said ≡ (if ltb short.most (length line)
         then (if short.counts then answer.NoAfter (length line - short.most) else answer.No) else answer.Yes) };
 
+    ghost explains = { λ _. false };
+
+    ghost refusal = { λ _ line number why. ⊥ };
+
     ghost served = { λ _. 4 };
 
     ghost works_in = { λ _ _. Unit {0} };
@@ -33,6 +37,15 @@ impl Judge<u8> for Short {
             return Ok(Answer::No);
         }
         Ok(Answer::Yes)
+    }
+
+    fn is_explained(&self) -> bool {
+        false
+    }
+
+    // no line is explained
+    fn explain(&self, _work: &mut u8, _line: &[u8], _number: usize) -> Result<Vec<u8>, Memory> {
+        Err(Memory)
     }
 
     fn decided(&self) {}
@@ -74,7 +87,11 @@ fn check_lines<R: Abort + AllocGlobal>(
     let mut work = 0u8;
     let form = LineForm { limit: 4, end };
     let ended = run_lines(rt.alloc(), &judge, &mut work, form, &mut reader, &mut out);
-    assert!(rt; ended == Ok(stop), "how the run ends");
+    let ends_so = match ended {
+        Ok(Ending::Plain(found)) => found == stop,
+        _ => false,
+    };
+    assert!(rt; ends_so, "how the run ends");
     assert!(rt; out.into_inner().as_slice() == wanted, "what is written");
 }
 

@@ -18,6 +18,8 @@ mod packrat_cells;
 #[cfg(test)]
 mod packrat_match_unit;
 #[cfg(test)]
+mod peg_hints_told;
+#[cfg(test)]
 mod pegmatch_units;
 #[cfg(test)]
 mod pegread_escapes;

@@ -17,6 +17,8 @@ mod run_abnf_examples;
 #[cfg(test)]
 mod run_abnf_records;
 #[cfg(test)]
+mod run_abnf_refused;
+#[cfg(test)]
 mod run_abnf_rows;
 #[cfg(test)]
 mod run_abnf_viable;
@@ -26,3 +28,5 @@ mod run_peg_rows;
 mod run_peg_stops;
 #[cfg(test)]
 mod run_tool_explained;
+#[cfg(test)]
+mod run_tool_hints;

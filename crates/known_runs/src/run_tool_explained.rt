@@ -529,5 +529,9 @@ no match at byte 1
     assert!(rt; ran.is(b"x\n", told, Status::NoMatch));
     let ends = Ends::new(b"a\nb\n", 1);
     let ran = run_over(rt.alloc(), Program::Abnfi, b"s = \"a\"", &settings, &ends);
-    assert!(rt; ran.is(b"yes\nno\n", b"", Status::NoMatch));
+    let told = b"line 2, letter 1: expected \"A\"
+  b
+  ^
+";
+    assert!(rt; ran.is(b"yes\nno\n", told, Status::NoMatch));
 }

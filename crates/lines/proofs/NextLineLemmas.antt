@@ -137,13 +137,15 @@ module _ {R : Type 0} (f : Feed R) (end limit : ℕ) (before : List ℕ) (input 
         (rw same (none_found end items none), rw same (omega (arith, lt, room)), a.1)
 
 -- a last piece is all that is held
-last_fits : (len : ℕ) (b : Bool) → LiesWithin len (if b then line.End else line.Last len)
-last_fits len true = tt
-last_fits len false = omega arith
+last_fits : (len : ℕ) (b : Bool) → (len == 0) ≡ b → LiesWithin len (if b then line.End else line.Last len)
+last_fits len true e = tt
+last_fits len false e =
+    let some : 0 < len = grind (arith, common_steps, e) in
+    (some, omega arith)
 
 pub without_fits : (held : Held) (len : ℕ) → LiesWithin len (line_without held len)
 without_fits held.Full len = tt
-without_fits held.End len = last_fits len (len == 0)
+without_fits held.End len = last_fits len (len == 0) refl
 without_fits held.Fault len = tt
 
 -- a last piece leaves room for a byte

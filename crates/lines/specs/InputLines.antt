@@ -1,12 +1,10 @@
 -- The lines of an input, the answers to them, and how a run of them ends. A byte ends a line: LF, or any other.
-use Rattle.std.specs.Prelude.{◌≡◌, ◌≢◌, ℕ, suc, ◌+◌, ◌<◌, ◌≤◌, ◌==◌, ◌&&◌, ⊤, min, Bool, true, false, List, [], ◌∷◌}
+use Rattle.std.specs.Prelude.{◌≡◌, ◌≢◌, ℕ, suc, ◌+◌, ◌<◌, ◌≤◌, ◌==◌, ⊤, min, Bool, true, false, List, [], ◌∷◌}
 use Rattle.std.specs.Prelude.{◌++◌, length, take, drop, codes, decimal, if◌then◌else◌}
 use Rattle.std.specs.List.{All}
 use Rattle.feed.specs.declared.held.Held.{Held}
 use Rattle.feed.specs.declared.held.Held.TheVariants as held
 use Rattle.toolrun.specs.Input.{Input}
-use Rattle.toolrun.specs.Reply.{Reply}
-use Rattle.toolrun.specs.RunSteps.{RunStates}
 use Rattle.toolrun.specs.declared.status.Status.{Status}
 use Rattle.toolrun.specs.declared.status.Status.TheVariants.{Done, NoMatch}
 use Rattle.toolrun.specs.declared.stop.Stop.{Stop}
@@ -16,7 +14,7 @@ use Rattle.lines.specs.declared.answers.Answer.TheVariants.{Yes, No, NoAfter}
 use Rattle.lines.specs.declared.line.Line.{Line}
 use Rattle.lines.specs.declared.line.LineForm.{LineForm}
 use Rattle.lines.specs.declared.line.Line.TheVariants.{Whole, Last, Overlong, End, Broken}
-use Rattle.lines.specs.declared.line_loop.At.{At}
+use Rattle.lines.specs.declared.reached.At.{At}
 
 -- none of these bytes is the one that ends a line
 abbrev pub HasNoEnd : ℕ → List ℕ → Type 0
@@ -34,14 +32,27 @@ says_yes Yes = true
 says_yes No = false
 says_yes (NoAfter n) = false
 
--- how a run ends whose lines were all answered by yes, or not
-abbrev pub status_after : Bool → Status
-status_after true = Done
-status_after false = NoMatch
+-- how many lines an answer refuses
+abbrev pub refused_by : Answer → ℕ
+refused_by Yes = 0
+refused_by No = 1
+refused_by (NoAfter n) = 1
 
--- behind a line of n bytes and its end
+-- how a run ends behind so many refused lines
+abbrev pub status_after : ℕ → Status
+status_after refused = if refused == 0 then Done else NoMatch
+
+-- before the first line
+abbrev pub at_front : At
+at_front = record { place = 0; count = 0; refused = 0 }
+
+-- behind a line that takes n bytes
 abbrev pub behind : At → ℕ → Answer → At
-behind at n said = record { place = at.place + n + 1; count = at.count + 1; all = at.all && says_yes said }
+behind at n said = record {
+  place = at.place + n;
+  count = at.count + 1;
+  refused = at.refused + refused_by said;
+}
 
 -- how many bytes are taken where the last line is looked for at s
 abbrev pub taken_at : ℕ → Input → ℕ → ℕ
@@ -62,6 +73,11 @@ module _ (form : LineForm) (input : Input) where
   abbrev pub IsLastAt : ℕ → Type 0
   IsLastAt s = HasNoEnd form.end (drop s input.bytes) × (0 < length (drop s input.bytes))
       × (length (drop s input.bytes) ≤ form.limit) × (input.fault ≡ false)
+
+  -- at s stands a line, which takes so many bytes: with its end, or the last one
+  pub data StandsAt (s : ℕ) : List ℕ → ℕ → Type 0 where
+    with_end : (line : List ℕ) → IsLine s line → StandsAt s line (length line + 1)
+    without_end : IsLastAt s → StandsAt s (drop s input.bytes) (length (drop s input.bytes))
 
   -- no line ends within so many bytes and one more
   abbrev pub IsOverlongAt : ℕ → Type 0
@@ -85,10 +101,10 @@ module _ (form : LineForm) (input : Input) where
   IsNext s End = IsEndAt s
   IsNext s Broken = IsBrokenAt s
 
--- what is found lies in so many bytes
+-- what is found lies in so many bytes, and a last line has some
 abbrev pub LiesWithin : ℕ → Line → Type 0
 LiesWithin len (Whole k) = k < len
-LiesWithin len (Last k) = k ≤ len
+LiesWithin len (Last k) = (0 < k) × (k ≤ len)
 LiesWithin len _ = ⊤
 
 -- a line has fewer bytes than there is room for
@@ -107,20 +123,13 @@ line_without held.Fault len = Broken
 module _ (Told : List ℕ → Answer → Type 0) (form : LineForm) (input : Input) where
   -- the lines up to a place, and their answers
   pub data Lines : At → List ℕ → Type 0 where
-    none : Lines (record { place = 0; count = 0; all = true }) []
-    one_more : (at : At) (before line : List ℕ) (said : Answer) → Lines at before → IsLine form input at.place line
-        → Told line said →
-        Lines (behind at (length line) said) (before ++ answer_text said)
+    none : Lines at_front []
+    one_more : (at : At) (before line : List ℕ) (n : ℕ) (said : Answer) → Lines at before
+        → StandsAt form input at.place line n → Told line said
+        → Lines (behind at n said) (before ++ answer_text said)
 
-  -- how a run ends there, and the answer to a last line without an end
-  pub data Ends (at : At) : List ℕ → Stop → Type 0 where
-    broken : IsBrokenAt form input at.place → Ends at [] stop.Broken
-    overlong : IsOverlongAt form input at.place → Ends at [] (stop.LongLine (at.count + 1) form.limit)
-    finished : IsEndAt form input at.place → Ends at [] (stop.Quiet (status_after at.all))
-    last_line : (said : Answer) → IsLastAt form input at.place → Told (drop at.place input.bytes) said →
-        Ends at (answer_text said) (stop.Quiet (status_after (at.all && says_yes said)))
-
--- what a run of the lines of an input states
-abbrev pub LinesReply : (List ℕ → Answer → Type 0) → LineForm → Input → Reply → Type 0
-LinesReply Told form input reply = RunStates (Lines Told form input) (Ends Told form input)
-    (place_taken form.limit input) reply
+-- how a run ends there; nothing more is written
+pub data LinesEnd (form : LineForm) (input : Input) (at : At) : List ℕ → Stop → Type 0 where
+  broken : IsBrokenAt form input at.place → LinesEnd form input at [] stop.Broken
+  overlong : IsOverlongAt form input at.place → LinesEnd form input at [] (stop.LongLine (at.count + 1) form.limit)
+  finished : IsEndAt form input at.place → LinesEnd form input at [] (stop.Quiet (status_after at.refused))

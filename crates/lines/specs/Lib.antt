@@ -1,2 +1,3 @@
 pub mod InputLines
+pub mod LineRefusals
 pub mod LineSteps

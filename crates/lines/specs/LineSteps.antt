@@ -1,49 +1,64 @@
 -- The steps of a run of lines. It serves private helpers alone.
-use Rattle.std.specs.Prelude.{◌≡◌, ℕ, ◌<◌, ◌&&◌, ◌⊎◌, ⊤, Bool, List, length, Option, Some, None, Result, Ok, Err}
+use Rattle.std.specs.Prelude.{◌≡◌, ℕ, ◌<◌, ◌≤◌, ◌⊎◌, ⊤, Bool, List, [], ◌++◌, Option, Some, None, Result, Ok, Err}
 use Rattle.std.specs.Io.KnownBytes.{Appends, Keeps}
 use Rattle.ruletable.specs.Writing.{AppendsPart}
 use Rattle.ruletable.specs.declared.sink.WriteFault.{WriteFault}
 use Rattle.toolrun.specs.Input.{Input}
+use Rattle.toolrun.specs.RunEnd.{refusals_text}
+use Rattle.toolrun.specs.declared.ending.Ending.{Ending}
+use Rattle.toolrun.specs.declared.ending.Ending.TheVariants.{Plain, Explained, Unexplained}
 use Rattle.toolrun.specs.declared.stop.Stop.{Stop}
-use Rattle.toolrun.specs.declared.stop.Stop.TheVariants.{Quiet, NoMemory}
-use Rattle.lines.specs.InputLines.{Ends, IsLine, answer_text, says_yes, status_after}
+use Rattle.toolrun.specs.declared.stop.Stop.TheVariants.{NoMemory}
+use Rattle.lines.specs.InputLines.{LinesEnd, StandsAt, answer_text}
+use Rattle.lines.specs.LineRefusals.{IsLong, TellsLine, stop_lines}
 use Rattle.lines.specs.declared.answers.Answer.{Answer}
 use Rattle.lines.specs.declared.line.LineForm.{LineForm}
-use Rattle.lines.specs.declared.line_loop.At.{At}
 use Rattle.lines.specs.declared.line_loop.Step.{Step}
 use Rattle.lines.specs.declared.line_loop.Step.TheVariants.{Answers, Stops}
+use Rattle.lines.specs.declared.reached.At.{At}
 
--- a line was answered, or nothing was written for want of memory
-abbrev pub Answered : (Answer → Type 0) → Option (List ℕ) → Option (List ℕ) → Result (Option Answer) WriteFault → Type 0
-Answered P old new (Ok (Some said)) = P said × Appends old new (answer_text said)
-Answered P old new (Ok None) = Keeps old new
-Answered P old new (Err fault) = (said : Answer) × P said × AppendsPart old new (answer_text said)
+-- the text behind what was told
+pub record Adds (P : List ℕ → Type 0) (old new : List ℕ) : Type 0 where
+  pub text : List ℕ
+  pub is : P text
+  pub added : new ≡ old ++ text
 
--- what follows a line of n bytes
-abbrev pub after_whole : ℕ → Result (Option Answer) WriteFault → Result Step WriteFault
-after_whole n (Ok (Some said)) = Ok (Answers said n)
-after_whole n (Ok None) = Ok (Stops NoMemory)
-after_whole n (Err fault) = Err fault
+-- what follows a line that takes n bytes
+abbrev pub step_behind : ℕ → Result (Option Answer) WriteFault → Result Step WriteFault
+step_behind n (Ok (Some said)) = Ok (Answers said n)
+step_behind n (Ok None) = Ok (Stops NoMemory)
+step_behind n (Err fault) = Err fault
 
--- how a run ends behind a last line
-abbrev pub after_last : Bool → Result (Option Answer) WriteFault → Result Step WriteFault
-after_last all (Ok (Some said)) = Ok (Stops (Quiet (status_after (all && says_yes said))))
-after_last all (Ok None) = Ok (Stops NoMemory)
-after_last all (Err fault) = Err fault
-
--- a line and its end lie within so many bytes
+-- a line that is answered takes some bytes, and lies within so many
 abbrev pub FitsIn : ℕ → Result Step WriteFault → Type 0
-FitsIn len (Ok (Answers said n)) = n < len
+FitsIn len (Ok (Answers said n)) = (0 < n) × (n ≤ len)
 FitsIn len _ = ⊤
 
-module _ (Told : List ℕ → Answer → Type 0) (form : LineForm) (input : Input) where
-  -- a line was answered, or the run ends here and its last answer was written, or memory was refused and nothing was
-  abbrev pub IsStep : At → Option (List ℕ) → Option (List ℕ) → Result Step WriteFault → Type 0
-  IsStep at old new (Ok (Answers said n)) =
-      (line : List ℕ) × IsLine form input at.place line × (length line ≡ n) × Told line said
-      × Appends old new (answer_text said)
-  IsStep at old new (Ok (Stops why)) = ((why ≡ NoMemory) × Keeps old new)
-      ⊎ ((last : List ℕ) × Ends Told form input at last why × Appends old new last)
-  IsStep at old new (Err fault) = (said : Answer) × AppendsPart old new (answer_text said) ×
-      (((line : List ℕ) × IsLine form input at.place line × Told line said)
-      ⊎ ((why : Stop) × Ends Told form input at (answer_text said) why))
+-- how a run ends behind what was told, where it is explained
+abbrev pub IsToldEnding : List ℕ → Stop → Ending → Type 0
+IsToldEnding text stop (Plain is) = ⊥
+IsToldEnding text stop (Explained told is why) = (refusals_text told ≡ text) × (is ≡ stop)
+    × (why.items ≡ stop_lines stop)
+IsToldEnding text stop (Unexplained told is) = (refusals_text told ≡ text) × (is ≡ stop) × IsLong stop
+
+module _ (Told : List ℕ → Answer → Type 0) (asked : Bool) (Refusal : List ℕ → ℕ → List ℕ → Type 0) where
+  -- a line was answered, and what is told of it was added; or nothing was written and told for want of memory
+  abbrev pub Answered : At → List ℕ → Option (List ℕ) → Option (List ℕ) → List ℕ → List ℕ
+      → Result (Option Answer) WriteFault → Type 0
+  Answered at line old new told more (Ok (Some said)) = Told line said
+      × Adds (TellsLine Told asked Refusal at line said) told more × Appends old new (answer_text said)
+  Answered at line old new told more (Ok None) = (more ≡ told) × Keeps old new
+  Answered at line old new told more (Err fault) = (said : Answer) × Told line said
+      × Adds (TellsLine Told asked Refusal at line said) told more × AppendsPart old new (answer_text said)
+
+  -- a line was answered, or the run ends here, or memory was refused and nothing was written
+  module _ (form : LineForm) (input : Input) where
+    abbrev pub IsStep : At → Option (List ℕ) → Option (List ℕ) → List ℕ → List ℕ → Result Step WriteFault → Type 0
+    IsStep at old new told more (Ok (Answers said n)) = (line : List ℕ) × StandsAt form input at.place line n
+        × Told line said × Adds (TellsLine Told asked Refusal at line said) told more
+        × Appends old new (answer_text said)
+    IsStep at old new told more (Ok (Stops why)) = (more ≡ told) × Keeps old new
+        × ((why ≡ NoMemory) ⊎ LinesEnd form input at [] why)
+    IsStep at old new told more (Err fault) = (line : List ℕ) × (n : ℕ) × (said : Answer)
+        × StandsAt form input at.place line n × Told line said
+        × Adds (TellsLine Told asked Refusal at line said) told more × AppendsPart old new (answer_text said)

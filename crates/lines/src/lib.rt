@@ -4,7 +4,9 @@
 mod answers;
 mod line;
 mod line_loop;
+mod reached;
 
 pub use answers::{Answer, Judge};
 pub use line::{Line, LineForm, next_line};
-pub use line_loop::{At, run_lines};
+pub use line_loop::run_lines;
+pub use reached::{At, MAX_TOLD};

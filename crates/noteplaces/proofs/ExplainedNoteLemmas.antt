@@ -9,8 +9,9 @@ use Rattle.ruletable.specs.declared.table.NameCase.{NameCase}
 use Rattle.noteplaces.specs.DefinitionHeads.{definitions_in, sign_at}
 use Rattle.noteplaces.specs.ExplainedNotes.{ArePlaces, IsNoteExplained, note_lines, told_by}
 use Rattle.noteplaces.specs.FirstMentions.{rule_named}
-use Rattle.noteplaces.specs.RepeatLines.{repeats_by, repeats_of, repeats_told, uses_by, uses_of_rule, uses_told}
+use Rattle.noteplaces.specs.MentionLines.{lines_mentioned, mention_lines_by, mention_lines_of}
 use Rattle.noteplaces.specs.UseLines.{lines_behind}
+use Rattle.noteplaces.specs.declared.mentions.MentionKind.{MentionKind}
 use Rattle.noteplaces.specs.declared.places.Places.{Places}
 use Rattle.noteplaces.specs.declared.sign.Sign.{Sign}
 
@@ -39,26 +40,15 @@ module _ {K : Type 0} (White : List ℕ → List ℕ → Type 0) (First : K → 
       g.is ∙ ap (λ ts. note_lines rule names text (map (sign_at sign_of) ts) start note)
       (one g.tokens h.tokens g.are_tokens h.are_tokens) ∙ sym h.is
 
-  -- the lines of repetitions that places tell are those of the tokens
-  pub places-repeat : (places : Places) (name : List ℕ)
+  -- the lines of mentions that places tell are those of the tokens
+  pub places-mention : (places : Places) (kind : MentionKind) (name : List ℕ)
       (are : ArePlaces White First is_end sign_of rule names text places)
-      → repeats_by places name ≡ repeats_told rule names text (map (sign_at sign_of) are.tokens) name
-  places-repeat places name are =
-      ap (λ ds. repeats_of (rule_named places.names ds name) (map mentioned_at places.mentions.items)) are.heads_are
-      ∙ ap (λ ms. repeats_of (rule_named places.names
+      → mention_lines_by places kind name ≡ lines_mentioned rule names text (map (sign_at sign_of) are.tokens) kind name
+  places-mention places kind name are =
+      ap (λ ds. mention_lines_of kind (rule_named places.names ds name) (map mentioned_at places.mentions.items))
+      are.heads_are
+      ∙ ap (λ ms. mention_lines_of kind (rule_named places.names
       (definitions_in rule text (map (sign_at sign_of) are.tokens)) name) ms) are.mentions_are
-      ∙ ap (λ (c : NameCase). repeats_of (rule_named c
-      (definitions_in rule text (map (sign_at sign_of) are.tokens)) name)
-      (mentions_in rule text None (map (sign_at sign_of) are.tokens))) are.names_are
-
-  -- so are the lines of uses
-  pub places-used : (places : Places) (name : List ℕ)
-      (are : ArePlaces White First is_end sign_of rule names text places)
-      → uses_by places name ≡ uses_told rule names text (map (sign_at sign_of) are.tokens) name
-  places-used places name are =
-      ap (λ ds. uses_of_rule (rule_named places.names ds name) (map mentioned_at places.mentions.items)) are.heads_are
-      ∙ ap (λ ms. uses_of_rule (rule_named places.names
-      (definitions_in rule text (map (sign_at sign_of) are.tokens)) name) ms) are.mentions_are
-      ∙ ap (λ (c : NameCase). uses_of_rule (rule_named c
+      ∙ ap (λ (c : NameCase). mention_lines_of kind (rule_named c
       (definitions_in rule text (map (sign_at sign_of) are.tokens)) name)
       (mentions_in rule text None (map (sign_at sign_of) are.tokens))) are.names_are

@@ -4,3 +4,4 @@ mod MentionsTakenLemmas
 pub mod AgainLinesLemmas
 pub mod ExplainedNoteLemmas
 mod MentionOrderLemmas
+mod FirstMentionLemmas

@@ -1,4 +1,4 @@
--- The names, the prose and the repetitions in the bodies of a grammar's rules.
+-- What the bodies of a grammar's rules mention: names, prose, repetitions, numbers and literals.
 use Rattle.std.specs.Prelude.{◌≡◌, ℕ, Bool, true, false, List, [], ◌∷◌, ◌++◌, Option, Some, None, length, map}
 use Rattle.ruletable.specs.Lines.{line_at}
 use Rattle.ruletable.specs.declared.lines.LineRule.{LineRule}
@@ -8,10 +8,10 @@ use Rattle.noteplaces.specs.declared.mentions.Mention.{Mention}
 use Rattle.noteplaces.specs.declared.mentions.MentionKind.{MentionKind}
 use Rattle.noteplaces.specs.declared.mentions.MentionKind.TheVariants as kinds
 use Rattle.noteplaces.specs.declared.sign.Sign.{Sign}
-use Rattle.noteplaces.specs.declared.sign.Sign.TheVariants.{Name, Prose, Repeats}
+use Rattle.noteplaces.specs.declared.sign.Sign.TheVariants.{Name, Prose, Repeats, Number, Literal}
 
--- a name that is used, prose, or the mark of a repetition: its text, its line, the place of the definition in whose
--- body it stands, and which it is
+-- a name that is used, prose, the mark of a repetition, numbers or a text in quotes: its text, its line, the place of
+-- the definition in whose body it stands, and which it is
 pub record MentionedAt : Type 0 where
   pub text : List ℕ
   pub line : ℕ
@@ -22,23 +22,22 @@ pub record MentionedAt : Type 0 where
 abbrev pub mentioned_at : Mention → MentionedAt
 mentioned_at m = record { text = m.text.items; line = m.line; within = m.within; kind = m.kind }
 
-abbrev pub kind_uses : MentionKind → Bool
-kind_uses kinds.Use = true
-kind_uses _ = false
-
-abbrev pub kind_is_prose : MentionKind → Bool
-kind_is_prose kinds.Prose = true
-kind_is_prose _ = false
-
-abbrev pub kind_repeats : MentionKind → Bool
-kind_repeats kinds.Repeat = true
-kind_repeats _ = false
+-- whether two kinds are one
+abbrev pub is_kind : MentionKind → MentionKind → Bool
+is_kind kinds.Use kinds.Use = true
+is_kind kinds.Prose kinds.Prose = true
+is_kind kinds.Repeat kinds.Repeat = true
+is_kind kinds.Number kinds.Number = true
+is_kind kinds.Literal kinds.Literal = true
+is_kind _ _ = false
 
 -- by a token's sign, where a definition stands before it
 abbrev pub mention_by : Sign → List ℕ → ℕ → ℕ → List MentionedAt
 mention_by Name text line within = record { text = text; line = line; within = within; kind = kinds.Use } ∷ []
 mention_by Prose text line within = record { text = text; line = line; within = within; kind = kinds.Prose } ∷ []
 mention_by Repeats text line within = record { text = text; line = line; within = within; kind = kinds.Repeat } ∷ []
+mention_by Number text line within = record { text = text; line = line; within = within; kind = kinds.Number } ∷ []
+mention_by Literal text line within = record { text = text; line = line; within = within; kind = kinds.Literal } ∷ []
 mention_by _ text line within = []
 
 abbrev pub mention_of : Option ℕ → ℕ → SignAt → List MentionedAt
@@ -56,7 +55,7 @@ body_behind None within t = within
 body_behind (Some adds) within t = Some t.start
 
 -- What the tokens of a text mention, in order, behind a definition at that place: each name without the sign of a
--- definition right behind it, prose, and the marks of repetitions.
+-- definition right behind it, prose, the marks of repetitions, numbers and literals.
 abbrev pub mentions_in : LineRule → List ℕ → Option ℕ → List SignAt → List MentionedAt
 mentions_in rule text within [] = []
 mentions_in rule text within (t ∷ []) = []

@@ -1,11 +1,12 @@
 -- Which mention a note is told of.
-use Rattle.std.specs.Prelude.{ℕ, ◌==◌, ◌||◌, nat_lt, Bool, false, List, [], ◌∷◌, Option, Some, None, ◌&&◌}
-use Rattle.std.specs.Prelude.{if◌then◌else◌}
-use Rattle.std.specs.List.{filter, find}
+use Rattle.std.specs.Prelude.{◌≡◌, ◌⊎◌, ℕ, ◌<◌, ◌≤◌, ◌==◌, ◌||◌, nat_lt, List, [], ◌∷◌, Option, Some, None}
+use Rattle.std.specs.Prelude.{◌&&◌, if◌then◌else◌, slice_get, MatchOption}
+use Rattle.std.specs.List.{filter, find, list_any}
 use Rattle.ruletable.specs.Rules.{same_name}
 use Rattle.ruletable.specs.declared.table.NameCase.{NameCase}
-use Rattle.noteplaces.specs.BodyMentions.{MentionedAt, kind_is_prose, kind_uses}
+use Rattle.noteplaces.specs.BodyMentions.{MentionedAt, is_kind}
 use Rattle.noteplaces.specs.DefinitionHeads.{DefinedAt}
+use Rattle.noteplaces.specs.declared.mentions.MentionKind.TheVariants.{Use, Prose}
 
 -- the rule of a definition: the first definition of its name
 abbrev pub rule_named : NameCase → List DefinedAt → List ℕ → Option DefinedAt
@@ -44,15 +45,37 @@ earliest names definitions [] other = other
 earliest names definitions (m ∷ ms) other =
     earlier (rule_standing_at names definitions m.within) m (earliest names definitions ms other)
 
--- the uses of a name, and the prose
+-- None of the mentions stands in a rule.
+abbrev pub NoneStands : NameCase → List DefinedAt → List MentionedAt → Type 0
+NoneStands names definitions mentions = (k : ℕ) (m : MentionedAt) (r : DefinedAt) → slice_get mentions k ≡ Some m
+    → rule_standing_at names definitions m.within ≡ Some r → ⊥
+
+-- The mention at a place stands in a rule. No mention stands in a rule that comes before, and none of that rule stands
+-- before it.
+pub record IsFirstMention (names : NameCase) (definitions : List DefinedAt) (mentions : List MentionedAt)
+    (found : RuleMention) : Type 0 where
+  pub place : ℕ
+  pub there : slice_get mentions place ≡ Some found.mention
+  pub stands : rule_standing_at names definitions found.mention.within ≡ Some found.rule
+  pub first : (k : ℕ) (m : MentionedAt) (r : DefinedAt) → slice_get mentions k ≡ Some m
+      → rule_standing_at names definitions m.within ≡ Some r
+      → (found.rule.start < r.start) ⊎ ((found.rule.start ≡ r.start) × (place ≤ k))
+
+-- one that is the first, or none exactly if none stands in a rule
+abbrev pub IsFirstIfAny : NameCase → List DefinedAt → List MentionedAt → Option RuleMention → Type 0
+IsFirstIfAny names definitions mentions found =
+    MatchOption found (NoneStands names definitions mentions) (IsFirstMention names definitions mentions)
+
+-- the uses of a name
 abbrev pub uses_of : NameCase → List ℕ → List MentionedAt → List MentionedAt
-uses_of names name mentions = filter (λ m. kind_uses m.kind && same_name names name m.text) mentions
+uses_of names name mentions = filter (λ m. is_kind Use m.kind && same_name names name m.text) mentions
 
-abbrev pub is_rule : NameCase → List ℕ → Option DefinedAt → Bool
-is_rule names name None = false
-is_rule names name (Some r) = same_name names name r.name
+-- of the definitions of a rule those that stand: the first one, and those behind it that add to it
+abbrev pub standing_definitions : List DefinedAt → List DefinedAt
+standing_definitions [] = []
+standing_definitions (d ∷ ds) = d ∷ filter (λ e. e.adds) ds
 
--- the prose in a rule
-abbrev pub prose_of : NameCase → List DefinedAt → List ℕ → List MentionedAt → List MentionedAt
-prose_of names definitions name mentions =
-    filter (λ m. kind_is_prose m.kind && is_rule names name (rule_standing_at names definitions m.within)) mentions
+-- the first prose in the bodies of definitions
+abbrev pub first_prose : List DefinedAt → List MentionedAt → Option MentionedAt
+first_prose definitions mentions =
+    find (λ m. is_kind Prose m.kind && list_any (λ d. d.start == m.within) definitions) mentions

@@ -5,5 +5,5 @@ pub mod FirstMentions
 pub mod FoundMentions
 pub mod NoteLines
 pub mod Openings
-pub mod RepeatLines
+pub mod MentionLines
 pub mod UseLines

@@ -8,7 +8,7 @@ use Rattle.ruletable.specs.declared.note.NoteKind.TheVariants.{Undefined, Prose}
 use Rattle.ruletable.specs.declared.table.NameCase.{NameCase}
 use Rattle.noteplaces.specs.BodyMentions.{MentionedAt}
 use Rattle.noteplaces.specs.DefinitionHeads.{DefinedAt}
-use Rattle.noteplaces.specs.FirstMentions.{RuleMention, earliest, prose_of, uses_of}
+use Rattle.noteplaces.specs.FirstMentions.{RuleMention, earliest, first_prose, standing_definitions, uses_of}
 use Rattle.noteplaces.specs.NoteLines.{lines_of, named}
 
 -- where a name is used
@@ -18,9 +18,9 @@ use_line (Some u) = codes "  line " ++ (decimal u.mention.line ++ (codes ": used
     ++ codes "'\n")))
 
 -- where prose stands
-abbrev pub prose_line : Option RuleMention → List ℕ
+abbrev pub prose_line : Option MentionedAt → List ℕ
 prose_line None = []
-prose_line (Some u) = codes "  line " ++ (decimal u.mention.line ++ (codes ": " ++ (cut u.mention.text ++ codes "\n")))
+prose_line (Some m) = codes "  line " ++ (decimal m.line ++ (codes ": " ++ (cut m.text ++ codes "\n")))
 
 -- whether the name is the one that is given for the start rule
 abbrev pub is_given : NameCase → Option (List ℕ) → List ℕ → Bool
@@ -35,7 +35,7 @@ module _ (names : NameCase) (definitions : List DefinedAt) (mentions : List Ment
 
   -- the first prose of a rule
   abbrev pub prose_lines : List ℕ → List ℕ
-  prose_lines name = prose_line (earliest names definitions (prose_of names definitions name mentions) None)
+  prose_lines name = prose_line (first_prose (standing_definitions (named names name definitions)) mentions)
 
   abbrev pub lines_by : NoteKind → List ℕ → List ℕ
   lines_by Undefined name = used_lines name

@@ -2,16 +2,19 @@
 #![tactic(auto)]
 
 mod heads;
+mod laws;
 mod lines;
+mod lines_of_kind;
 mod mentions;
 mod places;
-mod repeats;
+mod prose;
 mod sign;
 mod uses;
 
 pub use heads::Head;
+pub use laws::first_mention;
 pub use lines::push_more;
+pub use lines_of_kind::mention_lines;
 pub use mentions::{Mention, MentionKind};
 pub use places::{Places, explain_note, places_of};
-pub use repeats::{repeat_lines, use_lines};
 pub use sign::{Sign, Signs};

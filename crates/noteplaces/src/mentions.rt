@@ -1,7 +1,7 @@
-//! The names, the prose and the repetitions in the bodies of a grammar's rules.
+//! What the bodies of a grammar's rules mention: names, prose, repetitions, numbers and literals.
 ghost use Rattle.std.specs.Prelude.{◌≡◌, ◌++◌, map, IfOk, OnOk, option_map};
 ghost use Rattle.ruletable.specs.Lines.{line_at};
-ghost use Rattle.noteplaces.specs.BodyMentions.{AreMentions, mention_of, mentioned_at};
+ghost use Rattle.noteplaces.specs.BodyMentions.{AreMentions, is_kind as same_kind, mention_of, mentioned_at};
 ghost use Rattle.noteplaces.specs.DefinitionHeads.{signed_at};
 
 use crate::heads::{Signed, line_behind, opening_of};
@@ -19,12 +19,16 @@ pub enum MentionKind {
     Prose,
     /// The mark behind what is repeated.
     Repeat,
+    /// Numbers.
+    Number,
+    /// A text in quotes.
+    Literal,
 }
 
-/// A name that is used in a body, prose, or the mark of a repetition.
+/// A name that is used in a body, prose, the mark of a repetition, numbers, or a text in quotes.
 #[derive(Drop)]
 pub struct Mention {
-    /// The name as it is spelled, the prose, or the mark.
+    /// It as it is spelled.
     pub text: Vec<u8>,
     /// The line on which it stands, from 1.
     pub line: usize,
@@ -32,6 +36,13 @@ pub struct Mention {
     pub within: usize,
     /// Which of them it is.
     pub kind: MentionKind,
+}
+
+/// Returns whether a mention is of a kind.
+pub(crate) fn is_kind(kind: MentionKind, mention: &Mention) -> bool
+    ensures { result ≡ same_kind kind mention.now.kind }
+{
+    mention.kind == kind
 }
 
 // Adds what a token mentions in the body of the definition at a place, if it mentions anything.
@@ -52,6 +63,8 @@ fn push_mention(
         Sign::Name => MentionKind::Use,
         Sign::Prose => MentionKind::Prose,
         Sign::Repeats => MentionKind::Repeat,
+        Sign::Number => MentionKind::Number,
+        Sign::Literal => MentionKind::Literal,
         Sign::Defines | Sign::Adds | Sign::Other => return Ok(()),
     };
     let text = Vec::from_slice(alloc, token.slice)?;

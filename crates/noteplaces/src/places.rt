@@ -1,15 +1,17 @@
 //! What a grammar's text says of its rules, and what that explains.
-ghost use Rattle.std.specs.Prelude.{◌≡◌, map, IfOk, option_copied};
+ghost use Rattle.std.specs.Prelude.{◌≡◌, ◌++◌, map, IfOk, OnOk, option_copied};
 ghost use Rattle.ruletable.specs.Notes.{said_of};
 ghost use Rattle.noteplaces.specs.BodyMentions.{mentioned_at};
 ghost use Rattle.noteplaces.specs.DefinitionHeads.{defined_at};
 ghost use Rattle.noteplaces.specs.ExplainedNotes.{ArePlaces, told_by};
+ghost use Rattle.noteplaces.specs.UseLines.{lines_by};
 
 use crate::heads::{Head, heads_of};
 use crate::lines::{heads_named, push_by_heads};
 use crate::mentions::{Mention, mentions_of};
+use crate::prose::push_first_prose;
 use crate::sign::Signs;
-use crate::uses::{push_first_prose, push_used};
+use crate::uses::push_used;
 use lexer::{Kind, one_list};
 use ruletable::{LineRule, Memory, NameCase, Note, NoteKind};
 use std::alloc::Global;
@@ -21,7 +23,7 @@ pub struct Places {
     pub names: NameCase,
     /// The definitions, in order.
     pub heads: Vec<Head>,
-    /// The names, the prose and the marks of repetitions in their bodies, in order.
+    /// What their bodies mention, in order.
     pub mentions: Vec<Mention>,
 }
 
@@ -47,6 +49,29 @@ pub fn places_of<K: Kind, S: Signs<K>>(
     })
 }
 
+// Adds the lines behind a note of a kind that has the name.
+fn push_lines(
+    alloc: Global,
+    out: &mut Vec<u8>,
+    places: &Places,
+    start: Option<&str>,
+    kind: NoteKind,
+    name: &[u8],
+) -> Result<(), Memory>
+    ensures { OnOk result (out.new.items ≡ out.old.items ++ lines_by places.now.names
+        (map defined_at places.now.heads.items) (map mentioned_at places.now.mentions.items)
+        (option_copied start.entry) kind name.now) }
+{
+    match kind {
+        NoteKind::Undefined => push_used(alloc, out, places, start, name),
+        NoteKind::Prose => push_first_prose(alloc, out, places, name),
+        _ => {
+            let heads = heads_named(alloc, &places.heads, places.names, name)?;
+            push_by_heads(alloc, out, &heads, kind)
+        }
+    }
+}
+
 /// Returns the lines that explain a note on the grammar, where a name may be given for the start rule: where the note's
 /// rule is first defined, and where it is defined again; the use by which a name is noted that no rule has; the first
 /// prose of a rule. There are none for notes of other kinds.
@@ -61,15 +86,14 @@ pub fn explain_note(
 ) -> Result<Vec<u8>, Memory>
     ensures { IfOk result (λ why. why.items ≡ told_by places.now (option_copied start.entry) (said_of note.now)) }
 {
-    let name = note.name.as_slice();
     let mut out = Vec::new(alloc);
-    match note.kind {
-        NoteKind::Undefined => push_used(alloc, &mut out, places, start, name)?,
-        NoteKind::Prose => push_first_prose(alloc, &mut out, places, name)?,
-        kind => {
-            let heads = heads_named(alloc, &places.heads, places.names, name)?;
-            push_by_heads(alloc, &mut out, &heads, kind)?;
-        }
-    }
+    push_lines(
+        alloc,
+        &mut out,
+        places,
+        start,
+        note.kind,
+        note.name.as_slice(),
+    )?;
     Ok(out)
 }

@@ -14,6 +14,10 @@ pub enum Sign {
     Prose,
     /// It stands right behind what it repeats.
     Repeats,
+    /// It tells numbers.
+    Number,
+    /// It is a text in quotes.
+    Literal,
     /// It is none of these.
     Other,
 }

@@ -1,17 +1,17 @@
-//! The mention that a note is told of.
+//! The use by which a name is noted.
 ghost use Rattle.std.specs.Prelude.{◌≡◌, ◌++◌, ◌==◌, ◌&&◌, None, map, option_map, IfOk, OnOk, option_copied};
 ghost use Rattle.std.specs.List.{find};
 ghost use Rattle.ruletable.specs.Rules.{same_name};
-ghost use Rattle.noteplaces.specs.BodyMentions.{kind_is_prose, kind_uses, mentioned_at};
+ghost use Rattle.noteplaces.specs.BodyMentions.{is_kind as same_kind, mentioned_at};
 ghost use Rattle.noteplaces.specs.DefinitionHeads.{defined_at};
-ghost use Rattle.noteplaces.specs.FirstMentions.{earlier, earliest, is_rule, prose_of, rule_named};
+ghost use Rattle.noteplaces.specs.FirstMentions.{earlier, earliest, rule_named};
 ghost use Rattle.noteplaces.specs.FirstMentions.{rule_standing_at, uses_of};
 ghost use Rattle.noteplaces.specs.FoundMentions.{mention_found};
-ghost use Rattle.noteplaces.specs.UseLines.{is_given, prose_line, prose_lines, use_line, used_lines};
+ghost use Rattle.noteplaces.specs.UseLines.{is_given, use_line, used_lines};
 
 use crate::heads::Head;
 use crate::lines::{is_named, is_same_name};
-use crate::mentions::{Mention, MentionKind};
+use crate::mentions::{Mention, MentionKind, is_kind};
 use crate::places::Places;
 use picture::{push_cut, push_number};
 use ruletable::{Memory, NameCase};
@@ -103,12 +103,9 @@ fn earliest_of<'a>(
 
 // Whether a mention is a use of the name.
 fn is_use(names: NameCase, name: &[u8], mention: &Mention) -> bool
-    ensures { result ≡ (kind_uses mention.now.kind && same_name names name.now mention.now.text.items) }
+    ensures { result ≡ (same_kind MentionKind.Use mention.now.kind && same_name names name.now mention.now.text.items) }
 {
-    match mention.kind {
-        MentionKind::Use => is_same_name(names, name, mention.text.as_slice()),
-        MentionKind::Prose | MentionKind::Repeat => false,
-    }
+    is_kind(MentionKind::Use, mention) && is_same_name(names, name, mention.text.as_slice())
 }
 
 // The uses of a name.
@@ -130,38 +127,6 @@ fn uses_named<'a>(
     Ok(found)
 }
 
-// Whether a mention is prose in the rule of the name.
-fn is_prose_in(heads: &[Head], names: NameCase, name: &[u8], mention: &Mention) -> bool
-    ensures { result ≡ (kind_is_prose mention.now.kind
-        && is_rule names name.now (rule_standing_at names (map defined_at heads.now) mention.now.within)) }
-{
-    match mention.kind {
-        MentionKind::Prose => match rule_around(heads, names, mention.within) {
-            Some(rule) => is_named(names, name, rule),
-            None => false,
-        },
-        MentionKind::Use | MentionKind::Repeat => false,
-    }
-}
-
-// The prose in the rule of a name.
-fn prose_named<'a>(
-    alloc: Global,
-    places: &'a Places,
-    name: &[u8],
-) -> Result<Vec<&'a Mention>, Memory>
-    ensures { IfOk result (λ v. map (λ m. mentioned_at m.now) v.items ≡ prose_of places.now.names
-        (map defined_at places.now.heads.items) name.now (map mentioned_at places.now.mentions.items)) }
-{
-    let mut found = Vec::new(alloc);
-    for mention in &places.mentions {
-        if is_prose_in(&places.heads, places.names, name, mention) {
-            found.push(mention)?;
-        }
-    }
-    Ok(found)
-}
-
 // Adds a line that tells where a name is used.
 fn push_use(out: &mut Vec<u8>, found: Option<Found<'_>>) -> Result<(), Memory>
     ensures { OnOk result (out.new.items ≡ out.old.items ++ use_line (option_map mention_found found.entry)) }
@@ -172,20 +137,6 @@ fn push_use(out: &mut Vec<u8>, found: Option<Found<'_>>) -> Result<(), Memory>
         out.extend_from_slice(b": used in rule '")?;
         push_cut(out, found.rule.name.as_slice())?;
         out.extend_from_slice(b"'\n")?;
-    }
-    Ok(())
-}
-
-// Adds a line that tells where prose stands.
-fn push_prose(out: &mut Vec<u8>, found: Option<Found<'_>>) -> Result<(), Memory>
-    ensures { OnOk result (out.new.items ≡ out.old.items ++ prose_line (option_map mention_found found.entry)) }
-{
-    if let Some(found) = found {
-        out.extend_from_slice(b"  line ")?;
-        push_number(out, found.mention.line)?;
-        out.extend_from_slice(b": ")?;
-        push_cut(out, found.mention.text.as_slice())?;
-        out.extend_from_slice(b"\n")?;
     }
     Ok(())
 }
@@ -218,20 +169,5 @@ pub(crate) fn push_used(
     }
     let uses = uses_named(alloc, &places.mentions, places.names, name)?;
     push_use(out, earliest_of(&places.heads, places.names, &uses))?;
-    Ok(())
-}
-
-/// Adds the line of the first prose of a rule.
-pub(crate) fn push_first_prose(
-    alloc: Global,
-    out: &mut Vec<u8>,
-    places: &Places,
-    name: &[u8],
-) -> Result<(), Memory>
-    ensures { OnOk result (out.new.items ≡ out.old.items ++ prose_lines places.now.names
-        (map defined_at places.now.heads.items) (map mentioned_at places.now.mentions.items) None name.now) }
-{
-    let prose = prose_named(alloc, places, name)?;
-    push_prose(out, earliest_of(&places.heads, places.names, &prose))?;
     Ok(())
 }

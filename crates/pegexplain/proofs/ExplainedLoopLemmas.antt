@@ -5,8 +5,9 @@ use Rattle.std.proofs.Common.{⊎_elim}
 use Rattle.std.specs.Prelude.{slice_get}
 use Rattle.std.proofs.lemmas.Bool.{cases_order}
 use Rattle.noteplaces.specs.ExplainedNotes.{IsNoteExplained}
-use Rattle.noteplaces.specs.RepeatLines.{repeats_by}
-use Rattle.noteplaces.proofs.ExplainedNoteLemmas.{places-repeat}
+use Rattle.noteplaces.specs.MentionLines.{mention_lines_by}
+use Rattle.noteplaces.specs.declared.mentions.MentionKind.TheVariants as kinds
+use Rattle.noteplaces.proofs.ExplainedNoteLemmas.{places-mention}
 use Rattle.pegread.specs.Definitions.{firsts}
 use Rattle.pegread.specs.Kinds.{is_end}
 use Rattle.pegread.specs.Pattern.{Pattern, Rule, body_of}
@@ -103,7 +104,7 @@ module _ (text : List ℕ) (found : PegPlaces) (name : List ℕ) (are : ArePegPl
   }
 
   pub told-some : (id : ℕ) (e : Expr) (lines : List ℕ) (loop : Option RepeatAt) → find_in found.rules name ≡ Some id
-      → slice_get (bodies_of found.rules) id ≡ Some e → lines ≡ repeats_by found.places name
+      → slice_get (bodies_of found.rules) id ≡ Some e → lines ≡ mention_lines_by found.places kinds.Repeat name
       → IsLoopBy (null_mark_of found.rules found.nulls.items) (repeats_in (pattern_of e)) loop
       → IsLoopTold text name (repeat_told lines loop)
   told-some id e lines loop is at marked first = record {
@@ -119,8 +120,8 @@ module _ (text : List ℕ) (found : PegPlaces) (name : List ℕ) (are : ArePegPl
           is_first = loop-told found.rules found.nulls.items are.rules.exact are.marks (repeats_in (pattern_of e)) loop
               first;
           is = ap (λ (ls : List ℕ). repeat_told ls loop) (marked
-              ∙ places-repeat White First is_end sign_of Any Exact text
-              found.places name are.places);
+              ∙ places-mention White First is_end sign_of Any Exact text
+              found.places kinds.Repeat name are.places);
         }));
   }
 

@@ -8,9 +8,10 @@ use Rattle.leastset.proofs.IsMarkedLemmas.{marked_lt}
 use Rattle.noteplaces.specs.BodyMentions.{mentioned_at, mentions_in}
 use Rattle.noteplaces.specs.DefinitionHeads.{definitions_in, sign_at}
 use Rattle.noteplaces.specs.ExplainedNotes.{told_by}
-use Rattle.noteplaces.specs.RepeatLines.{uses_by}
+use Rattle.noteplaces.specs.MentionLines.{mention_lines_by}
+use Rattle.noteplaces.specs.declared.mentions.MentionKind.TheVariants as kinds
 use Rattle.noteplaces.specs.UseLines.{lines_behind}
-use Rattle.noteplaces.proofs.ExplainedNoteLemmas.{places-used}
+use Rattle.noteplaces.proofs.ExplainedNoteLemmas.{places-mention}
 use Rattle.ruletable.specs.Notes.{said}
 use Rattle.ruletable.specs.Rules.{find_in}
 use Rattle.ruletable.specs.declared.lines.LineRule.TheVariants.{Any}
@@ -175,7 +176,7 @@ module _ (text : List ℕ) (found : PegPlaces) (are : ArePegPlaces text found) w
     pub told-way : (id : ℕ) (chain : Option (List ℕ)) → find_in found.rules name ≡ Some id
         → is_early found.recursive.items id ≡ true
         → IsRoundIfAny (map (λ rule. left_row (find_in found.rules) null_by (pattern_of rule.body)) found.rules.rules)
-        id chain → told ≡ way_told (rules_of found.rules) null_by (uses_by found.places) id chain
+        id chain → told ≡ way_told (rules_of found.rules) null_by (mention_lines_by found.places kinds.Use) id chain
         → IsLeftTold text name told
     told-way id chain is early round e =
         let steps : map (λ rule. left_row (find_in found.rules) null_by (pattern_of rule.body)) found.rules.rules
@@ -187,8 +188,9 @@ module _ (text : List ℕ) (found : PegPlaces) (are : ArePegPlaces text found) w
         (defined_lines text are.places.tokens name) id b told) (sym early) (record {
           chain = chain;
           is_round = subst (λ (rows : List (List ℕ)). IsRoundIfAny rows id chain) steps round;
-          is = e ∙ way-same null_by null_by (λ d. refl) (uses_by found.places) (named_lines text are.places.tokens)
-              (λ n. places-used White First is_end sign_of Any Exact text found.places n are.places)
+          is = e ∙ way-same null_by null_by (λ d. refl)
+              (mention_lines_by found.places kinds.Use) (named_lines text are.places.tokens)
+              (λ n. places-mention White First is_end sign_of Any Exact text found.places kinds.Use n are.places)
               (rules_of found.rules) id chain;
         }))
 

@@ -2,9 +2,11 @@
 use Rattle.std.specs.Prelude.{◌≡◌, ℕ, Bool, List, [], ◌++◌, Option, None, length, map}
 use Rattle.noteplaces.specs.DefinitionHeads.{sign_at}
 use Rattle.noteplaces.specs.ExplainedNotes.{ArePlaces, IsNoteExplained, note_lines}
-use Rattle.noteplaces.specs.RepeatLines.{repeats_told, uses_told}
+use Rattle.noteplaces.specs.MentionLines.{lines_mentioned}
+use Rattle.noteplaces.specs.declared.mentions.MentionKind.TheVariants.{Repeat, Use}
 use Rattle.noteplaces.specs.declared.sign.Sign.{Sign}
 use Rattle.noteplaces.specs.declared.sign.Sign.TheVariants.{Name, Defines, Repeats, Other}
+use Rattle.noteplaces.specs.declared.sign.Sign.TheVariants as signs
 use Rattle.pegread.specs.Definitions.{firsts, id_in}
 use Rattle.pegread.specs.Kinds.{is_end}
 use Rattle.pegread.specs.Pattern.{Pattern, Rule, body_of}
@@ -14,7 +16,7 @@ use Rattle.pegread.specs.Slices.{White, First}
 use Rattle.pegread.specs.Tokens.{Tok, AreTokens}
 use Rattle.pegread.specs.declared.expr.Expr.{Expr}
 use Rattle.pegread.specs.declared.kind.Kind.{Kind}
-use Rattle.pegread.specs.declared.kind.Kind.TheVariants.{Ident, Arrow, Star, Plus}
+use Rattle.pegread.specs.declared.kind.Kind.TheVariants.{Ident, Arrow, Star, Plus, Literal}
 use Rattle.ruletable.specs.Notes.{Said, said}
 use Rattle.ruletable.specs.Rules as table
 use Rattle.ruletable.specs.declared.lines.LineRule.TheVariants.{Any}
@@ -34,11 +36,12 @@ sign_of Ident = Name
 sign_of Arrow = Defines
 sign_of Star = Repeats
 sign_of Plus = Repeats
+sign_of Literal = signs.Literal
 sign_of _ = Other
 
 -- on which lines the repetitions of the first definition of a name have their marks
 abbrev pub marked_lines : List ℕ → List Tok → List ℕ → List ℕ
-marked_lines text tokens name = repeats_told Any Exact text (map (sign_at sign_of) tokens) name
+marked_lines text tokens name = lines_mentioned Any Exact text (map (sign_at sign_of) tokens) Repeat name
 
 -- the line of the first repetition, in the rule of that name, of what may take nothing
 pub record IsLoopTold (text : List ℕ) (name line : List ℕ) : Type 0 where
@@ -51,7 +54,7 @@ pub record IsLoopTold (text : List ℕ) (name line : List ℕ) : Type 0 where
 
 -- on which lines the names in the first definition of a name stand
 abbrev pub named_lines : List ℕ → List Tok → List ℕ → List ℕ
-named_lines text tokens name = uses_told Any Exact text (map (sign_at sign_of) tokens) name
+named_lines text tokens name = lines_mentioned Any Exact text (map (sign_at sign_of) tokens) Use name
 
 -- where the rule of a name is defined, as behind a note on a rule that is not used
 abbrev pub defined_lines : List ℕ → List Tok → List ℕ → List ℕ

@@ -2,7 +2,7 @@
 ghost use Rattle.std.specs.Prelude.{◌≡◌, ◌++◌, ◌∷◌, map, IfOk, OnOk, option_map, slice_get, slice_index_or, true};
 ghost use Rattle.pegread.specs.CanonMembers.{member_text as member, members_text as all_members};
 ghost use Rattle.pegread.specs.PegViews.{pattern_of, patterns, rules_of};
-ghost use Rattle.noteplaces.specs.RepeatLines.{uses_by};
+ghost use Rattle.noteplaces.specs.MentionLines.{mention_lines_by};
 ghost use Rattle.pegexplain.specs.FoundUses.{use_found};
 ghost use Rattle.pegexplain.specs.LeftLines.{is_left_use, line_of_first, skipped_if, skipped_told, step_between};
 ghost use Rattle.pegexplain.specs.LeftLines.{step_line, steps_told};
@@ -12,7 +12,7 @@ ghost use Rattle.pegexplain.specs.NullTests.{null_mark_of, nullable_by};
 use crate::left_uses::{Use, add_uses};
 use crate::places::PegPlaces;
 use crate::skipped::skipped_before;
-use noteplaces::{push_more, use_lines};
+use noteplaces::{MentionKind, mention_lines, push_more};
 use pegread::{Expr, print_member};
 use picture::{push_cut, push_number};
 use ruletable::{Memory, SinkOf};
@@ -55,9 +55,9 @@ fn left_line(
 ) -> Result<Option<usize>, Memory>
     ensures { IfOk result (λ line. line ≡ line_of_first (is_left_use name.now)
         (uses_in (nullable_by (null_mark_of places.now.rules places.now.nulls.items)) true (pattern_of body.now))
-        (uses_by places.now.places rule.now)) }
+        (mention_lines_by places.now.places MentionKind.Use rule.now)) }
 {
-    let lines = use_lines(alloc, &places.places, rule)?;
+    let lines = mention_lines(alloc, &places.places, MentionKind::Use, rule)?;
     let mut uses = Vec::new(alloc);
     add_uses(&places.rules, &places.nulls, body, true, &mut uses)?;
     Ok(first_left(&uses, &lines, name))
@@ -151,7 +151,8 @@ fn push_step_between(
     to: usize,
 ) -> Result<(), Memory>
     ensures { OnOk result (out.new.items ≡ out.old.items ++ step_between
-        (nullable_by (null_mark_of places.now.rules places.now.nulls.items)) (uses_by places.now.places)
+        (nullable_by (null_mark_of places.now.rules places.now.nulls.items))
+        (mention_lines_by places.now.places MentionKind.Use)
         (slice_get (rules_of places.now.rules) from) (slice_get (rules_of places.now.rules) to)) }
 {
     let count = places.rules.len();
@@ -193,8 +194,8 @@ pub fn push_steps(
     ids: &[usize],
 ) -> Result<(), Memory>
     ensures { OnOk result (out.new.items ≡ out.old.items ++ steps_told (rules_of places.now.rules)
-        (nullable_by (null_mark_of places.now.rules places.now.nulls.items)) (uses_by places.now.places) first budget
-        ids.now) }
+        (nullable_by (null_mark_of places.now.rules places.now.nulls.items))
+        (mention_lines_by places.now.places MentionKind.Use) first budget ids.now) }
 {
     let Some((id, rest)) = ids.split_first() else {
         return Ok(());

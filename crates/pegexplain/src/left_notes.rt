@@ -1,7 +1,8 @@
 //! What stands behind a note on a left-recursive rule.
 ghost use Rattle.std.specs.Prelude.{◌≡◌, ◌<◌, ◌++◌, ℕ, List, Option, None, map, length, OnOk, option_map};
 ghost use Rattle.noteplaces.specs.ExplainedNotes.{told_by};
-ghost use Rattle.noteplaces.specs.RepeatLines.{uses_by};
+ghost use Rattle.noteplaces.specs.MentionLines.{mention_lines_by};
+ghost use Rattle.noteplaces.specs.declared.mentions.MentionKind.TheVariants.{Use};
 ghost use Rattle.pegread.specs.PegViews.{pattern_of, rules_of};
 ghost use Rattle.ruletable.specs.Notes.{said};
 ghost use Rattle.ruletable.specs.Rules.{find_in};
@@ -72,7 +73,8 @@ fn push_way(alloc: Global, out: &mut Vec<u8>, places: &PegPlaces, id: usize) -> 
         (nullable_by (null_mark_of places.now.rules places.now.nulls.items)) (pattern_of rule.body))
         places.now.rules.rules) id chain
         × (out.new.items ≡ out.old.items ++ way_told (rules_of places.now.rules)
-        (nullable_by (null_mark_of places.now.rules places.now.nulls.items)) (uses_by places.now.places) id chain)) }
+        (nullable_by (null_mark_of places.now.rules places.now.nulls.items))
+        (mention_lines_by places.now.places Use) id chain)) }
 {
     let rows = left_rows(alloc, &places.rules, &places.nulls)?;
     match left_way(alloc, &rows, id)? {

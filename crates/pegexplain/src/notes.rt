@@ -7,7 +7,7 @@ use crate::left_notes::push_left;
 use crate::loops::push_first_loop;
 use crate::places::PegPlaces;
 use lexer::one_list;
-use noteplaces::{explain_note, repeat_lines};
+use noteplaces::{MentionKind, explain_note, mention_lines};
 use pegread::{Kind, one_reading};
 use ruletable::{Memory, Note, NoteKind};
 use std::alloc::Global;
@@ -26,7 +26,7 @@ fn push_loop(
     let Some(id) = places.rules.find(name)? else {
         return Ok(());
     };
-    let lines = repeat_lines(alloc, &places.places, name)?;
+    let lines = mention_lines(alloc, &places.places, MentionKind::Repeat, name)?;
     push_first_loop(
         alloc,
         out,

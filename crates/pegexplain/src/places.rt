@@ -19,6 +19,7 @@ impl Signs<Kind> for PegSigns {
             Kind::Ident => Sign::Name,
             Kind::Arrow => Sign::Defines,
             Kind::Star | Kind::Plus => Sign::Repeats,
+            Kind::Literal => Sign::Literal,
             _ => Sign::Other,
         }
     }

@@ -33,12 +33,13 @@ use Rattle.toolrun.proofs.StopsAsLemmas.{run_told, did_not_tell}
 use Rattle.matchexplain.specs.NoMatchLines.{long_unit_lines}
 use Rattle.matchexplain.specs.NoMatches.{IsNoMatchTold, unit_before}
 use Rattle.pegrun.specs.PastUnits.{EndsBehind, LinesBehind}
-use Rattle.pegrun.specs.StopsExplained.{MayLack, StopLines, UnitBefore, WhyStopped, one_before}
+use Rattle.pegrun.specs.StopsExplained.{MayLack, StopLines, TellsNothing, UnitBefore, WhyStopped, one_before}
 use Rattle.pegrun.specs.declared.past.Past.{Past}
 use Rattle.matchexplain.specs.InputPlaces.{place_behind}
 use Rattle.matchexplain.specs.declared.place.TextPlace.{TextPlace}
 use Rattle.pegrun.proofs.FollowsLemmas.{unit_at_byte}
-use Rattle.pegrun.proofs.WhyStoppedLemmas.{if_asked, no_lines, some_told, if_not_asked}
+use Rattle.toolrun.proofs.ExplainedIfLemmas.{if_asked, if_not_asked}
+use Rattle.pegrun.proofs.WhyStoppedLemmas.{no_lines, some_told}
 use Rattle.pegrun.proofs.SomeReplyLemmas.{units_go_on, unit_goes_on}
 use Rattle.pegrun.specs.declared.unit.Step.TheVariants.{Takes, Stops}
 
@@ -72,7 +73,7 @@ module _ (rules : List Rule) (start : ℕ) (settings : Settings) (input : Input)
     units,
     rw append-nil (Appends-kept old mid new text wrote refused.1),
     took,
-    inl (refused.0, refl),
+    (refl, inl (record { refused = refused.0; nothing = refl; unexplained = refl })),
   )
   stops_plain plain stop (inr ended) took = (
     place,
@@ -81,7 +82,7 @@ module _ (rules : List Rule) (start : ℕ) (settings : Settings) (input : Input)
     units,
     Appends-join old mid new text ended.0 wrote ended.2,
     took,
-    inr (ended.1, if_not_asked settings.explain (StopLines rules start settings input place stop) plain),
+    (refl, inr (ended.1, if_not_asked settings.explain (StopLines rules start settings input place stop) plain)),
   )
 
   -- the bytes before here and those that are held are what is taken, and the last unit before is kept
@@ -119,27 +120,34 @@ module _ (rules : List Rule) (start : ℕ) (settings : Settings) (input : Input)
     ends_so : (stop : Stop) (last : List ℕ) (ending : Ending) → EndsBehind rules start past before held stop ending
         → Ends rules start settings input place last stop →
         EndsTold (Units rules start settings input) (Ends rules start settings input) (taken_at settings input)
-        (WhyStopped rules start settings input) (MayLack rules start settings input) place last ending
+        TellsNothing (WhyStopped rules start settings input) (MayLack rules start settings input) place last ending
     ends_so stop last (Plain is) (same, without) ends =
-        rw same (inr (
-          ends,
-          if_asked settings.explain (StopLines rules start settings input place stop) [] asked
-              (no_lines rules start settings input place stop without),
-        ))
-    ends_so stop last (Explained is why) (same, lines) ends =
         rw same (
-          ends,
-          if_asked settings.explain (StopLines rules start settings input place stop) why.items asked
-              (lines_are stop why.items lines),
+          refl,
+          inr (
+            ends,
+            if_asked settings.explain (StopLines rules start settings input place stop) [] asked
+                (no_lines rules start settings input place stop without),
+          ),
         )
-    ends_so stop last (Unexplained is) (same, has) ends = rw same (ends, (asked, has))
+    ends_so stop last (Explained told is why) (alone, same, lines) ends =
+        rw same (
+          alone,
+          inr (
+            ends,
+            if_asked settings.explain (StopLines rules start settings input place stop) why.items asked
+                (lines_are stop why.items lines),
+          ),
+        )
+    ends_so stop last (Unexplained told is) (alone, same, has) ends = rw same (alone, ends, (asked, has))
 
     refused_so : (ending : Ending) → EndsBehind rules start past before held NoMemory ending
         → EndsTold (Units rules start settings input) (Ends rules start settings input) (taken_at settings input)
-        (WhyStopped rules start settings input) (MayLack rules start settings input) place [] ending
-    refused_so (Plain is) (same, without) = inl (same, refl)
-    refused_so (Explained is why) (same, lines) = absurd lines
-    refused_so (Unexplained is) (same, has) = absurd has
+        TellsNothing (WhyStopped rules start settings input) (MayLack rules start settings input) place [] ending
+    refused_so (Plain is) (same, without) =
+        (refl, inl (record { refused = same; nothing = refl; unexplained = refl }))
+    refused_so (Explained told is why) (alone, same, lines) = absurd lines
+    refused_so (Unexplained told is) (alone, same, has) = absurd has
 
     pub stops_explained : (stop : Stop) (ending : Ending)
         → IsStep rules start settings input place mid new (Ok (Stops stop))
@@ -205,17 +213,18 @@ pub cut_has_run : (g : Grammar) → IsSoundGrammar g → (settings : Settings) (
     (old new : Option (List ℕ)) (r : Result Ending WriteFault) →
     IsCut (rules_of g.rules) g.start settings input taken old new r →
     HasToldRun (Units (rules_of g.rules) g.start settings input) (Ends (rules_of g.rules) g.start settings input)
-    (taken_at settings input) (WhyStopped (rules_of g.rules) g.start settings input)
+    (taken_at settings input) TellsNothing (WhyStopped (rules_of g.rules) g.start settings input)
     (MayLack (rules_of g.rules) g.start settings input) taken old new r
 cut_has_run g sound settings input taken old new (Ok ending) cut = cut
 cut_has_run g sound settings input taken old new (Err fault) (place, k, text, last, units, unit, part, took) =
-    let goes = unit_goes_on g settings input sound place k text last units unit in (
+    let goes = unit_goes_on g settings input sound place k text last units unit in
+    let told = some_told (rules_of g.rules) g.start settings input goes.reply goes.replies in (
       text ++ last,
       record {
-        reply = goes.reply;
-        replies = goes.replies;
-        front = goes.front;
-        taken = omega (arith, took, goes.taken);
+        reply = told.0;
+        states = told.1;
+        front = rw told.2 goes.front;
+        taken = omega (arith, took, told.3, goes.taken);
       },
       part,
     )
@@ -233,8 +242,8 @@ pub units_were_run : (g : Grammar) → IsSoundGrammar g → (settings : Settings
 units_were_run g sound settings remaining failed ended old now final out left flow r is told (seen, gives, count, cut)
     flag =
     run_told (Units (rules_of g.rules) g.start settings) (Ends (rules_of g.rules) g.start settings)
-    (taken_at settings) (goes_on g sound settings) (WhyStopped (rules_of g.rules) g.start settings)
-    (MayLack (rules_of g.rules) g.start settings) (some_told (rules_of g.rules) g.start settings)
+    (taken_at settings) (goes_on g sound settings) (λ input. TellsNothing)
+    (WhyStopped (rules_of g.rules) g.start settings) (MayLack (rules_of g.rules) g.start settings)
     remaining failed ended old now final out left flow r is told (
       seen,
       gives,
@@ -252,6 +261,6 @@ pub no_unit_was_run : (g : Grammar) → IsSoundGrammar g → (settings : Setting
     (record { old = s0; new = s0; was = o_was; failed = o_was }) r
 no_unit_was_run g sound settings r0 s0 r_was r_failed o_was =
     did_not_tell (Units (rules_of g.rules) g.start settings) (Ends (rules_of g.rules) g.start settings)
-    (taken_at settings) (goes_on g sound settings) (WhyStopped (rules_of g.rules) g.start settings)
-    (MayLack (rules_of g.rules) g.start settings) (some_told (rules_of g.rules) g.start settings)
-    0 (λ input. none) r0 s0 r_was r_failed o_was
+    (taken_at settings) (goes_on g sound settings) (λ input. TellsNothing)
+    (WhyStopped (rules_of g.rules) g.start settings) (MayLack (rules_of g.rules) g.start settings)
+    0 (λ input. none) (λ input. refl) r0 s0 r_was r_failed o_was

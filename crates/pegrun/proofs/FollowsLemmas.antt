@@ -9,11 +9,13 @@ use Rattle.matchexplain.specs.NoMatches.{IsNoMatchTold, unit_before}
 use Rattle.matchexplain.specs.InputPlaces.{place_behind}
 use Rattle.matchexplain.specs.declared.place.TextPlace.{TextPlace}
 use Rattle.pegread.specs.Pattern.{Rule}
-use Rattle.pegrun.specs.PastUnits.{EndsBehind, Follows, ending_with}
+use Rattle.pegrun.specs.PastUnits.{EndsBehind, Follows, IsEndingWith}
 use Rattle.pegrun.specs.StopsExplained.{UnitBefore, none_before}
 use Rattle.pegrun.specs.declared.past.Past.{Past}
 use Rattle.toolrun.specs.Input.{Input}
 use Rattle.toolrun.specs.declared.settings.Settings.{Settings}
+use Rattle.toolrun.specs.declared.ending.Ending.{Ending}
+use Rattle.toolrun.specs.declared.ending.Ending.TheVariants.{Plain, Explained, Unexplained}
 use Rattle.toolrun.specs.declared.stop.Stop.TheVariants.{NoMatch}
 
 -- nothing is kept at the front
@@ -42,13 +44,17 @@ unit_at_byte at bytes before items (suc n) is kept le some =
 
 -- what explains that no unit goes on, or that an allocation failed
 pub ends_unmatched : (rules : List Rule) (start : ℕ) (past : Past) (before held : List ℕ) (at : ℕ)
-    (why : Result (Vec ℕ Global) Memory) →
+    (why : Result (Vec ℕ Global) Memory) (ending : Ending) →
     IfOk why (λ w. (front : List ℕ) → Follows past front → (past.lost ≡ false)
     × IsNoMatchTold rules start (front ++ held) (unit_before past.at.byte (length past.bytes.items)) (length front)
-    w.items) → Follows past before →
-    EndsBehind rules start past before held (NoMatch at) (ending_with (NoMatch at) why)
-ends_unmatched rules start past before held at (Ok why) told follows = (refl, told before follows)
-ends_unmatched rules start past before held at (Err fault) told follows = (refl, tt)
+    w.items) → Follows past before → IsEndingWith (NoMatch at) why ending →
+    EndsBehind rules start past before held (NoMatch at) ending
+ends_unmatched rules start past before held at why (Plain is) told follows so = absurd so
+ends_unmatched rules start past before held at (Ok why) (Explained first is lines) told follows (none, same, are) =
+    (none, same, rw are (told before follows))
+ends_unmatched rules start past before held at (Err fault) (Explained first is lines) told follows (none, same, are) =
+    absurd are
+ends_unmatched rules start past before held at why (Unexplained first is) told follows (none, same) = (none, same, tt)
 
 -- what explains it, of the bytes that are kept and those that are held
 pub told_behind_kept : (rules : List Rule) (start : ℕ) (past : Past) (held seen : List ℕ) (last : ℕ)

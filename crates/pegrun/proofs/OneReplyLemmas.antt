@@ -346,7 +346,9 @@ module _ (rules : List Rule) (start : ℕ) (settings : Settings) (input : Input)
         let run = one_run r.plain q.plain r.replies q.replies in
         let why = one_why r.replies.point q.replies.point r.replies.stop q.replies.stop r.why q.why run.points run.stops
         r.explains q.explains in
-        r.told ∙ ap (λ (v : Reply). explained_reply v r.why) run.replies ∙ ap (explained_reply q.plain) why ∙ sym q.told
+        r.told ∙ ap (λ t. explained_reply t r.plain r.why) (r.tells ∙ sym q.tells)
+        ∙ ap (λ (v : Reply). explained_reply q.before v r.why) run.replies
+        ∙ ap (explained_reply q.before q.plain) why ∙ sym q.told
 
 -- one reply
 pub one_reply : NoMatchesAreOne → (rules : List Rule) (start : ℕ) (settings : Settings) (input : Input) (a b : Reply)

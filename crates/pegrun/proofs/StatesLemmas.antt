@@ -16,6 +16,7 @@ use Rattle.gramcheck.specs.GrammarNotes.{names_at}
 use Rattle.gramcheck.proofs.AreNotesLemmas.{notes-one, those-one}
 use Rattle.pegexplain.specs.PegExplained.{Explains}
 use Rattle.pegexplain.specs.PegNotes.{ExplainsNote}
+use Rattle.peghints.specs.PegHints.{ArePegHints}
 use Rattle.pegrun.specs.Answers.{States, refused, unexplained, noted, checked, runs, cut_notes, again}
 use Rattle.pegrun.specs.Answers.{cut_again, printed, no_memory}
 use Rattle.pegrun.specs.Noted.{AreNotesOn, AreAgain, start_given}
@@ -29,8 +30,8 @@ use Rattle.toolrun.specs.RunSteps as steps
 use Rattle.toolrun.specs.declared.settings.Settings.{Settings}
 use Rattle.toolrun.proofs.OneStatementLemmas.{Stated, one_stated, one-explained, is_noted, is_checked, is_run}
 use Rattle.toolrun.proofs.OneStatementLemmas.{is_again, is_printed}
-use Rattle.toolrun.proofs.ToldNotesLemmas.{told-one}
-use Rattle.toolrun.specs.ToldNotes.{ToldNotes}
+use Rattle.toolrun.proofs.ToldNotesLemmas.{hinted-one, told-one}
+use Rattle.toolrun.specs.ToldNotes.{HintedNotes, ToldNotes, WhyNoted}
 
 -- the notes on redefinitions are one list
 again_is_one : (definitions : List Rule) (a b : List Said) → AreAgain definitions a → AreAgain definitions b → a ≡ b
@@ -50,6 +51,10 @@ abbrev pub NotesAreOne : Type 0
 NotesAreOne = (text : List ℕ) (start : Option (List ℕ)) (note : Said) (a b : List ℕ) → ExplainsNote text start note a
     → ExplainsNote text start note b → a ≡ b
 
+-- the hints on a text are one text
+abbrev pub HintsAreOne : Type 0
+HintsAreOne = (text a b : List ℕ) → ArePegHints text a → ArePegHints text b → a ≡ b
+
 module _ (settings : Settings) (input : Input) where
   -- what a run of these definitions states
   record RunOf (definitions : List Rule) (reply : Reply) : Type 0 where
@@ -65,11 +70,15 @@ module _ (settings : Settings) (input : Input) where
   one_run_from one_told definitions s t a b i j (steps.replied_told r g) (steps.replied_told q h) m n =
       let same : t ≡ s = start_is_one (start_given settings) definitions t s j i in
       one_reply one_told (firsts [] definitions) s settings input a b g (let k = h in rw same at k)
-  one_run_from one_told definitions s t a b i j (steps.unexplained plain replies lack) h m n = absurd (m refl)
-  one_run_from one_told definitions s t a b i j (steps.cut_short point out reply before replies front) h m n =
+  one_run_from one_told definitions s t a b i j (steps.unexplained plain replies told tells lack) h m n =
       absurd (m refl)
-  one_run_from one_told definitions s t a b i j g (steps.unexplained plain replies lack) m n = absurd (n refl)
-  one_run_from one_told definitions s t a b i j g (steps.cut_short point out reply before replies front) m n =
+  one_run_from one_told definitions s t a b i j (steps.cut_short point out told reply before tells replies front) h
+      m n =
+      absurd (m refl)
+  one_run_from one_told definitions s t a b i j g (steps.unexplained plain replies told tells lack) m n =
+      absurd (n refl)
+  one_run_from one_told definitions s t a b i j g (steps.cut_short point out told reply before tells replies front) m
+      n =
       absurd (n refl)
 
   one_run : NoMatchesAreOne → (definitions : List Rule) (a b : Reply) → RunOf definitions a → RunOf definitions b
@@ -89,7 +98,8 @@ module _ (settings : Settings) (input : Input) where
     IsStated = Stated (IsFaultOf text) (λ fault. Explained settings (Explains text fault)) (Reads text)
         (λ definitions. AreNotesOn definitions (start_given settings))
         (λ definitions notes. is_refused notes ≡ true) (λ definitions notes. is_refused notes ≡ false) AreAgain
-        (ToldNotes settings (ExplainsNote text)) RunOf printed_text settings.mode
+        (HintedNotes settings (ExplainsNote text) (ArePegHints text)) (ToldNotes settings (ExplainsNote text)) RunOf
+        printed_text settings.mode
 
     parts_of : (notes : List ℕ) (reply : Reply) → States text settings input notes reply → reply.status ≢ 5
         → IsStated notes reply
@@ -120,28 +130,35 @@ module _ (settings : Settings) (input : Input) where
         inr (record { definitions = ds; reads = r; states = is_printed are mode })
     parts_of notes reply (no_memory within) ample = absurd (ample refl)
 
-    one_of_text : NoMatchesAreOne → ExplanationsAreOne → NotesAreOne → (notes others : List ℕ) (a b : Reply)
-        → IsStated notes a
+    one_of_text : NoMatchesAreOne → ExplanationsAreOne → NotesAreOne → HintsAreOne → (notes others : List ℕ)
+        (a b : Reply) → IsStated notes a
         → IsStated others b → a.status ≢ 5 → b.status ≢ 5 → (notes ≡ others) × (a ≡ b)
-    one_of_text one_told one lines = one_stated (IsFaultOf text) (λ fault. Explained settings (Explains text fault))
+    one_of_text one_told one lines hints = one_stated (IsFaultOf text)
+        (λ fault. Explained settings (Explains text fault))
         (Reads text)
         (λ definitions. AreNotesOn definitions (start_given settings))
         (λ definitions notes. is_refused notes ≡ true) (λ definitions notes. is_refused notes ≡ false) AreAgain
-        (ToldNotes settings (ExplainsNote text)) RunOf printed_text settings.mode (one-reading text) (one-fault text)
+        (HintedNotes settings (ExplainsNote text) (ArePegHints text)) (ToldNotes settings (ExplainsNote text)) RunOf
+        printed_text settings.mode (one-reading text) (one-fault text)
         (λ fault. one-explained settings (Explains text fault) (one text fault)) (no-fault text) notes_are_one
         again_is_one
-        (λ notes. told-one (λ note. one-explained settings (ExplainsNote text (start_given settings) note)
-        (lines text (start_given settings) note)))
+        (hinted-one settings (ExplainsNote text) (ArePegHints text) one_line (hints text))
+        (λ notes. told-one one_line)
         (λ definitions notes bad fine. absurd (cc)) (one_run one_told)
+      where
+        one_line : (note : Said) (a b : List ℕ) → WhyNoted settings (ExplainsNote text) note a
+            → WhyNoted settings (ExplainsNote text) note b → a ≡ b
+        one_line note = one-explained settings (ExplainsNote text (start_given settings) note)
+            (lines text (start_given settings) note)
 
 -- one list of notes and one reply
-pub statement_is_one : NoMatchesAreOne → ExplanationsAreOne → NotesAreOne → (text : List ℕ) (settings : Settings)
-    (input : Input)
+pub statement_is_one : NoMatchesAreOne → ExplanationsAreOne → NotesAreOne → HintsAreOne
+    → (text : List ℕ) (settings : Settings) (input : Input)
     (notes others : List ℕ) (a b : Reply) →
     States text settings input notes a → States text settings input others b → a.status ≢ 5 → b.status ≢ 5
     → (notes ≡ others) × (a ≡ b)
-statement_is_one told one lines text settings input notes others a b g h m n =
-    one_of_text settings input text told one lines notes others a b (parts_of settings input text notes a g m)
+statement_is_one told one lines hints text settings input notes others a b g h m n =
+    one_of_text settings input text told one lines hints notes others a b (parts_of settings input text notes a g m)
     (parts_of settings input text others b h n) m n
 
 -- what spells definitions is not too long

@@ -4,7 +4,7 @@ use Rattle.std.proofs.Common.{◌≡◌, ℕ, ◌⊎◌, inl, inr, Bool, true, f
 use Rattle.pegread.specs.Pattern.{Rule}
 use Rattle.pegrun.specs.PegReply.{PlainReplies, RunStates}
 use Rattle.pegrun.specs.StopsExplained.{HasLines, StopLines}
-use Rattle.toolrun.specs.Explained.{ExplainedIf}
+use Rattle.toolrun.proofs.ExplainedIfLemmas.{if_asked, if_not_asked}
 use Rattle.toolrun.specs.Input.{Input}
 use Rattle.toolrun.specs.Reply.{Reply, explained_reply, unexplained_reply}
 use Rattle.toolrun.specs.RunSteps.{replied_told, unexplained}
@@ -23,16 +23,6 @@ lines_or_none NoMemory = inr (λ has. has)
 lines_or_none (Refused fault) = inr (λ has. has)
 lines_or_none Unreadable = inr (λ has. has)
 
--- what explains, where that is asked and where it is not
-pub if_asked : (asked : Bool) (Why : List ℕ → Type 0) (why : List ℕ) → asked ≡ true → Why why
-    → ExplainedIf asked Why why
-if_asked true Why why is w = w
-if_asked false Why why is w = absurd (cc)
-
-pub if_not_asked : (asked : Bool) (Why : List ℕ → Type 0) → asked ≡ false → ExplainedIf asked Why []
-if_not_asked true Why is = absurd (cc)
-if_not_asked false Why is = refl
-
 module _ (rules : List Rule) (start : ℕ) (settings : Settings) (input : Input) where
   -- a stop that no lines explain
   pub no_lines : (s : ℕ) (stop : Stop) → (HasLines stop → ⊥) → StopLines rules start settings input s stop []
@@ -49,10 +39,12 @@ module _ (rules : List Rule) (start : ℕ) (settings : Settings) (input : Input)
       → (stated : Reply) × RunStates rules start settings input stated × (stated.out ≡ reply.out)
       × (stated.taken ≡ reply.taken)
   told_if false plain reply r = (
-    explained_reply reply [],
+    explained_reply [] reply [],
     replied_told _ (record {
       plain = reply;
       replies = r;
+      before = [];
+      tells = refl;
       why = [];
       explains = if_not_asked settings.explain (StopLines rules start settings input r.point r.stop) plain;
       told = refl;
@@ -61,12 +53,14 @@ module _ (rules : List Rule) (start : ℕ) (settings : Settings) (input : Input)
     refl,
   )
   told_if true asked reply r = elim (lines_or_none r.stop) [
-    | inl has ↦ (unexplained_reply reply, unexplained reply r (asked, has), refl, refl)
+    | inl has ↦ (unexplained_reply [] reply, unexplained reply r [] refl (asked, has), refl, refl)
     | inr without ↦ (
-      explained_reply reply [],
+      explained_reply [] reply [],
       replied_told _ (record {
         plain = reply;
         replies = r;
+        before = [];
+        tells = refl;
         why = [];
         explains = if_asked settings.explain (StopLines rules start settings input r.point r.stop) [] asked
             (no_lines r.point r.stop without);

@@ -8,17 +8,19 @@ use Rattle.pegread.specs.Pattern.{Rule}
 use Rattle.pegread.specs.Reading.{Reads, IsFaultOf}
 use Rattle.pegexplain.specs.PegExplained.{Explains}
 use Rattle.pegexplain.specs.PegNotes.{ExplainsNote}
+use Rattle.peghints.specs.PegHints.{ArePegHints}
 use Rattle.gramcheck.specs.Checked.{is_refused, IsStart}
 use Rattle.toolrun.specs.Explained.{Explained}
 use Rattle.toolrun.specs.Input.{Input}
 use Rattle.pegrun.specs.Noted.{AreNotesOn, AreAgain, start_given}
 use Rattle.pegrun.specs.PegReply.{printed_text, RunStates}
 use Rattle.toolrun.specs.Reply.{Reply, notes_alone, refusal, unexplained_fault, without_memory}
-use Rattle.toolrun.specs.ToldNotes.{CutNotes, ToldNotes}
+use Rattle.toolrun.specs.ToldNotes.{CutNotes, HintedNotes, ToldNotes}
 use Rattle.toolrun.specs.declared.settings.Mode.TheVariants.{Run, Check, Print}
 use Rattle.toolrun.specs.declared.settings.Settings.{Settings}
 
--- what is stated for a grammar's text and an input: the notes, each explained if that is asked, and what follows them
+-- what is stated for a grammar's text and an input: the notes, each explained and with hints behind them if that is
+-- asked, and what follows them
 pub data States (text : List ℕ) (settings : Settings) (input : Input) : List ℕ → Reply → Type 0 where
   -- the text has a fault, which is told, and explained if that is asked
   refused : (fault : ReadFault) (why : List ℕ) → IsFaultOf text fault → fault ≢ Memory
@@ -28,16 +30,19 @@ pub data States (text : List ℕ) (settings : Settings) (input : Input) : List �
       → States text settings input [] (unexplained_fault fault)
   -- the text is a grammar that a note refuses
   noted : (definitions : List Rule) (notes : List Said) (told : List ℕ) → Reads text definitions
-      → AreNotesOn definitions (start_given settings) notes → ToldNotes settings (ExplainsNote text) notes told →
+      → AreNotesOn definitions (start_given settings) notes
+      → HintedNotes settings (ExplainsNote text) (ArePegHints text) notes told →
       is_refused notes ≡ true → settings.mode ≢ Print → States text settings input told (notes_alone 2)
   -- it is a grammar that no note refuses, and no more is asked
   checked : (definitions : List Rule) (notes : List Said) (told : List ℕ) → Reads text definitions
-      → AreNotesOn definitions (start_given settings) notes → ToldNotes settings (ExplainsNote text) notes told →
+      → AreNotesOn definitions (start_given settings) notes
+      → HintedNotes settings (ExplainsNote text) (ArePegHints text) notes told →
       is_refused notes ≡ false → settings.mode ≡ Check → States text settings input told (notes_alone 0)
   -- its start rule is run on the input
   runs : (definitions : List Rule) (notes : List Said) (told : List ℕ) (start : ℕ) (stated : Reply)
       → Reads text definitions → AreNotesOn definitions (start_given settings) notes
-      → ToldNotes settings (ExplainsNote text) notes told → is_refused notes ≡ false → settings.mode ≡ Run
+      → HintedNotes settings (ExplainsNote text) (ArePegHints text) notes told → is_refused notes ≡ false
+      → settings.mode ≡ Run
       → IsStart (start_given settings) (firsts [] definitions) start →
       RunStates (firsts [] definitions) start settings input stated → States text settings input told stated
   -- an allocation failed in explaining its notes: the first of them are told

@@ -1,5 +1,5 @@
 -- What is kept of the units before. It serves private helpers alone.
-use Rattle.std.specs.Prelude.{◌≡◌, ℕ, ◌+◌, ◌≤◌, ◌++◌, false, List, length, Result, Ok, Err}
+use Rattle.std.specs.Prelude.{◌≡◌, ℕ, ◌+◌, ◌≤◌, ◌++◌, false, List, [], length, Result, Ok, Err}
 use Rattle.std.proofs.Common.{Vec, Global}
 use Rattle.pegread.specs.Pattern.{Rule}
 use Rattle.matchexplain.specs.NoMatchLines.{long_unit_lines}
@@ -8,6 +8,7 @@ use Rattle.matchexplain.specs.InputPlaces.{place_behind}
 use Rattle.ruletable.specs.declared.memory.Memory.{Memory}
 use Rattle.pegrun.specs.StopsExplained.{HasLines}
 use Rattle.pegrun.specs.declared.past.Past.{Past}
+use Rattle.toolrun.specs.RunEnd.{refusals_text}
 use Rattle.toolrun.specs.declared.ending.Ending.{Ending}
 use Rattle.toolrun.specs.declared.ending.Ending.TheVariants.{Plain, Explained, Unexplained}
 use Rattle.toolrun.specs.declared.stop.Stop.{Stop}
@@ -35,14 +36,21 @@ LinesBehind rules start past before held NoMemory why = ⊥
 LinesBehind rules start past before held (Refused fault) why = ⊥
 LinesBehind rules start past before held Unreadable why = ⊥
 
+-- the run ends with these lines, or an allocation failed
+abbrev pub AreLinesOf : Result (Vec ℕ Global) Memory → List ℕ → Type 0
+AreLinesOf (Ok why) lines = lines ≡ why.items
+AreLinesOf (Err fault) lines = ⊥
+
 -- how a run ends that stopped so, where these lines explain it, or an allocation failed
-abbrev pub ending_with : Stop → Result (Vec ℕ Global) Memory → Ending
-ending_with stop (Ok why) = Explained stop why
-ending_with stop (Err fault) = Unexplained stop
+abbrev pub IsEndingWith : Stop → Result (Vec ℕ Global) Memory → Ending → Type 0
+IsEndingWith stop why (Plain is) = ⊥
+IsEndingWith stop why (Explained told is lines) = (refusals_text told ≡ []) × (is ≡ stop) × AreLinesOf why lines.items
+IsEndingWith stop why (Unexplained told is) = (refusals_text told ≡ []) × (is ≡ stop)
 
 -- how a run ends that stopped so and is explained
 abbrev pub EndsBehind : List Rule → ℕ → Past → List ℕ → List ℕ → Stop → Ending → Type 0
 EndsBehind rules start past before held stop (Plain is) = (is ≡ stop) × (HasLines stop → ⊥)
-EndsBehind rules start past before held stop (Explained is why) =
-    (is ≡ stop) × LinesBehind rules start past before held stop why.items
-EndsBehind rules start past before held stop (Unexplained is) = (is ≡ stop) × HasLines stop
+EndsBehind rules start past before held stop (Explained told is why) = (refusals_text told ≡ []) × (is ≡ stop)
+    × LinesBehind rules start past before held stop why.items
+EndsBehind rules start past before held stop (Unexplained told is) = (refusals_text told ≡ []) × (is ≡ stop)
+    × HasLines stop

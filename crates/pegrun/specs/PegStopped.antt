@@ -5,7 +5,7 @@ use Rattle.ruletable.specs.Writing.{AppendsPart}
 use Rattle.ruletable.specs.declared.sink.WriteFault.{WriteFault}
 use Rattle.pegread.specs.Pattern.{Rule}
 use Rattle.toolrun.specs.Input.{Input}
-use Rattle.pegrun.specs.StopsExplained.{MayLack, WhyStopped}
+use Rattle.pegrun.specs.StopsExplained.{MayLack, TellsNothing, WhyStopped}
 use Rattle.pegrun.specs.Units.{IsUnit, Units, Ends, taken_at}
 use Rattle.toolrun.specs.declared.settings.Settings.{Settings}
 use Rattle.toolrun.specs.RunSteps.{EndsTold}
@@ -18,7 +18,7 @@ abbrev pub IsCut : List Rule → ℕ → Settings → Input → ℕ → Option (
 IsCut rules start settings input taken old new (Ok ending) = (place : ℕ) × (text last : List ℕ) ×
     Units rules start settings input place text × Appends old new (text ++ last)
     × (taken ≡ taken_at settings input place) ×
-    EndsTold (Units rules start settings input) (Ends rules start settings input) (taken_at settings input)
+    EndsTold (Units rules start settings input) (Ends rules start settings input) (taken_at settings input) TellsNothing
     (WhyStopped rules start settings input) (MayLack rules start settings input) place last ending
 IsCut rules start settings input taken old new (Err fault) = (place k : ℕ) × (text last : List ℕ) ×
     Units rules start settings input place text × IsUnit rules start settings input place k last

@@ -23,6 +23,10 @@ HasLines NoMemory = ⊥
 HasLines (Refused fault) = ⊥
 HasLines Unreadable = ⊥
 
+-- before its message such a run tells nothing
+abbrev pub TellsNothing : ℕ → List ℕ → Type 0
+TellsNothing place told = told ≡ []
+
 module _ (rules : List Rule) (start : ℕ) (settings : Settings) (input : Input) where
   -- the place of the unit before the one that is begun at s, or none where no unit is before it
   pub data UnitBefore : ℕ → Option ℕ → Type 0 where

@@ -13,6 +13,7 @@ ghost use Rattle.toolrun.specs.declared.settings.Settings.{Settings};
 
 use matchexplain::one_no_match;
 use pegexplain::{one_explanation, one_note_explanation};
+use peghints::one_text_of_hints;
 use pegread::one_reading;
 
 /// Says that a list of rules, a start rule and settings have at most one reply to an input.
@@ -42,5 +43,6 @@ pub fn one_statement()
     one_no_match();
     one_explanation();
     one_note_explanation();
+    one_text_of_hints();
     one_reading();
 }

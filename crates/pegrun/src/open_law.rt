@@ -2,6 +2,7 @@
 ghost use Rattle.std.specs.Prelude.{◌≡◌, ℕ, List, Some};
 ghost use Rattle.gramcheck.specs.Grammar.{Grammar};
 ghost use Rattle.pegexplain.specs.PegNotes.{ExplainsNote};
+ghost use Rattle.peghints.specs.PegHints.{ArePegHints};
 ghost use Rattle.pegread.specs.PegViews.{rules_of};
 ghost use Rattle.pegrun.specs.Answers.{States};
 ghost use Rattle.pegrun.specs.OpenPeg.{IsPegOpened};
@@ -9,15 +10,16 @@ ghost use Rattle.pegrun.specs.PegReply.{RunStates};
 ghost use Rattle.ruletable.specs.Notes.{Said};
 ghost use Rattle.toolrun.specs.Input.{Input};
 ghost use Rattle.toolrun.specs.Reply.{Reply};
-ghost use Rattle.toolrun.specs.ToldNotes.{ToldNotes};
+ghost use Rattle.toolrun.specs.ToldNotes.{HintedNotes};
 ghost use Rattle.toolrun.specs.declared.settings.Mode.TheVariants.{Run};
 ghost use Rattle.toolrun.specs.declared.settings.Settings.{Settings};
 
-/// Says that what a run of an open grammar states is what a run of its text states, behind the notes. It does nothing.
+/// Says that what a run of an open grammar states is what a run of its text states, behind the notes
+/// and hints. It does nothing.
 pub fn runs_as_a_run()
     ensures { (text : List ℕ) (settings : Settings) (input : Input) (notes : List Said) (told : List ℕ)
         (grammar : Grammar) (stated : Reply) → settings.mode ≡ Run → IsPegOpened text settings notes (Some grammar) →
-        ToldNotes settings (ExplainsNote text) notes told →
+        HintedNotes settings (ExplainsNote text) (ArePegHints text) notes told →
         RunStates (rules_of grammar.rules) grammar.start settings input stated →
         States text settings input told stated }
 {}

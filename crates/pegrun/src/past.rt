@@ -4,14 +4,14 @@ ghost use Rattle.feed.specs.Feed.{SameFeed, bytes_of};
 ghost use Rattle.matchexplain.specs.NoMatches.{IsNoMatchTold, unit_before};
 ghost use Rattle.matchexplain.specs.InputPlaces.{place_behind};
 ghost use Rattle.pegread.specs.PegViews.{rules_of};
-ghost use Rattle.pegrun.specs.PastUnits.{EndsBehind, Follows, ending_with};
+ghost use Rattle.pegrun.specs.PastUnits.{EndsBehind, Follows, IsEndingWith};
 
 use feed::{Feed, Source};
 use gramcheck::SoundPeg;
 use matchexplain::{TextPlace, explain_long_unit, explain_no_match};
 use ruletable::Memory;
 use std::alloc::Global;
-use toolrun::{Ending, Settings, Stop};
+use toolrun::{Ending, Settings, Stop, ToldRefusals};
 
 /// The last unit that was taken, of which the bytes are kept, and where the next one begins.
 #[derive(Drop)]
@@ -120,12 +120,13 @@ impl Past {
 }
 
 /// Returns how a run ends that stopped so, where these lines explain it, or an allocation failed.
-fn with_lines(stop: Stop, why: Result<Vec<u8>, Memory>) -> Ending
-    ensures { result ≡ ending_with stop why }
+fn with_lines(alloc: Global, stop: Stop, why: Result<Vec<u8>, Memory>) -> Ending
+    ensures { IsEndingWith stop why result }
 {
+    let told = ToldRefusals::none(alloc);
     match why {
-        Ok(why) => Ending::Explained { stop, why },
-        Err(Memory) => Ending::Unexplained(stop),
+        Ok(why) => Ending::Explained { told, stop, why },
+        Err(Memory) => Ending::Unexplained { told, stop },
     }
 }
 
@@ -144,8 +145,8 @@ fn explained_stop<R: Source>(
         past.old before (bytes_of feed.old) stop result }
 {
     match stop {
-        Stop::NoMatch(_) => with_lines(stop, past.no_match_lines(alloc, peg, feed)),
-        Stop::LongUnit { .. } => with_lines(stop, explain_long_unit(alloc, past.next)),
+        Stop::NoMatch(_) => with_lines(alloc, stop, past.no_match_lines(alloc, peg, feed)),
+        Stop::LongUnit { .. } => with_lines(alloc, stop, explain_long_unit(alloc, past.next)),
         _ => Ending::Plain(stop),
     }
 }

@@ -1,6 +1,7 @@
 //! The language of peg(1), whose grammars are run on units of an input.
 ghost use Rattle.pegexplain.specs.PegExplained.{Explains};
 ghost use Rattle.pegexplain.specs.PegNotes.{ArePegPlaces, ExplainsNote};
+ghost use Rattle.peghints.specs.PegHints.{ArePegHints};
 ghost use Rattle.pegread.specs.Canon.{grammar_text};
 ghost use Rattle.pegread.specs.PegViews.{rules_of};
 ghost use Rattle.pegread.specs.Reading.{IsFaultOf};
@@ -13,6 +14,7 @@ use feed::Source;
 use gramcheck::{SoundPeg, check_peg, redefinitions};
 use packrat::Packrat;
 use pegexplain::{PegPlaces, explain_fault, explain_peg_note, peg_places};
+use peghints::peg_hints;
 use pegread::{Peg, print_peg, read_peg};
 use ruletable::{Memory, Note, ReadFault, Sink, WriteFault};
 use std::alloc::Global;
@@ -37,6 +39,8 @@ impl Language for PegLanguage {
     ghost are_places = { λ text start. ArePegPlaces text };
 
     ghost explains_note = { ExplainsNote };
+
+    ghost are_hints = { λ text settings. ArePegHints text };
 
     ghost is_read = { λ text peg. IsReadAs text peg.rules peg.redefined.items };
 
@@ -67,6 +71,14 @@ impl Language for PegLanguage {
         note: &Note,
     ) -> Result<Vec<u8>, Memory> {
         explain_peg_note(alloc, places, start, note)
+    }
+
+    fn hints(
+        alloc: Global,
+        places: &PegPlaces,
+        _settings: &Settings<'_>,
+    ) -> Result<Vec<u8>, Memory> {
+        peg_hints(alloc, places)
     }
 
     fn check(

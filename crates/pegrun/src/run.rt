@@ -18,12 +18,14 @@ use toolrun::{Settings, Status, run_tool};
 ///   nothing is read. If the settings ask for explanations, behind that line stand those that explain it: a picture of
 ///   the token that decides, its column, exactly the kinds of tokens that could stand there, and a usual mistake.
 /// - If it is to be printed, its canonical text is written on `out`, `Done`; but if it defines a rule again, the notes
-///   on that are written on `err`, `Refused`. Nothing is read, and no other check is made. If the settings ask for
-///   explanations, behind a note on a rule that is defined again, or not used, stand the lines of its definitions,
-///   behind one on a name that is not defined its first use, and behind one on a loop the first repetition of what may
-///   take nothing.
+///   on that are written on `err`, `Refused`. Nothing is read, and no other check is made.
 /// - Else the notes on it are written on `err`. If one of them refuses it, or it is only to be checked, that is all:
 ///   `Refused`, or `Done`, and nothing is read.
+/// - If the settings ask for explanations, behind a note on a rule that is defined again, or not used, stand the lines
+///   of its definitions, behind one on a name that is not defined its first use, behind one on a loop the first
+///   repetition of what may take nothing, and behind one on left recursion the steps of the shortest way back to the
+///   rule, for the first 8 of them. Behind all notes stand hints on alternatives that are never taken, unless the
+///   grammar is to be printed.
 /// - A unit is one success of the start rule, the one named in the settings or else the first; it begins where the one
 ///   before ended, and its actions are printed in order. The run ends where the rule fails or takes no byte:
 ///   `no match at byte S`, status `NoMatch`, but `Done` at the end of the input.

@@ -15,7 +15,7 @@ use Rattle.toolrun.specs.Plan.{Behind, behind_notes, in_reply, IsPlan, does_of, 
 use Rattle.toolrun.specs.Reply.{Reply, refusal, text_alone, unexplained_fault, without_memory}
 use Rattle.toolrun.specs.Stop.{unread}
 use Rattle.toolrun.specs.Tasks.{checked_task, task_does}
-use Rattle.toolrun.specs.ToldNotes.{AreToldBefore, told_whole, told_part, ToldNotes}
+use Rattle.toolrun.specs.ToldNotes.{AreHintedBefore, AreToldBefore, HintedNotes, told_whole, told_part}
 use Rattle.toolrun.specs.declared.plan.Task.{Task}
 use Rattle.toolrun.specs.declared.plan.Task.TheVariants.{Prints}
 use Rattle.toolrun.specs.declared.settings.Mode.{Mode}
@@ -74,12 +74,13 @@ module _ (States : Input → List ℕ → Reply → Type 0) (IsFault : ReadFault
 
 module _ {Grammar Sound : Type 0} {States : List ℕ → Settings → Input → List ℕ → Reply → Type 0}
     {HasFault : List ℕ → ReadFault → Type 0} {Explains : List ℕ → ReadFault → List ℕ → Type 0}
-    {ExplainsNote : List ℕ → Option (List ℕ) → Said → List ℕ → Type 0} {IsRead : List ℕ → Grammar → Type 0}
+    {ExplainsNote : List ℕ → Option (List ℕ) → Said → List ℕ → Type 0}
+    {AreHints : List ℕ → Settings → List ℕ → Type 0} {IsRead : List ℕ → Grammar → Type 0}
     {IsChecked : List ℕ → Option (List ℕ) → List Said → Option Sound → Type 0}
     {IsPrintable : List ℕ → Grammar → List Said → Type 0} {canonical : Grammar → List ℕ}
     {Runs : Sound → Settings → Input → Reply → Type 0}
-    (law : AreStated States HasFault Explains ExplainsNote IsRead IsChecked IsPrintable canonical Runs) (text : List ℕ)
-    (settings : Settings)
+    (law : AreStated States HasFault Explains ExplainsNote AreHints IsRead IsChecked IsPrintable canonical Runs)
+    (text : List ℕ) (settings : Settings)
   where
     abbrev Planned : List ℕ → Result (Task Grammar Sound) Stop → Type 0
     Planned first task = IsPlan (Behind (States text settings)) first
@@ -123,7 +124,8 @@ module _ {Grammar Sound : Type 0} {States : List ℕ → Settings → Input → 
     -- a grammar that was checked, and all whose notes are told
     plan_whole : (notes : List Said) (told : List ℕ) (mode : Mode) (sound : Option Sound) → settings.mode ≡ mode
         → mode ≢ Print → IsChecked text (option_copied settings.start) notes sound
-        → ToldNotes settings (ExplainsNote text) notes told → Planned told (checked_task mode sound)
+        → HintedNotes settings (ExplainsNote text) (AreHints text settings) notes told
+        → Planned told (checked_task mode sound)
     plan_whole notes told mode None is other c t = record {
       stated = λ input reply r. rw r (behind_notes (law.noted text settings input notes told c t (rw is other)));
       some = λ input. (stopped (Quiet status.Refused), refl);
@@ -141,7 +143,8 @@ module _ {Grammar Sound : Type 0} {States : List ℕ → Settings → Input → 
     pub plan_checked : (notes : List Said) (told : List ℕ) (mode : Mode) (sound : Option Sound)
         (task : Result (Task Grammar Sound) Stop) → settings.mode ≡ mode → mode ≢ Print
         → IsChecked text (option_copied settings.start) notes sound
-        → AreToldBefore settings (ExplainsNote text) notes told (checked_task mode sound) task → Planned told task
+        → AreHintedBefore settings (ExplainsNote text) (AreHints text settings) notes told (checked_task mode sound)
+        task → Planned told task
     plan_checked notes told mode sound task is other c (told_whole t) = plan_whole notes told mode sound is other c t
     plan_checked notes told mode sound task is other c (told_part t) = record {
       stated = λ input reply r. rw r (behind_notes

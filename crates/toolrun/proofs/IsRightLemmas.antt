@@ -13,16 +13,18 @@ use Rattle.toolrun.specs.Delivery.{Delivers, IsTold, Observed}
 use Rattle.toolrun.specs.Input.{Input, input_from}
 use Rattle.toolrun.specs.Reply.{Reply}
 use Rattle.toolrun.specs.Status.{code_of}
-use Rattle.toolrun.specs.Stop.{write_error}
-use Rattle.toolrun.specs.RunEnd.{ended_status, ended_text}
+use Rattle.toolrun.specs.Stop.{status_of, write_error}
+use Rattle.toolrun.specs.RunEnd.{ended_status, ended_text, stop_of}
 use Rattle.toolrun.specs.Finish.{Concludes}
 use Rattle.toolrun.specs.Plan.{Behind, behind_notes, in_reply, IsPlan, stopped, told_behind}
 use Rattle.toolrun.specs.Right.{IsRight, Comes}
 use Rattle.toolrun.specs.Stopped.{EndedAs, Fulfils}
 use Rattle.toolrun.specs.Stream.{Stream}
 use Rattle.toolrun.specs.declared.ending.Ending.{Ending}
-use Rattle.toolrun.specs.declared.ending.Ending.TheVariants.{Plain}
+use Rattle.toolrun.specs.declared.ending.Ending.TheVariants.{Plain, Explained, Unexplained}
+use Rattle.toolrun.specs.declared.status.Status.TheVariants as status
 use Rattle.toolrun.specs.declared.stop.Stop.{Stop}
+use Rattle.toolrun.specs.declared.stop.Stop.TheVariants.{NoMemory}
 
 -- what stands before is told before
 told-behind : (notes text told : List ℕ) (err_failed : Bool) → IsTold err_failed told text
@@ -55,6 +57,12 @@ pub stops_at_once : (stop : Stop) (r0 s0 : Option (List ℕ)) (r_was r_failed o_
     Fulfils (λ input reply. reply ≡ stopped stop) (record { old = r0; new = r0; was = r_was; failed = r_failed })
     (record { old = s0; new = s0; was = o_was; failed = o_was }) r
 stops_at_once stop r0 s0 r_was r_failed o_was = record { stopped = nothing_done stop r0 s0; flag = refl }
+
+-- a run that stops for want of memory ends so
+refused_status : (end : Ending) → stop_of end ≡ NoMemory → ended_status end ≡ status.NoMemory
+refused_status (Plain stop) is = ap status_of is
+refused_status (Explained told stop why) is = ap status_of is
+refused_status (Unexplained told stop) is = refl
 
 module _ (States : Input → List ℕ → Reply → Type 0) (notes : List ℕ) (Does : Input → Reply → Type 0)
     (plan : IsPlan States notes Does) where
@@ -91,7 +99,7 @@ module _ (States : Input → List ℕ → Reply → Type 0) (notes : List ℕ) (
     };
     within = s.within;
     exact = λ out_ok err_ok other. s.exact (λ is. other
-        (f.status out_ok err_ok ∙ ap (λ w. code_of (ended_status w)) is));
+        (f.status out_ok err_ok ∙ ap code_of (refused_status end is)));
   }
   is_right given taken wrote told read_failed out_was out_failed err_failed (Err fault) code s flag stays f =
       let bad : out_failed ≡ true = stays flag in

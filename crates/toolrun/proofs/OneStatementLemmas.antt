@@ -1,40 +1,38 @@
 -- What the tool of a language states for a text, settings and an input is one, but for want of memory.
 -- Serves: one_statement, one_statement_of_abnf
-use Rattle.std.proofs.Common.{◌≡◌, ◌≢◌, ℕ, ◌⊎◌, inl, inr, Bool, true, false, List, [], refl, sym, ◌∙◌, ap, subst}
+use Rattle.std.proofs.Common.{◌≡◌, ◌≢◌, ℕ, ◌⊎◌, inl, inr, List, [], refl, sym, ◌∙◌, ap, subst}
 use Rattle.ruletable.specs.Notes.{Said}
 use Rattle.ruletable.specs.declared.fault.ReadFault.{ReadFault}
 use Rattle.ruletable.specs.declared.fault.ReadFault.TheVariants.{Memory}
-use Rattle.toolrun.specs.Explained.{Explained, ExplainedIf}
+use Rattle.toolrun.specs.Explained.{Explained}
+use Rattle.toolrun.proofs.ExplainedIfLemmas.{if-explained}
 use Rattle.toolrun.specs.Reply.{Reply, notes_alone, refusal}
 use Rattle.toolrun.specs.declared.settings.Settings.{Settings}
 use Rattle.toolrun.specs.declared.settings.Mode.{Mode}
 use Rattle.toolrun.specs.declared.settings.Mode.TheVariants.{Run, Check, Print}
 
--- what explains is one text, where what is told if it is asked is one
-if-explained : (asked : Bool) (Why : List ℕ → Type 0) → ((a b : List ℕ) → Why a → Why b → a ≡ b)
-    → (a b : List ℕ) → ExplainedIf asked Why a → ExplainedIf asked Why b → a ≡ b
-if-explained true Why one a b g h = one a b g h
-if-explained false Why one a b g h = g ∙ sym h
-
+-- what explains is one text
 pub one-explained : (settings : Settings) (Why : List ℕ → Type 0) → ((a b : List ℕ) → Why a → Why b → a ≡ b)
     → (a b : List ℕ) → Explained settings Why a → Explained settings Why b → a ≡ b
 one-explained settings Why one a b g h = if-explained settings.explain Why one a b g h
 
 -- Of a text, IsFault says what is wrong with it, Explains what is told of that, and Reads which definitions it spells.
 -- Of definitions, AreNotes and AreAgain say what is noted, IsRefused and IsSound which notes refuse them and which do
--- not, Runs what a run of them states, and printed what is written of them. IsTold says what is told of notes.
+-- not, Runs what a run of them states, and printed what is written of them. IsTold says what is told of notes, IsHinted
+-- what is with hints behind them.
 module _ {Definitions : Type 0} (IsFault : ReadFault → Type 0) (Explains : ReadFault → List ℕ → Type 0)
     (Reads : Definitions → Type 0)
     (AreNotes IsRefused IsSound AreAgain : Definitions → List Said → Type 0)
-    (IsTold : List Said → List ℕ → Type 0) (Runs : Definitions → Reply → Type 0)
+    (IsHinted IsTold : List Said → List ℕ → Type 0) (Runs : Definitions → Reply → Type 0)
     (printed : Definitions → Reply) (mode : Mode) where
   -- what is stated for a text that spells these definitions
   pub data StatesOf (definitions : Definitions) : List ℕ → Reply → Type 0 where
-    is_noted : (notes : List Said) (told : List ℕ) → AreNotes definitions notes → IsTold notes told
+    is_noted : (notes : List Said) (told : List ℕ) → AreNotes definitions notes → IsHinted notes told
         → IsRefused definitions notes → mode ≢ Print → StatesOf definitions told (notes_alone 2)
-    is_checked : (notes : List Said) (told : List ℕ) → AreNotes definitions notes → IsTold notes told
+    is_checked : (notes : List Said) (told : List ℕ) → AreNotes definitions notes → IsHinted notes told
         → IsSound definitions notes → mode ≡ Check → StatesOf definitions told (notes_alone 0)
-    is_run : (notes : List Said) (told : List ℕ) (stated : Reply) → AreNotes definitions notes → IsTold notes told
+    is_run : (notes : List Said) (told : List ℕ) (stated : Reply) → AreNotes definitions notes
+        → IsHinted notes told
         → IsSound definitions notes → mode ≡ Run → Runs definitions stated → StatesOf definitions told stated
     is_again : (notes : List Said) (told : List ℕ) → AreAgain definitions notes → IsTold notes told → notes ≢ []
         → mode ≡ Print → StatesOf definitions told (notes_alone 2)
@@ -66,16 +64,17 @@ module _ {Definitions : Type 0} (IsFault : ReadFault → Type 0) (Explains : Rea
       → a ≡ b)
       (one_again : (definitions : Definitions) (a b : List Said) → AreAgain definitions a → AreAgain definitions b
       → a ≡ b)
+      (one_hinted : (notes : List Said) (a b : List ℕ) → IsHinted notes a → IsHinted notes b → a ≡ b)
       (one_told : (notes : List Said) (a b : List ℕ) → IsTold notes a → IsTold notes b → a ≡ b)
       (one_verdict : (definitions : Definitions) (notes : List Said) → IsRefused definitions notes
       → IsSound definitions notes → ⊥)
       (one_run : (definitions : Definitions) (a b : Reply) → Runs definitions a → Runs definitions b → a.status ≢ 5
       → b.status ≢ 5 → a ≡ b) where
     module _ (definitions : Definitions) where
-      one_text : (a b : List Said) (s t : List ℕ) → AreNotes definitions a → AreNotes definitions b → IsTold a s
-          → IsTold b t → s ≡ t
+      one_text : (a b : List Said) (s t : List ℕ) → AreNotes definitions a → AreNotes definitions b → IsHinted a s
+          → IsHinted b t → s ≡ t
       one_text a b s t g h told other =
-          one_told b s t (subst (λ (ns : List Said). IsTold ns s) (one_notes definitions a b g h) told) other
+          one_hinted b s t (subst (λ (ns : List Said). IsHinted ns s) (one_notes definitions a b g h) told) other
 
       -- no list of notes refuses the grammar beside one that does not
       not_both : (a b : List Said) → AreNotes definitions a → AreNotes definitions b → IsRefused definitions a

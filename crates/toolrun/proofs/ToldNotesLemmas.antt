@@ -9,8 +9,10 @@ use Rattle.ruletable.specs.Notes.{Said, note_text}
 use Rattle.toolrun.specs.Explained.{ExplainedIf}
 use Rattle.toolrun.specs.NotesText.{notes_text}
 use Rattle.toolrun.specs.ToldNotes.{AreNotesTold, no_note, note_told, AreNotesBegun, begun_notes, begun_line, ToldNotes}
+use Rattle.toolrun.specs.ToldNotes.{HintedNotes}
 use Rattle.toolrun.specs.ToldNotes.{WhyNoted}
 use Rattle.toolrun.specs.declared.settings.Settings.{Settings}
+use Rattle.toolrun.proofs.ExplainedIfLemmas.{if-explained}
 
 module _ {Why : Said → List ℕ → Type 0} where
   -- one note more
@@ -32,6 +34,12 @@ module _ {Why : Said → List ℕ → Type 0} where
   told-one one a b (note_told {note = note} {why = u} {text = s} v more) (note_told {why = w} {text = t} x others) =
       ap (λ (z : List ℕ). note_text note ++ (z ++ s)) (one note u w v x)
       ∙ ap (λ (z : List ℕ). note_text note ++ (w ++ z)) (told-one one s t more others)
+
+-- all notes are the first ones too
+pub begun-whole : {Why : Said → List ℕ → Type 0} {notes : List Said} {text : List ℕ} → AreNotesTold Why notes text
+    → AreNotesBegun Why notes text
+begun-whole {Why} {notes} {text} told =
+    subst (λ (ns : List Said). AreNotesBegun Why ns text) (append-nil notes) (begun_notes [] told)
 
 -- other words for what explains
 pub told-words : {P Q : Said → List ℕ → Type 0} → ((note : Said) (why : List ℕ) → P note why → Q note why)
@@ -88,3 +96,36 @@ module _ (settings : Settings) (Why : Option (List ℕ) → Said → List ℕ �
   pub told-plain : settings.explain ≡ false → (notes : List Said) → ToldNotes settings Why notes (notes_text notes)
   told-plain plain [] = no_note
   told-plain plain (note ∷ notes) = note_told (plain-if settings.explain _ plain) (told-plain plain notes)
+
+  -- and there are no hints
+  pub hinted-plain : (AreHints : List ℕ → Type 0) → settings.explain ≡ false → (notes : List Said)
+      → HintedNotes settings Why AreHints notes (notes_text notes)
+  hinted-plain AreHints plain notes = record {
+    first = notes_text notes;
+    are_told = told-plain plain notes;
+    hints = [];
+    are_hints = plain-if settings.explain AreHints plain;
+    all = sym (append-nil (notes_text notes));
+  }
+
+  -- with explanations hints stand behind the notes
+  pub hinted-asked : (AreHints : List ℕ → Type 0) → settings.explain ≡ true → {notes : List Said}
+      (first hints text : List ℕ) → AreNotesTold (Why (option_copied settings.start)) notes first → AreHints hints
+      → text ≡ first ++ hints → HintedNotes settings Why AreHints notes text
+  hinted-asked AreHints asked first hints text told are all = record {
+    first = first;
+    are_told = told-words (why-asked asked) told;
+    hints = hints;
+    are_hints = explained-if settings.explain AreHints hints asked are;
+    all = all;
+  }
+
+  -- one text
+  pub hinted-one : (AreHints : List ℕ → Type 0) → ((note : Said) (a b : List ℕ) → WhyNoted settings Why note a
+      → WhyNoted settings Why note b → a ≡ b) → ((a b : List ℕ) → AreHints a → AreHints b → a ≡ b)
+      → (notes : List Said) (a b : List ℕ) → HintedNotes settings Why AreHints notes a
+      → HintedNotes settings Why AreHints notes b → a ≡ b
+  hinted-one AreHints one_why one_hints notes a b g h =
+      g.all ∙ ap (λ (t : List ℕ). t ++ g.hints) (told-one one_why g.first h.first g.are_told h.are_told)
+      ∙ ap (λ (t : List ℕ). h.first ++ t) (if-explained settings.explain AreHints one_hints g.hints h.hints g.are_hints
+      h.are_hints) ∙ sym h.all

@@ -6,17 +6,18 @@ use Rattle.ruletable.specs.declared.fault.ReadFault.TheVariants.{Memory}
 use Rattle.toolrun.specs.Explained.{Explained}
 use Rattle.toolrun.specs.Input.{Input}
 use Rattle.toolrun.specs.Reply.{Reply, notes_alone, refusal, text_alone, unexplained_fault, without_memory}
-use Rattle.toolrun.specs.ToldNotes.{CutNotes, ToldNotes}
+use Rattle.toolrun.specs.ToldNotes.{CutNotes, HintedNotes, ToldNotes}
 use Rattle.toolrun.specs.declared.settings.Mode.TheVariants.{Run, Check, Print}
 use Rattle.toolrun.specs.declared.settings.Settings.{Settings}
 
 -- States is what the tool states. Of a text: HasFault says what is wrong with it, Explains what explains that,
--- ExplainsNote what explains a note on its grammar, IsRead what it is read as, IsChecked what is noted of its grammar
--- and what is ready to run, IsPrintable what is noted where it is only to be printed. Of a grammar: canonical is its
--- text, Runs what a run of it states.
+-- ExplainsNote what explains a note on its grammar, AreHints what else there is to say of that, IsRead what it is read
+-- as, IsChecked what is noted of its grammar and what is ready to run, IsPrintable what is noted where it is only to be
+-- printed. Of a grammar: canonical is its text, Runs what a run of it states.
 pub record AreStated {Grammar Sound : Type 0} (States : List ℕ → Settings → Input → List ℕ → Reply → Type 0)
     (HasFault : List ℕ → ReadFault → Type 0) (Explains : List ℕ → ReadFault → List ℕ → Type 0)
-    (ExplainsNote : List ℕ → Option (List ℕ) → Said → List ℕ → Type 0) (IsRead : List ℕ → Grammar → Type 0)
+    (ExplainsNote : List ℕ → Option (List ℕ) → Said → List ℕ → Type 0)
+    (AreHints : List ℕ → Settings → List ℕ → Type 0) (IsRead : List ℕ → Grammar → Type 0)
     (IsChecked : List ℕ → Option (List ℕ) → List Said → Option Sound → Type 0)
     (IsPrintable : List ℕ → Grammar → List Said → Type 0) (canonical : Grammar → List ℕ)
     (Runs : Sound → Settings → Input → Reply → Type 0) : Type 0 where
@@ -32,17 +33,19 @@ pub record AreStated {Grammar Sound : Type 0} (States : List ℕ → Settings �
       → States text settings input [] (without_memory [] 0)
   -- a grammar that is refused
   pub noted : (text : List ℕ) (settings : Settings) (input : Input) (notes : List Said) (told : List ℕ)
-      → IsChecked text (option_copied settings.start) notes None → ToldNotes settings (ExplainsNote text) notes told
+      → IsChecked text (option_copied settings.start) notes None
+      → HintedNotes settings (ExplainsNote text) (AreHints text settings) notes told
       → settings.mode ≢ Print → States text settings input told (notes_alone 2)
   -- a grammar that is not refused, and only to be checked
   pub checked : (text : List ℕ) (settings : Settings) (input : Input) (notes : List Said) (told : List ℕ)
       (sound : Sound) → IsChecked text (option_copied settings.start) notes (Some sound)
-      → ToldNotes settings (ExplainsNote text) notes told → settings.mode ≡ Check
+      → HintedNotes settings (ExplainsNote text) (AreHints text settings) notes told → settings.mode ≡ Check
       → States text settings input told (notes_alone 0)
   -- a grammar that is run, and states something for each input
   pub run : (text : List ℕ) (settings : Settings) (input : Input) (notes : List Said) (told : List ℕ) (sound : Sound)
       (reply : Reply) → IsChecked text (option_copied settings.start) notes (Some sound)
-      → ToldNotes settings (ExplainsNote text) notes told → settings.mode ≡ Run → Runs sound settings input reply
+      → HintedNotes settings (ExplainsNote text) (AreHints text settings) notes told → settings.mode ≡ Run
+      → Runs sound settings input reply
       → States text settings input told reply
   pub replies : (text : List ℕ) (settings : Settings) (input : Input) (notes : List Said) (sound : Sound)
       → IsChecked text (option_copied settings.start) notes (Some sound)

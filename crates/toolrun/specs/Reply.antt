@@ -30,20 +30,24 @@ text_alone text = record { out = text; err = []; status = 0; taken = 0 }
 abbrev pub without_memory : List ℕ → ℕ → Reply
 without_memory out taken = record { out = out; err = codes "out of memory\n"; status = 5; taken = taken }
 
--- behind the message of a reply stand lines that explain it
-abbrev pub explained_reply : Reply → List ℕ → Reply
-explained_reply plain why = record {
+-- an allocation fails after this output and so many bytes of input, where this was told
+abbrev pub cut_reply : List ℕ → List ℕ → ℕ → Reply
+cut_reply told out taken = record { out = out; err = told ++ codes "out of memory\n"; status = 5; taken = taken }
+
+-- before the message of a reply stands what is told of refused lines, and behind it stand lines that explain it
+abbrev pub explained_reply : List ℕ → Reply → List ℕ → Reply
+explained_reply told plain why = record {
   out = plain.out;
-  err = plain.err ++ why;
+  err = told ++ (plain.err ++ why);
   status = plain.status;
   taken = plain.taken;
 }
 
 -- an allocation fails in explaining the message of a reply: it stands whole
-abbrev pub unexplained_reply : Reply → Reply
-unexplained_reply plain = record {
+abbrev pub unexplained_reply : List ℕ → Reply → Reply
+unexplained_reply told plain = record {
   out = plain.out;
-  err = plain.err ++ codes "out of memory\n";
+  err = told ++ (plain.err ++ codes "out of memory\n");
   status = 5;
   taken = plain.taken;
 }

@@ -3,7 +3,8 @@ use Rattle.std.specs.Prelude.{◌≡◌, ℕ, ◌≤◌, ◌++◌, List, [], Opt
 use Rattle.std.specs.Io.KnownBytes.{Appends}
 use Rattle.ruletable.specs.Writing.{AppendsPart, IsBeginning}
 use Rattle.ruletable.specs.declared.sink.WriteFault.{WriteFault}
-use Rattle.toolrun.specs.Reply.{Reply, explained_reply, unexplained_reply, without_memory}
+use Rattle.toolrun.specs.Reply.{Reply, cut_reply, explained_reply, unexplained_reply}
+use Rattle.toolrun.specs.RunEnd.{refusals_text}
 use Rattle.toolrun.specs.Status.{code_of}
 use Rattle.toolrun.specs.Stop.{message_of, status_of}
 use Rattle.toolrun.specs.declared.ending.Ending.{Ending}
@@ -28,13 +29,6 @@ module _ {Point : Type 0} (Before : Point → List ℕ → Type 0) (Ends : Point
     pub status : reply.status ≡ code_of (status_of stop)
     pub taken : reply.taken ≡ taken_at point
 
-  -- a run states its reply, or the text of the first steps if an allocation fails
-  pub data RunStates : Reply → Type 0 where
-    replied : (reply : Reply) → Replies reply → RunStates reply
-    no_memory : (point : Point) (out : List ℕ) (reply : Reply) → Before point out → Replies reply
-        → IsBeginning out reply.out →
-        RunStates (without_memory out reply.taken)
-
   -- a reply that begins with the text, where no fewer bytes are taken
   pub record Begins (least : ℕ) (text : List ℕ) : Type 0 where
     pub reply : Reply
@@ -42,43 +36,54 @@ module _ {Point : Type 0} (Before : Point → List ℕ → Type 0) (Ends : Point
     pub front : IsBeginning text reply.out
     pub taken : least ≤ reply.taken
 
-  -- After so many bytes were taken: the text of steps and of a last one, after which the run ends so or memory is
-  -- refused; or a beginning of the text that a reply begins with.
-  abbrev pub HasRun : ℕ → Option (List ℕ) → Option (List ℕ) → Result Stop WriteFault → Type 0
-  HasRun taken old new (Ok stop) = (point : Point) × (text last : List ℕ) × Before point text
-      × Appends old new (text ++ last) ×
-      (taken ≡ taken_at point) × (((stop ≡ NoMemory) × (last ≡ [])) ⊎ Ends point last stop)
-  HasRun taken old new (Err fault) = (text : List ℕ) × Begins taken text × AppendsPart old new text
+  -- Tells says what is told of refused lines on the way to a point, Why which lines explain how a run ends there, none
+  -- where nothing is explained, and MayLack where an allocation may fail in explaining it.
+  module _ (Tells : Point → List ℕ → Type 0) (Why : Point → Stop → List ℕ → Type 0) (MayLack : Point → Stop → Type 0)
+    where
+      -- the reply of all steps: what is told of refused lines, its message, and the lines that explain how the run ends
+      pub record RepliesTold (reply : Reply) : Type 0 where
+        pub plain : Reply
+        pub replies : Replies plain
+        pub before : List ℕ
+        pub tells : Tells replies.point before
+        pub why : List ℕ
+        pub explains : Why replies.point replies.stop why
+        pub told : reply ≡ explained_reply before plain why
 
-  -- Why says which lines explain how a run ends at a point, none where nothing is explained, and MayLack where an
-  -- allocation may fail in explaining it.
-  module _ (Why : Point → Stop → List ℕ → Type 0) (MayLack : Point → Stop → Type 0) where
-    -- the reply of all steps, and behind its message the lines that explain how the run ends
-    pub record RepliesTold (reply : Reply) : Type 0 where
-      pub plain : Reply
-      pub replies : Replies plain
-      pub why : List ℕ
-      pub explains : Why replies.point replies.stop why
-      pub told : reply ≡ explained_reply plain why
+      -- A run states its reply so. Where an allocation fails in explaining how it ends, its message stands whole; where
+      -- one fails before, the text of the first steps does, and what is told of them.
+      pub data ToldStates : Reply → Type 0 where
+        replied_told : (reply : Reply) → RepliesTold reply → ToldStates reply
+        unexplained : (plain : Reply) (replies : Replies plain) (told : List ℕ) → Tells replies.point told
+            → MayLack replies.point replies.stop → ToldStates (unexplained_reply told plain)
+        cut_short : (point : Point) (out told : List ℕ) (reply : Reply) → Before point out → Tells point told
+            → Replies reply → IsBeginning out reply.out → ToldStates (cut_reply told out reply.taken)
 
-    -- A run states its reply so. Where an allocation fails in explaining it, its message stands whole; where one fails
-    -- before, the text of the first steps does.
-    pub data ToldStates : Reply → Type 0 where
-      replied_told : (reply : Reply) → RepliesTold reply → ToldStates reply
-      unexplained : (plain : Reply) (replies : Replies plain) → MayLack replies.point replies.stop
-          → ToldStates (unexplained_reply plain)
-      cut_short : (point : Point) (out : List ℕ) (reply : Reply) → Before point out → Replies reply
-          → IsBeginning out reply.out → ToldStates (without_memory out reply.taken)
+      -- something stated that begins with the text, where no fewer bytes are taken
+      pub record BeginsTold (least : ℕ) (text : List ℕ) : Type 0 where
+        pub reply : Reply
+        pub states : ToldStates reply
+        pub front : IsBeginning text reply.out
+        pub taken : least ≤ reply.taken
 
-    -- how a run ends there, with what explains it, or for want of memory
-    abbrev pub EndsTold : Point → List ℕ → Ending → Type 0
-    EndsTold point last (Plain stop) = ((stop ≡ NoMemory) × (last ≡ [])) ⊎ (Ends point last stop × Why point stop [])
-    EndsTold point last (Explained stop why) = Ends point last stop × Why point stop why.items
-    EndsTold point last (Unexplained stop) = Ends point last stop × MayLack point stop
+      -- memory is refused there, before anything is written last
+      pub record IsCutThere (last : List ℕ) (stop : Stop) (why : List ℕ) : Type 0 where
+        pub refused : stop ≡ NoMemory
+        pub nothing : last ≡ []
+        pub unexplained : why ≡ []
 
-    -- after so many bytes were taken: the text of steps and of a last one, after which the run ends so; or a beginning
-    -- of the text that a reply begins with
-    abbrev pub HasToldRun : ℕ → Option (List ℕ) → Option (List ℕ) → Result Ending WriteFault → Type 0
-    HasToldRun taken old new (Ok ending) = (point : Point) × (text last : List ℕ) × Before point text
-        × Appends old new (text ++ last) × (taken ≡ taken_at point) × EndsTold point last ending
-    HasToldRun taken old new (Err fault) = (text : List ℕ) × Begins taken text × AppendsPart old new text
+      -- how a run ends there, with what explains it, or for want of memory
+      abbrev pub EndsTold : Point → List ℕ → Ending → Type 0
+      EndsTold point last (Plain stop) = Tells point []
+          × (IsCutThere last stop [] ⊎ (Ends point last stop × Why point stop []))
+      EndsTold point last (Explained told stop why) = Tells point (refusals_text told)
+          × (IsCutThere last stop why.items ⊎ (Ends point last stop × Why point stop why.items))
+      EndsTold point last (Unexplained told stop) = Tells point (refusals_text told) × Ends point last stop
+          × MayLack point stop
+
+      -- after so many bytes were taken: the text of steps and of a last one, after which the run ends so; or
+      -- a beginning of the text that something stated begins with
+      abbrev pub HasToldRun : ℕ → Option (List ℕ) → Option (List ℕ) → Result Ending WriteFault → Type 0
+      HasToldRun taken old new (Ok ending) = (point : Point) × (text last : List ℕ) × Before point text
+          × Appends old new (text ++ last) × (taken ≡ taken_at point) × EndsTold point last ending
+      HasToldRun taken old new (Err fault) = (text : List ℕ) × BeginsTold taken text × AppendsPart old new text

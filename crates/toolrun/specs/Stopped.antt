@@ -3,13 +3,12 @@ use Rattle.std.specs.Prelude.{◌≡◌, ◌≢◌, ℕ, ◌≤◌, List, length
 use Rattle.std.specs.Io.KnownBytes.{Appends, Consumes}
 use Rattle.ruletable.specs.Writing.{AppendsPart, Flags, IsProperBeginning}
 use Rattle.ruletable.specs.declared.sink.WriteFault.{WriteFault}
-use Rattle.toolrun.specs.RunEnd.{ended_status, ended_text, plainly}
+use Rattle.toolrun.specs.RunEnd.{ended_status, ended_text, plainly, stop_of}
 use Rattle.toolrun.specs.Input.{Input, input_from}
 use Rattle.toolrun.specs.Reply.{Reply}
 use Rattle.toolrun.specs.Status.{code_of}
 use Rattle.toolrun.specs.Stream.{Stream}
 use Rattle.toolrun.specs.declared.ending.Ending.{Ending}
-use Rattle.toolrun.specs.declared.ending.Ending.TheVariants.{Plain}
 use Rattle.toolrun.specs.declared.status.Status.TheVariants.{Done}
 use Rattle.toolrun.specs.declared.stop.Stop.{Stop}
 use Rattle.toolrun.specs.declared.stop.Stop.TheVariants.{NoMemory, Quiet}
@@ -32,7 +31,7 @@ pub record EndedAs (States : Reply → Type 0) (taken : List ℕ) (ending : Resu
   pub states : States stated
   pub written : IsWritten ending stated wrote
   pub within : length taken ≤ stated.taken
-  pub exact : IfOk ending (λ e. e ≢ Plain NoMemory → length taken ≡ stated.taken)
+  pub exact : IfOk ending (λ e. stop_of e ≢ NoMemory → length taken ≡ stated.taken)
 
 -- Where the reader tells its bytes, the run ended as one that states this.
 pub record Fulfils (Does : Input → Reply → Type 0) (reader out : Stream) (ending : Result Ending WriteFault) : Type

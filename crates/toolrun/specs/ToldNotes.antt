@@ -1,4 +1,4 @@
--- What is told of notes: their lines, and behind each those that explain it.
+-- What is told of notes: their lines, and behind each those that explain it; and behind all of them hints.
 use Rattle.std.specs.Prelude.{◌≡◌, ℕ, true, List, [], ◌∷◌, ◌++◌, Option, option_copied, Result, Err}
 use Rattle.ruletable.specs.Notes.{Said, note_text}
 use Rattle.toolrun.specs.Explained.{Explained}
@@ -29,6 +29,15 @@ WhyNoted settings Why note why = Explained settings (Why (option_copied settings
 abbrev pub ToldNotes : Settings → (Option (List ℕ) → Said → List ℕ → Type 0) → List Said → List ℕ → Type 0
 ToldNotes settings Why = AreNotesTold (WhyNoted settings Why)
 
+-- all notes, and behind them hints, if explanations are asked for
+pub record HintedNotes (settings : Settings) (Why : Option (List ℕ) → Said → List ℕ → Type 0)
+    (AreHints : List ℕ → Type 0) (notes : List Said) (text : List ℕ) : Type 0 where
+  pub first : List ℕ
+  pub are_told : ToldNotes settings Why notes first
+  pub hints : List ℕ
+  pub are_hints : Explained settings AreHints hints
+  pub all : text ≡ first ++ hints
+
 -- the first of them, where an allocation fails in explaining them
 pub record CutNotes (settings : Settings) (Why : Option (List ℕ) → Said → List ℕ → Type 0) (notes : List Said)
     (text : List ℕ) : Type 0 where
@@ -40,8 +49,25 @@ abbrev pub IsToldOf : (Said → List ℕ → Type 0) → List Said → Told → 
 IsToldOf Why notes (Whole text) = AreNotesTold Why notes text.items
 IsToldOf Why notes (Part text) = AreNotesBegun Why notes text.items
 
--- all notes are told before a task, or the first ones before the run stops for want of memory
-pub data AreToldBefore {T : Type 0} (settings : Settings) (Why : Option (List ℕ) → Said → List ℕ → Type 0)
-    (notes : List Said) (text : List ℕ) (task : Result T Stop) : Result T Stop → Type 0 where
-  told_whole : ToldNotes settings Why notes text → AreToldBefore settings Why notes text task task
-  told_part : CutNotes settings Why notes text → AreToldBefore settings Why notes text task (Err NoMemory)
+-- what the code tells of notes, with hints behind them
+abbrev pub IsHintedOf : (Said → List ℕ → Type 0) → (List ℕ → Type 0) → List Said → Told → Type 0
+IsHintedOf Why AreHints notes (Whole text) = (first hints : List ℕ) × AreNotesTold Why notes first × AreHints hints
+    × (text.items ≡ first ++ hints)
+IsHintedOf Why AreHints notes (Part text) = AreNotesBegun Why notes text.items
+
+-- all notes are told so before a task, or the first ones before the run stops for want of memory
+pub data AreBefore {T : Type 0} (IsTold IsCut : List ℕ → Type 0) (text : List ℕ) (task : Result T Stop)
+    : Result T Stop → Type 0 where
+  told_whole : IsTold text → AreBefore IsTold IsCut text task task
+  told_part : IsCut text → AreBefore IsTold IsCut text task (Err NoMemory)
+
+-- the notes are told before a task
+abbrev pub AreToldBefore : {T : Type 0} → Settings → (Option (List ℕ) → Said → List ℕ → Type 0) → List Said → List ℕ
+    → Result T Stop → Result T Stop → Type 0
+AreToldBefore settings Why notes = AreBefore (ToldNotes settings Why notes) (CutNotes settings Why notes)
+
+-- the notes and hints are told before a task
+abbrev pub AreHintedBefore : {T : Type 0} → Settings → (Option (List ℕ) → Said → List ℕ → Type 0)
+    → (List ℕ → Type 0) → List Said → List ℕ → Result T Stop → Result T Stop → Type 0
+AreHintedBefore settings Why AreHints notes = AreBefore (HintedNotes settings Why AreHints notes)
+    (CutNotes settings Why notes)

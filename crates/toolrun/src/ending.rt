@@ -1,22 +1,52 @@
-//! How a run ends: a stop, and what explains it.
-ghost use Rattle.std.specs.Prelude.{◌≡◌, ◌++◌, false};
+//! How a run ends: what was told of refused lines, a stop, and what explains it.
+ghost use Rattle.std.specs.Prelude.{◌≡◌, ◌++◌, [], false};
 ghost use Rattle.ruletable.specs.Writing.{Flags, Writes};
-ghost use Rattle.toolrun.specs.RunEnd.{ended_status, ended_text, plainly};
+ghost use Rattle.toolrun.specs.RunEnd.{ended_status, ended_text, more_refused, plainly, refusals_text};
 ghost use Rattle.toolrun.specs.Stop.{message_of};
 
 use crate::status::Status;
 use crate::stop::{Stop, status, write_stop};
-use ruletable::{Sink, WriteFault, write_whole};
+use itoa::Buffer;
+use ruletable::{Sink, WriteFault, write_pieces, write_whole};
+use std::alloc::Global;
+
+/// What is told of refused lines.
+#[derive(Drop)]
+pub struct ToldRefusals {
+    /// The lines that explain the first ones.
+    pub text: Vec<u8>,
+    /// How many more there are.
+    pub more: usize,
+}
+
+impl ToldRefusals {
+    /// Returns what is told where no line is refused.
+    pub fn none(alloc: Global) -> ToldRefusals
+        ensures { refusals_text result ≡ [] }
+    {
+        ToldRefusals {
+            text: Vec::new(alloc),
+            more: 0,
+        }
+    }
+}
 
 /// How a run ends.
 #[derive(Drop)]
 pub enum Ending {
     /// It stops so, and nothing more is told.
     Plain(Stop),
-    /// It stops so, and these lines explain it.
-    Explained { stop: Stop, why: Vec<u8> },
-    /// It stops so, and an allocation failed in explaining that.
-    Unexplained(Stop),
+    /// Refused lines are told first; it stops so, and these lines explain that.
+    Explained {
+        told: ToldRefusals,
+        stop: Stop,
+        why: Vec<u8>,
+    },
+    /// Refused lines are told first; it stops so, and an allocation failed in explaining that.
+    Unexplained {
+        told: ToldRefusals,
+        stop: Stop,
+    },
 }
 
 /// Returns how a run ends that stopped so, where nothing explains it.
@@ -36,7 +66,34 @@ pub fn ending_status(ending: &Ending) -> Status
     match ending {
         Ending::Plain(stop) => status(*stop),
         Ending::Explained { stop, .. } => status(*stop),
-        Ending::Unexplained(_) => Status::NoMemory,
+        Ending::Unexplained { .. } => Status::NoMemory,
+    }
+}
+
+/// Writes how many more lines were refused, if some were.
+fn write_more<W: Sink>(more: usize, w: &mut W) -> Result<(), WriteFault>
+    requires { W.failed w.old ≡ false }
+    ensures bytes { Writes (W.contents w.old) (W.contents w.new) (more_refused more) result }
+    ensures flag { Flags (W.failed w.old) (W.failed w.new) result }
+{
+    if more == 0 {
+        return Ok(());
+    }
+    let mut digits = Buffer::new();
+    let count = digits.format(more).as_bytes();
+    let pieces: [&[u8]; 3] = [b"more refused lines: ", count, b"\n"];
+    write_pieces(w, &pieces)
+}
+
+/// Writes what is told of refused lines.
+fn write_refusals<W: Sink>(told: &ToldRefusals, w: &mut W) -> Result<(), WriteFault>
+    requires { W.failed w.old ≡ false }
+    ensures bytes { Writes (W.contents w.old) (W.contents w.new) (refusals_text told.now) result }
+    ensures flag { Flags (W.failed w.old) (W.failed w.new) result }
+{
+    match write_whole(w, told.text.as_slice()) {
+        Ok(()) => write_more(told.more, w),
+        Err(fault) => Err(fault),
     }
 }
 
@@ -52,7 +109,26 @@ fn write_behind<W: Sink>(stop: Stop, more: &[u8], w: &mut W) -> Result<(), Write
     }
 }
 
-/// Writes the line of a stop, and behind it the lines that explain it, or that memory was wanting for them.
+/// Writes what is told of refused lines, the line of a stop, and more behind it.
+fn write_told<W: Sink>(
+    told: &ToldRefusals,
+    stop: Stop,
+    more: &[u8],
+    w: &mut W,
+) -> Result<(), WriteFault>
+    requires { W.failed w.old ≡ false }
+    ensures bytes { Writes (W.contents w.old) (W.contents w.new) (refusals_text told.now
+        ++ (message_of stop ++ more.now)) result }
+    ensures flag { Flags (W.failed w.old) (W.failed w.new) result }
+{
+    match write_refusals(told, w) {
+        Ok(()) => write_behind(stop, more, w),
+        Err(fault) => Err(fault),
+    }
+}
+
+/// Writes what is told of refused lines, the line of a stop, and behind it the lines that explain it, or that memory
+/// was wanting for them.
 pub fn write_ending<W: Sink>(ending: &Ending, w: &mut W) -> Result<(), WriteFault>
     requires { W.failed w.old ≡ false }
     ensures bytes { Writes (W.contents w.old) (W.contents w.new) (ended_text ending.now) result }
@@ -60,7 +136,7 @@ pub fn write_ending<W: Sink>(ending: &Ending, w: &mut W) -> Result<(), WriteFaul
 {
     match ending {
         Ending::Plain(stop) => write_stop(*stop, w),
-        Ending::Explained { stop, why } => write_behind(*stop, why.as_slice(), w),
-        Ending::Unexplained(stop) => write_behind(*stop, b"out of memory\n", w),
+        Ending::Explained { told, stop, why } => write_told(told, *stop, why.as_slice(), w),
+        Ending::Unexplained { told, stop } => write_told(told, *stop, b"out of memory\n", w),
     }
 }

@@ -51,6 +51,9 @@ pub trait Language {
     /// What explains a note on the grammar of a text, where a name is given for the start rule: the lines behind it.
     ghost explains_note: { List ℕ → Option (List ℕ) → Said → List ℕ → Type 0 };
 
+    /// What else there is to say of the grammar of a text, as settings ask: its hints.
+    ghost are_hints: { List ℕ → AllSettings → List ℕ → Type 0 };
+
     /// What a text is read as.
     ghost is_read: { List ℕ → Self.Grammar → Type 0 };
 
@@ -90,6 +93,16 @@ pub trait Language {
         ensures { IfOk result (λ why. (text : List ℕ) → are_places text (option_copied start.entry) places.now
             → explains_note text (option_copied start.entry) (said_of note.now) why.items) };
 
+    /// Returns the hints on a grammar. `Memory` if an allocation fails.
+    fn hints(
+        alloc: Global,
+        places: &Self::Places,
+        settings: &Settings<'_>,
+    ) -> Result<Vec<u8>, Memory>
+        ensures { IfOk result (λ told. (text : List ℕ)
+            → are_places text (option_copied settings.now.start) places.now
+            → are_hints text settings.now told.items) };
+
     /// Checks a grammar, and notes what there is to say of it. `Memory` if an allocation fails.
     fn check(
         alloc: Global,
@@ -126,5 +139,6 @@ pub trait Language {
 
     /// Says that what is stated follows from what is read, checked, printed and run. It does nothing.
     fn follows()
-        ensures { AreStated states has_fault explains explains_note is_read is_checked is_printable canonical runs };
+        ensures { AreStated states has_fault explains explains_note are_hints is_read is_checked is_printable canonical
+            runs };
 }

@@ -14,7 +14,7 @@ mod stop;
 mod told;
 mod tool;
 
-pub use ending::{Ending, plain_ending};
+pub use ending::{Ending, ToldRefusals, plain_ending};
 pub use finish::{close as close_run, conclude as conclude_run, finish as end_run};
 pub use first::write_first;
 pub use language::{Checked, Language};
@@ -23,5 +23,5 @@ pub use plan::{First, Plan, Task, plan_of};
 pub use settings::{DEFAULT_LIMIT, MAX_LIMIT, Mode, Settings};
 pub use status::Status;
 pub use stop::Stop;
-pub use told::{Told, told_notes};
+pub use told::{Told, told_hints, told_notes};
 pub use tool::{act as act_on, run_tool};

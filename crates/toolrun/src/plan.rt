@@ -4,14 +4,14 @@ ghost use Rattle.ruletable.specs.Notes.{said_of};
 ghost use Rattle.toolrun.specs.Plan.{Behind, IsPlan, does_of, first_text};
 ghost use Rattle.toolrun.specs.Stop.{unread};
 ghost use Rattle.toolrun.specs.Tasks.{checked_task, task_does};
-ghost use Rattle.toolrun.specs.ToldNotes.{AreToldBefore};
+ghost use Rattle.toolrun.specs.ToldNotes.{AreHintedBefore, AreToldBefore};
 ghost use Rattle.toolrun.specs.declared.settings.Mode.TheVariants.{Print};
 
 use crate::language::{Checked, Language};
 use crate::settings::{Mode, Settings};
 use crate::status::Status;
 use crate::stop::{Stop, stop_unread};
-use crate::told::{Told, told_notes};
+use crate::told::{Told, told_hints, told_notes};
 use ruletable::{Memory, Note, ReadFault};
 use std::alloc::Global;
 
@@ -185,6 +185,36 @@ fn plan_noted<L: Language>(
     }
 }
 
+/// Returns the plan that tells notes and hints before a task, the notes each explained, if explanations are asked for;
+/// else the notes alone. Where an allocation fails in that, the run stops behind the notes before.
+fn plan_hinted<L: Language>(
+    alloc: Global,
+    text: &[u8],
+    settings: &Settings<'_>,
+    notes: Vec<Note>,
+    task: Result<Task<L::Grammar, L::Sound>, Stop>,
+) -> Plan<L::Grammar, L::Sound>
+    ensures { AreHintedBefore settings.now (L.explains_note text.now) (L.are_hints text.now settings.now)
+        (map said_of notes.items) (first_text result.first) task result.task }
+{
+    if !settings.explain {
+        return Plan {
+            first: First::Notes(notes),
+            task,
+        };
+    }
+    match told_hints::<L>(alloc, text, settings, notes.as_slice()) {
+        Told::Whole(told) => Plan {
+            first: First::Told(told),
+            task,
+        },
+        Told::Part(told) => Plan {
+            first: First::Told(told),
+            task: Err(Stop::NoMemory),
+        },
+    }
+}
+
 /// Reads and checks a grammar's text that is to be run, or to be checked alone.
 fn plan_checked<L: Language>(
     alloc: Global,
@@ -199,7 +229,7 @@ fn plan_checked<L: Language>(
     match checked::<L>(alloc, text, settings.start) {
         Ok(Checked { notes, sound }) => {
             let task = task_of(settings.mode, sound);
-            plan_noted::<L>(alloc, text, settings, notes, task)
+            plan_hinted::<L>(alloc, text, settings, notes, task)
         }
         Err(fault) => plan_fault::<L>(alloc, text, settings, fault),
     }

@@ -1,10 +1,11 @@
 //! Notes with what explains them.
 ghost use Rattle.std.specs.Prelude.{◌≡◌, ◌++◌, ℕ, List, map, option_copied, OnOk, OnErr};
 ghost use Rattle.ruletable.specs.Notes.{note_text, said_of};
-ghost use Rattle.toolrun.specs.ToldNotes.{IsToldOf};
+ghost use Rattle.toolrun.specs.ToldNotes.{IsHintedOf, IsToldOf};
 
 use crate::language::Language;
 use crate::notes::line_of;
+use crate::settings::Settings;
 use ruletable::{Memory, Note};
 use std::alloc::Global;
 
@@ -46,6 +47,31 @@ fn push_why<L: Language>(
     Ok(())
 }
 
+/// Returns notes, each with the lines that explain it by places. Where an allocation fails, the first of them, the last
+/// perhaps without.
+fn told_by<L: Language>(
+    alloc: Global,
+    places: &L::Places,
+    start: Option<&str>,
+    notes: &[Note],
+) -> Told
+    ensures { (text : List ℕ) → L.are_places text (option_copied start.entry) places.now
+        → IsToldOf (L.explains_note text (option_copied start.entry)) (map said_of notes.now) result }
+{
+    let mut told = Vec::new(alloc);
+    for note in notes {
+        match push_note(alloc, note, &mut told) {
+            Ok(()) => {}
+            Err(Memory) => return Told::Part(told),
+        }
+        match push_why::<L>(alloc, places, start, note, &mut told) {
+            Ok(()) => {}
+            Err(Memory) => return Told::Part(told),
+        }
+    }
+    Told::Whole(told)
+}
+
 /// Returns the notes on the grammar of a text, each with the lines that explain it. Where an allocation fails, the
 /// first of them, the last perhaps without.
 pub fn told_notes<L: Language>(
@@ -56,23 +82,53 @@ pub fn told_notes<L: Language>(
 ) -> Told
     ensures { IsToldOf (L.explains_note text.now (option_copied start.entry)) (map said_of notes.now) result }
 {
-    let mut told = Vec::new(alloc);
     if notes.is_empty() {
-        return Told::Whole(told);
+        return Told::Whole(Vec::new(alloc));
     }
-    let places = match L::places(alloc, text, start) {
-        Ok(places) => places,
-        Err(Memory) => return Told::Part(told),
+    match L::places(alloc, text, start) {
+        Ok(places) => told_by::<L>(alloc, &places, start, notes),
+        Err(Memory) => Told::Part(Vec::new(alloc)),
+    }
+}
+
+/// Adds the hints on a grammar, or nothing if an allocation fails.
+fn push_hints<L: Language>(
+    alloc: Global,
+    places: &L::Places,
+    settings: &Settings<'_>,
+    told: &mut Vec<u8>,
+) -> Result<(), Memory>
+    ensures ok { OnOk result ((text : List ℕ) → L.are_places text (option_copied settings.now.start) places.now
+        → (hints : List ℕ) × L.are_hints text settings.now hints × (told.new.items ≡ told.old.items ++ hints)) }
+    ensures err { OnErr result (told.new.items ≡ told.old.items) }
+{
+    let hints = L::hints(alloc, places, settings)?;
+    told.extend_from_slice(hints.as_slice())?;
+    Ok(())
+}
+
+/// Returns the notes on the grammar of a text, each with the lines that explain it, and behind them its hints. Where an
+/// allocation fails, the first notes, the last perhaps without.
+pub fn told_hints<L: Language>(
+    alloc: Global,
+    text: &[u8],
+    settings: &Settings<'_>,
+    notes: &[Note],
+) -> Told
+    ensures { IsHintedOf (L.explains_note text.now (option_copied settings.now.start))
+        (L.are_hints text.now settings.now) (map said_of notes.now) result }
+{
+    let Ok(places) = L::places(alloc, text, settings.start) else {
+        return Told::Part(Vec::new(alloc));
     };
-    for note in notes {
-        match push_note(alloc, note, &mut told) {
-            Ok(()) => {}
-            Err(Memory) => return Told::Part(told),
-        }
-        match push_why::<L>(alloc, &places, start, note, &mut told) {
-            Ok(()) => {}
-            Err(Memory) => return Told::Part(told),
+    match told_by::<L>(alloc, &places, settings.start, notes) {
+        Told::Part(told) => Told::Part(told),
+        Told::Whole(told) => {
+            let mut told = told;
+            match push_hints::<L>(alloc, &places, settings, &mut told) {
+                Ok(()) => Told::Whole(told),
+                Err(Memory) => Told::Part(told),
+            }
         }
     }
-    Told::Whole(told)
 }

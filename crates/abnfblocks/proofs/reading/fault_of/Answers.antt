@@ -1,14 +1,8 @@
 use Rattle.std.proofs.Common.{ℕ, List, ◌∙◌, subst}
 use Rattle.abnfread.specs.AbnfReading.{Reads}
-use Rattle.abnfblocks.proofs.PieceLemmas.{fault-told}
 use Rattle.abnfblocks.proofs.reading.fault_of.Goals as goal
 
 pub returns-in-Ok : goal.returns-in-Ok
 returns-in-Ok c =
     let found = c.in-Ok.ensures.found in
     (found.0, subst (λ (text : List ℕ). Reads text found.0) (c.deref.ensures.value ∙ c.in_ok-text.ensures) found.1)
-
-pub returns : goal.returns
-returns c = fault-told c.deref.result.now _ c.in-Err.fault c.in_ok-told-in-Err.told
-    (c.deref.ensures.value ∙ c.in_ok-text.ensures) c.in_ok-told-in-Err.ensures.0 c.in_ok-told-in-Err.ensures.1
-    c.in-Err.ensures.fault

@@ -1,4 +1,4 @@
-use Rattle.abnfrun.specs.AbnfReply.{AnswersFor, form_of}
+use Rattle.abnfrun.specs.AbnfReply.{AnswersFor, RefusalFor, form_of}
 use Rattle.abnfrun.proofs.IsAnswerToLemmas.{one_answer}
 use Rattle.abnfrun.proofs.laws.one_reply_of_abnf.Goals as goal
 use Rattle.lines.proofs.LinesReplyLemmas.{one_lines_reply}
@@ -7,4 +7,5 @@ pub returns : goal.returns
 returns c = λ rules judged settings input a b.
     one_lines_reply (AnswersFor rules judged settings)
     (λ line. one_answer c.utf8_is_decided.ensures.one c.furthest_is_found.ensures.one settings.letters rules judged line
-    settings.viable) (form_of settings) input a b
+    settings.viable) (form_of settings) input settings.explain (RefusalFor rules judged settings)
+    (c.refusal_is_one.ensures settings.letters rules judged) a b

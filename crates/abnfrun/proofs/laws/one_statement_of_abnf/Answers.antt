@@ -1,4 +1,5 @@
 use Rattle.abnfrun.proofs.AbnfExplainedNotesLemmas.{explanation_is_one}
+use Rattle.abnfrun.proofs.AbnfTextHintsLemmas.{text_hints_are_one}
 use Rattle.abnfrun.proofs.AbnfStatesLemmas.{one_statement, long_is_told}
 use Rattle.abnfrun.proofs.laws.one_statement_of_abnf.Goals as goal
 
@@ -15,7 +16,8 @@ pub returns-clause-whole : goal.returns-clause-whole
 returns-clause-whole c = one_statement c.one_explanation_of_abnf.ensures
     (explanation_is_one c.one_note_explanation_of_abnf.ensures c.one_reading.ensures.definitions
     c.one_name_chain.ensures)
-    c.utf8_is_decided.ensures.one c.furthest_is_found.ensures.one
+    (text_hints_are_one c.one_reading.ensures.definitions c.one_text_of_abnf_hints.ensures)
+    c.utf8_is_decided.ensures.one c.furthest_is_found.ensures.one c.refusal_is_one.ensures
 
 pub returns-clause-long : goal.returns-clause-long
 returns-clause-long c = long_is_told

@@ -1,4 +1,4 @@
-use Rattle.std.proofs.Common.{◌≡◌, ◌++◌, sym, Some, None}
+use Rattle.std.proofs.Common.{sym, Some, None}
 use Rattle.std.proofs.lemmas.List.{append-nil}
 use Rattle.ruletable.specs.Rules.{names_of}
 use Rattle.abnfcheck.specs.NameChains.{names_at}

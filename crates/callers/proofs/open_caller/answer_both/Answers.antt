@@ -1,15 +1,16 @@
 -- The law of open grammars, for each line.
-use Rattle.std.proofs.Common.{◌≤◌, ℕ, List, Some, length}
+use Rattle.std.proofs.Common.{◌≤◌, ℕ, List, [], Some, length, refl}
 use Rattle.abnfrun.specs.AbnfExplainedNotes.{ExplainsAbnfNote}
 use Rattle.abnfread.specs.AbnfViews.{rules_of}
 use Rattle.abnfrun.proofs.OpenAbnfLemmas.{open_states}
 use Rattle.abnfrun.specs.AbnfReply.{IsAnswerTo}
+use Rattle.abnfrun.specs.AbnfTextHints.{AreTextHints}
 use Rattle.abnfrun.specs.OpenAbnf.{IsOpened}
 use Rattle.abnfrun.specs.OpenJudge.{OpenJudge}
 use Rattle.callers.specs.AnswersAlone.{AnswersAlone}
 use Rattle.lines.specs.declared.answers.Answer.{Answer}
 use Rattle.ruletable.specs.Notes.{Said}
-use Rattle.toolrun.proofs.ToldNotesLemmas.{told-plain}
+use Rattle.toolrun.proofs.ToldNotesLemmas.{hinted-plain}
 use Rattle.toolrun.specs.NotesText.{notes_text}
 use Rattle.toolrun.specs.declared.settings.Settings.{Settings}
 use Rattle.callers.proofs.open_caller.answer_both.Goals as goal
@@ -25,8 +26,9 @@ module _ (text : List ℕ) (settings : Settings) (notes : List Said) (judge : Op
     answers_alone : AnswersAlone text settings line said
     answers_alone = λ run plain one. (
       notes_text notes,
-      open_states text line settings notes (notes_text notes) judge said run is
-          (told-plain settings (ExplainsAbnfNote text) plain notes) one line_is_within answers,
+      open_states text line settings notes (notes_text notes) judge said [] run is
+          (hinted-plain settings (ExplainsAbnfNote text) (AreTextHints text settings) plain notes) one line_is_within
+          answers (rw plain refl),
     )
 
 pub returns-clause-first : goal.returns-clause-first

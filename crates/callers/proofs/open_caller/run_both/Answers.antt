@@ -5,12 +5,13 @@ use Rattle.callers.specs.RunsAlone.{RunsAlone}
 use Rattle.memoryrun.specs.PlannedRun.{IsPlannedRun}
 use Rattle.memoryrun.specs.declared.outputs.Outputs.{Outputs}
 use Rattle.pegexplain.specs.PegNotes.{ExplainsNote}
+use Rattle.peghints.specs.PegHints.{ArePegHints}
 use Rattle.pegread.specs.PegViews.{rules_of}
 use Rattle.pegrun.proofs.OpenPegLemmas.{open_peg_states}
 use Rattle.pegrun.specs.OpenPeg.{IsPegOpened}
 use Rattle.pegrun.specs.PegReply.{RunStates}
 use Rattle.ruletable.specs.Notes.{Said}
-use Rattle.toolrun.proofs.ToldNotesLemmas.{told-plain}
+use Rattle.toolrun.proofs.ToldNotesLemmas.{hinted-plain}
 use Rattle.toolrun.specs.NotesText.{notes_text}
 use Rattle.toolrun.specs.Status.{code_of}
 use Rattle.toolrun.specs.declared.settings.Settings.{Settings}
@@ -27,7 +28,7 @@ module _ (text : List ℕ) (settings : Settings) (notes : List Said) (grammar : 
       notes = notes_text notes;
       stated = ran.stated;
       states = open_peg_states text settings _ notes (notes_text notes) grammar ran.stated run is
-          (told-plain settings (ExplainsNote text) plain notes) ran.does;
+          (hinted-plain settings (ExplainsNote text) (ArePegHints text) plain notes) ran.does;
       whole = λ low. let both = ran.whole low in (both.0, ap (λ err. notes_text notes ++ err) both.1, both.2);
       part = ran.part;
     },

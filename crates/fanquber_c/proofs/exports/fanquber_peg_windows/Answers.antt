@@ -1,7 +1,7 @@
 -- The runs of the windows, behind what is told once.
 use Rattle.pegrun.specs.Answers.{States}
 use Rattle.fanquber_c.specs.WindowsRun.{all_ran}
-use Rattle.fanquber_c.proofs.FrontTextLemmas.{front_is_memory, front_stands_first}
+use Rattle.fanquber_c.proofs.FrontTextLemmas.{front_is_behind, front_stands_first}
 use Rattle.fanquber_c.proofs.WindowRunsLemmas.{runs_told}
 use Rattle.toolrun.specs.Plan.{first_text}
 use Rattle.fanquber_c.proofs.exports.fanquber_peg_windows.Goals as goal
@@ -17,6 +17,6 @@ returns c =
     all_ran settings told c.run_windows-texts.result.out.items ran.0 c.in-Some.ensures
     (front_stands_first states _ (first_text plan.first) plan.task front.plan.task told c.front_of-front.ensures
     c.plan_of.ensures)
-    (runs_told _ _ c.args.input.now (front_is_memory states _ (first_text plan.first) plan.task front.plan.task told
+    (runs_told _ _ c.args.input.now (front_is_behind states _ (first_text plan.first) plan.task front.plan.task told
     c.front_of-front.ensures c.plan_of.ensures) c.args.windows.now _ _ _ ran.1)
     c.hand_out.ensures.out (rw ran.2 at c.hand_out.ensures.err) c.hand_out.ensures.status

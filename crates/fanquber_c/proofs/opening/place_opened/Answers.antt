@@ -1,14 +1,14 @@
 -- The notes are told, and the judge stands in the place; or an allocation failed.
 use Rattle.std.proofs.Common.{map}
 use Rattle.fanquber_c.specs.OpenCall.{opens, refuses}
-use Rattle.fanquber_c.proofs.OpenCallLemmas.{tells_nothing}
+use Rattle.fanquber_c.proofs.OpenCallLemmas.{opens_nothing}
 use Rattle.fanquber_c.proofs.opening.place_opened.Goals as goal
 use Rattle.ruletable.specs.Notes.{said_of}
 
 pub returns-in_default : goal.returns-in_default
 returns-in_default c =
-    tells_nothing c.args.grammar.now c.args.settings.now c.told_nothing.result.text.items c.args.place.now.judge.held
-    c.told_nothing.result.status c.told_nothing.ensures.text c.requires.empty c.told_nothing.ensures.status
+    opens_nothing c.args.place.now.judge.held c.requires.empty c.told_nothing.result.text.items
+    c.told_nothing.result.status c.told_nothing.ensures.text c.told_nothing.ensures.status
 
 pub returns-in_default-judge : goal.returns-in_default-judge
 returns-in_default-judge c =
@@ -23,6 +23,5 @@ returns-in-Ok-new c =
 
 pub returns-in-Err : goal.returns-in-Err
 returns-in-Err c =
-    tells_nothing c.args.grammar.now c.args.settings.now c.told_nothing-in-Err.result.text.items
-    c.args.place.now.judge.held c.told_nothing-in-Err.result.status c.told_nothing-in-Err.ensures.text
-    c.requires.empty c.told_nothing-in-Err.ensures.status
+    opens_nothing c.args.place.now.judge.held c.requires.empty c.told_nothing-in-Err.result.text.items
+    c.told_nothing-in-Err.result.status c.told_nothing-in-Err.ensures.text c.told_nothing-in-Err.ensures.status

@@ -1,12 +1,14 @@
 -- One more line, or the end.
-use Rattle.std.proofs.Common.{ℕ, [], ◌+◌, ◌++◌, ◌≤◌, ◌∙◌, length, take, refl, ap, rules, arith, length-append}
+use Rattle.std.proofs.Common.{ℕ, [], ◌++◌, ◌≤◌, ◌<◌, ◌∙◌, length, take, refl, ap, rules, arith, length-append}
 use Rattle.std.proofs.Common.{length-drop}
 use Rattle.ruletable.proofs.AppendsLemmas.{Appends-same}
 use Rattle.feed.specs.Feed.{bytes_of}
 use Rattle.feed.proofs.GrowsLemmas.{Consumes-same}
 use Rattle.toolrun.proofs.AgreesLemmas.{agrees_earlier, seen_more, slides-bytes, slides-len}
 use Rattle.lines.specs.InputLines.{none}
+use Rattle.lines.specs.LineRefusals.{none_told}
 use Rattle.lines.proofs.LineRunLemmas.{one_more_line, stops_there, fails_there}
+use Rattle.lines.proofs.LinesLemmas.{refused_by-one}
 use Rattle.lines.proofs.NextLineLemmas.{held_taken}
 use Rattle.lines.proofs.line_loop.answer_lines.Goals as goal
 
@@ -14,12 +16,18 @@ pub loop-said-init : goal.loop-said-init
 loop-said-init g c = record {
   capacity = c.requires.capacity;
   counted = omega arith;
+  refused = omega arith;
   within = let l = ap length c.requires.empty in omega (arith, l, c.requires.allowance);
   told = c.requires.told;
   work = c.requires.work;
   loan = refl;
   flag = refl;
-  written = ([], refl, rw c.requires.empty (Consumes-same _), λ input a. ([], none, Appends-same _));
+  written = (
+    [],
+    refl,
+    rw c.requires.empty (Consumes-same _),
+    λ input a. ([], none, rw c.new.ensures.items none_told, Appends-same _),
+  );
 }
 
 pub loop-said-preserved : goal.loop-said-preserved
@@ -27,15 +35,19 @@ loop-said-preserved g c =
     let so_far = c.loop-said.invariant.written in
     let grew = c.in-Ok-Answers.ensures.grows in
     let items = c.next_step.new.feed.ring.items in
-    let n : ℕ = c.in-Ok-Answers.len + 1 in
+    let n : ℕ = c.in-Ok-Answers.len in
     let fits = (rw c.in-Ok-Answers.field-0-is at c.in-Ok-Answers.ensures.fits) in
-    let le : n ≤ length items = omega (arith, fits) in
+    let some : 0 < n = fits.0 in
+    let le : n ≤ length items = fits.1 in
     record {
       capacity = c.skip.ensures.capacity ∙ grew.capacity ∙ c.loop-said.invariant.capacity;
-      counted = omega (arith, c.loop-said.invariant.counted);
+      counted = rw (c.behind-reached.ensures, c.in-Ok-Answers.ensures.at)
+          (omega (arith, c.loop-said.invariant.counted, some));
+      refused = rw (c.behind-reached.ensures, c.in-Ok-Answers.ensures.at)
+          (omega (arith, c.loop-said.invariant.refused, refused_by-one c.in-Ok-Answers.said));
       within = let kept = ap length c.skip.ensures.bytes in
           let more = ap length grew.bytes in
-          omega (
+          rw (c.behind-reached.ensures, c.in-Ok-Answers.ensures.at) (omega (
             arith,
             kept,
             length-drop n items,
@@ -45,23 +57,26 @@ loop-said-preserved g c =
             length-append c.loop-said.feed.ring.items grew.more,
             c.loop-said.invariant.within,
             le,
-          );
+          ));
       told = rw (c.skip.ensures.reader, c.skip.ensures.allowance, c.skip.ensures.flow) c.in-Ok-Answers.ensures.told;
       work = c.in-Ok-Answers.ensures.work;
       loan = c.skip.ensures.loan ∙ c.in-Ok-Answers.ensures.loan ∙ c.loop-said.invariant.loan;
       flag = search rules;
       written = (
         so_far.0 ++ take n items,
-        (let e = slides-len so_far.0 items n c.loop-said.at.place so_far.1 le in omega (arith, e)),
+        rw (c.behind-reached.ensures, c.in-Ok-Answers.ensures.at)
+            (let e = slides-len so_far.0 items n c.loop-said.reached.at.place so_far.1 le in omega (arith, e)),
         rw (c.skip.ensures.reader, c.skip.ensures.bytes, slides-bytes so_far.0 items n)
             (seen_more _ _ _ grew so_far.0 _ so_far.2),
         λ input b.
             let a = rw (c.skip.ensures.bytes, slides-bytes so_far.0 items n, c.skip.ensures.flow) at b in
             let front = so_far.3 input (agrees_earlier _ _ _ grew so_far.0 input a) in
             let step = c.in-Ok-Answers.ensures.follows so_far.0 input so_far.1 a in
-            rw c.still_all.ensures (one_more_line (g.J.Judge.told c.args.judge.now) c.args.form input c.loop-said.at _
-            _ _ front.0 front.1 front.2
-            c.in-Ok-Answers.said c.in-Ok-Answers.len (rw c.in-Ok-Answers.field-0-is at step.0)),
+            rw (c.behind-reached.ensures, c.in-Ok-Answers.ensures.at) (one_more_line (g.J.Judge.told c.args.judge.now)
+            (g.J.Judge.explains c.args.judge.now) (g.J.Judge.refusal c.args.judge.now) c.args.form input
+            c.loop-said.reached.at _ _ front.0 c.loop-said.reached.told.items front.1 front.2 front.3 _
+            c.next_step.new.reached.told.items c.in-Ok-Answers.said c.in-Ok-Answers.len
+            (rw c.in-Ok-Answers.field-0-is at step.0)),
       );
     }
 
@@ -91,9 +106,12 @@ returns-in-Ok-Stops-clause-lines g c =
           let then_ = agrees_earlier _ _ _ more so_far.0 input a in
           let front = so_far.3 input (agrees_earlier _ _ _ grew so_far.0 input then_) in
           let step = c.in-Ok-Stops.ensures.follows so_far.0 input so_far.1 then_ in
-          stops_there (g.J.Judge.told c.args.judge.now) c.args.form input c.loop-said.at _ _ _ front.0 front.1 front.2
-          (length (so_far.0 ++ bytes_of feed))
-          c.in-Ok-Stops.stop (rw c.in-Ok-Stops.field-0-is at step.0)
+          stops_there (g.J.Judge.told c.args.judge.now) (g.J.Judge.explains c.args.judge.now)
+          (g.J.Judge.refusal c.args.judge.now) c.args.form input c.loop-said.reached.at _ _ front.0
+          c.loop-said.reached.told.items front.1 front.2 front.3 _ c.next_step.new.reached.told.items
+          (length (so_far.0 ++ bytes_of feed)) c.in-Ok-Stops.stop c.ending_at.result
+          (rw c.in-Ok-Stops.field-0-is at step.0) (rw c.is_explained.ensures at c.ending_at.ensures.plain)
+          (rw (c.is_explained.ensures, c.in-Ok-Stops.ensures.at) at c.ending_at.ensures.told)
           (rw so_far.1 at (held_taken feed c.args.form.end c.args.form.limit so_far.0 input
           (more.capacity ∙ grew.capacity ∙ c.loop-said.invariant.capacity) c.fill.ensures.within a c.fill.result
           c.fill.ensures.held)),
@@ -119,7 +137,8 @@ returns-in-Err-clause-lines g c =
       λ input a.
           let front = so_far.3 input (agrees_earlier _ _ _ grew so_far.0 input a) in
           let step = c.in-Err.ensures.follows so_far.0 input so_far.1 a in
-          fails_there (g.J.Judge.told c.args.judge.now) c.args.form input c.loop-said.at _ _ _ front.0 front.1 front.2
-          c.decided.ensures (length (so_far.0 ++ items))
-          c.in-Err.fault step.0 step.1,
+          fails_there (g.J.Judge.told c.args.judge.now) (g.J.Judge.explains c.args.judge.now)
+          (g.J.Judge.refusal c.args.judge.now) c.args.form input c.loop-said.reached.at _ _ front.0
+          c.loop-said.reached.told.items front.1 front.2 front.3 c.decided.ensures _
+          c.next_step.new.reached.told.items (length (so_far.0 ++ items)) c.in-Err.fault step.0 step.1,
     )

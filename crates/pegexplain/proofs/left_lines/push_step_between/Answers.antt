@@ -1,5 +1,6 @@
 use Rattle.std.proofs.Common.{◌++◌, ◌∙◌, ap}
-use Rattle.noteplaces.specs.RepeatLines.{uses_by}
+use Rattle.noteplaces.specs.MentionLines.{mention_lines_by}
+use Rattle.noteplaces.specs.declared.mentions.MentionKind.TheVariants as kinds
 use Rattle.pegexplain.specs.NullTests.{null_mark_of, nullable_by}
 use Rattle.pegexplain.proofs.LeftStepLineLemmas.{step-known}
 use Rattle.pegexplain.proofs.left_lines.push_step_between.Goals as goal
@@ -15,5 +16,5 @@ returns c =
     ) at k) in
     step ∙ ap (λ z. c.args.out.now.items ++ z) (step-known c.args.places.now.rules
     (nullable_by (null_mark_of c.args.places.now.rules c.args.places.now.nulls.items))
-    (uses_by c.args.places.now.places) c.args.from c.args.to c.name-rule.result.now c.name-name.result.now
-    c.body-body.result.now c.name-rule.ensures c.body-body.ensures c.name-name.ensures)
+    (mention_lines_by c.args.places.now.places kinds.Use) c.args.from c.args.to c.name-rule.result.now
+    c.name-name.result.now c.body-body.result.now c.name-rule.ensures c.body-body.ensures c.name-name.ensures)

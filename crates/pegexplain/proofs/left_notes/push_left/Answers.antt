@@ -1,6 +1,7 @@
 use Rattle.std.proofs.Common.{None, [], sym, ◌∙◌, append-nil, refl}
 use Rattle.noteplaces.specs.ExplainedNotes.{told_by}
-use Rattle.noteplaces.specs.RepeatLines.{uses_by}
+use Rattle.noteplaces.specs.MentionLines.{mention_lines_by}
+use Rattle.noteplaces.specs.declared.mentions.MentionKind.TheVariants as kinds
 use Rattle.pegread.specs.PegViews.{rules_of}
 use Rattle.ruletable.specs.Notes.{said}
 use Rattle.ruletable.specs.declared.note.NoteKind.TheVariants.{Unused}
@@ -21,7 +22,7 @@ returns-in_ok-push_way c = λ text are.
     let w = c.in_ok-push_way.ensures in (
       way_told (rules_of c.args.places.now.rules)
           (nullable_by (null_mark_of c.args.places.now.rules c.args.places.now.nulls.items))
-          (uses_by c.args.places.now.places) c.in-Some.id w.0,
+          (mention_lines_by c.args.places.now.places kinds.Use) c.in-Some.id w.0,
       told-way text c.args.places.now are c.args.name.now _ c.in-Some.id w.0
           (sym c.in_ok-id.ensures.found ∙ c.in-Some.is)
           (let early = c.if-is_early.ensures in sym (rw c.deref.ensures.value at early)) w.1 refl,

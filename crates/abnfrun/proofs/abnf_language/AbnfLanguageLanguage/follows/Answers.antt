@@ -1,12 +1,9 @@
 -- What is stated is what a text's grammar was read, checked, printed or run for.
-use Rattle.std.proofs.Common.{[], true}
 use Rattle.abnfread.specs.AbnfViews.{rules_of}
 use Rattle.abnfrun.specs.AbnfAnswers.{refused, unexplained, noted, checked, judges, cut_notes, again}
 use Rattle.abnfrun.specs.AbnfAnswers.{cut_again, printed, no_memory}
-use Rattle.abnfrun.specs.AbnfReply.{AnswersFor, form_of}
-use Rattle.lines.specs.InputLines.{none}
-use Rattle.lines.proofs.LinesLemmas.{lines_go_on}
-use Rattle.toolrun.specs.RunSteps.{replied}
+use Rattle.abnfrun.specs.AbnfReply.{AnswersFor, RefusalFor, form_of}
+use Rattle.lines.proofs.LineRunLemmas.{some_states}
 use Rattle.abnfrun.proofs.abnf_language.AbnfLanguageLanguage.follows.Goals as goal
 
 pub returns : goal.returns
@@ -23,10 +20,9 @@ returns c = record {
       let kept = is.ready.1 in let at = is.ready.2 in
       judges is.definitions notes told reply is.reads is.are_notes tells is.ready.0 run (rw (kept, at) at states);
   replies = λ text settings input notes sound is.
-      let goes = lines_go_on (AnswersFor (rules_of sound.rules) sound.judged settings) (form_of settings) input
-      (c.lines_have_answers.ensures settings.letters settings.viable (rules_of sound.rules) sound.judged)
-      (record { place = 0; count = 0; all = true }) [] none in
-      (goes.reply, replied goes.reply goes.replies);
+      some_states (AnswersFor (rules_of sound.rules) sound.judged settings) settings.explain
+      (RefusalFor (rules_of sound.rules) sound.judged settings) (form_of settings)
+      (c.lines_have_answers.ensures settings.letters settings.viable (rules_of sound.rules) sound.judged) input;
   cut_notes = λ text settings input notes told sound is cut other.
       cut_notes is.definitions notes told is.reads is.are_notes cut other;
   again = λ text settings input abnf notes told is some tells print.

@@ -1,0 +1,138 @@
+-- What the token of a reversed range is made of.
+-- Serves: abnf_hints
+use Rattle.std.proofs.Common.{◌≡◌, ◌↔◌, ℕ, ◌<◌, ◌≤◌, ◌-◌, ◌==◌, Bool, false, List, [], ◌∷◌, ◌++◌, length, take, refl}
+use Rattle.std.proofs.Common.{sym, ◌∙◌, ap, subst}
+use Rattle.std.specs.Prelude.{IsTrue}
+use Rattle.std.specs.Str.Parse.{digits_value}
+use Rattle.std.proofs.lemmas.Bool.{eqb-true}
+use Rattle.std.proofs.lemmas.List.{nil_from_length}
+use Rattle.lexer.specs.SliceEnds.{Lacks}
+use Rattle.lexer.proofs.TokenListLemmas.{cut-front}
+use Rattle.abnfread.specs.AbnfSlices.{Run, Stops, Digits, more, digits}
+use Rattle.abnfread.specs.AbnfWords.{Said, Range}
+use Rattle.abnfread.specs.BaseDigits.{is_digit, Tells}
+use Rattle.abnfread.specs.Numerals.{SaysNum, says_values, says_range}
+use Rattle.abnfread.specs.declared.number.TheConstants.{MAX_VALUE}
+use Rattle.abnfread.proofs.AbnfFirstLemmas.{tells-one}
+use Rattle.abnfread.proofs.AbnfSliceLemmas.{run-end}
+use Rattle.abnfread.proofs.ByteRunLemmas.{run-to, no-digit}
+use Rattle.abnfread.proofs.NumeralLemmas.{digits-run, ends-range, heads-equal, run-front, tails-equal}
+use Rattle.abnfhints.specs.AbnfHints.{IsReversed}
+
+-- a text of digits
+run_digits : (base b : ℕ) (bs : List ℕ) → Run (is_digit base) (b ∷ bs) [] → Digits base (b ∷ bs) []
+run_digits base b bs (more is rest) = digits is rest
+
+pub told_digits : (base : ℕ) (t rest : List ℕ) (empty ends : Bool) → empty ≡ (length t == 0) → empty ≡ false
+    → ends ≡ (length rest == 0) → Run (is_digit base) t rest → Stops (is_digit base) rest
+    → (IsTrue ends) ↔ Digits base t []
+told_digits base [] rest empty ends e off f run stop = absurd (cc (e, off))
+told_digits base (b ∷ bs) rest empty ends e off f run stop = (
+  (λ on. let nil = nil_from_length rest (eqb-true (length rest) 0 (sym f ∙ on)) in
+      run_digits base b bs (subst (λ v. Run (is_digit base) (b ∷ bs) v) nil run)),
+  (λ d. let nil = run-to run stop (digits-run d) tt in
+      f ∙ ap (λ (v : List ℕ). length v == 0) (sym nil)),
+)
+
+-- the digits before `-` are the first ones
+module _ (base : ℕ) (t rest : List ℕ) (w : base ≤ 36) (run : Run (is_digit base) t rest)
+    (stop : Stops (is_digit base) rest) where
+  abbrev pub first_digits : List ℕ
+  first_digits = take (length t - length rest) t
+
+  pub first_cut : t ≡ first_digits ++ rest
+  first_cut = cut-front (run-end run)
+
+  both_ends : (ds es : List ℕ) → t ≡ ds ++ 45 ∷ es → Digits base ds [] → (ds ≡ first_digits) × (45 ∷ es ≡ rest)
+  both_ends ds es e d = ends-range base t ds es first_digits rest w e d first_cut (run-front run) stop
+
+  pub no_dash : Lacks 45 rest → (ds es : List ℕ) → t ≡ ds ++ 45 ∷ es → Digits base ds [] → Digits base es [] → ⊥
+  no_dash l ds es e d f = let ends = both_ends ds es e d in let k = rw (sym ends.1) at l in k refl
+
+  pub not_digits : (high : List ℕ) → rest ≡ 45 ∷ high → (Digits base first_digits [] → Digits base high [] → ⊥)
+      → (ds es : List ℕ) → t ≡ ds ++ 45 ∷ es → Digits base ds [] → Digits base es [] → ⊥
+  not_digits high is no_digits ds es e d f =
+      let ends = both_ends ds es e d in
+      let same : es ≡ high = tails-equal (ends.1 ∙ is) in
+      no_digits (subst (λ v. Digits base v []) ends.0 d) (subst (λ v. Digits base v []) same f)
+
+-- the parts of a range
+record RangeIn (z : List ℕ) (a b : ℕ) : Type 0 where
+  pub base : ℕ
+  pub letter : ℕ
+  pub low : List ℕ
+  pub high : List ℕ
+  pub is : z ≡ 37 ∷ letter ∷ (low ++ 45 ∷ high)
+  pub tells : Tells letter base
+  pub low_digits : Digits base low []
+  pub high_digits : Digits base high []
+  pub low_is : a ≡ digits_value base low
+  pub high_is : b ≡ digits_value base high
+
+range_in : {z : List ℕ} {s : Said} (a b : ℕ) → SaysNum z s → s ≡ Range a b → RangeIn z a b
+range_in a b (says_values tells k) is = absurd (cc is)
+range_in a b (says_range {base = base} {c = c} {t = t} {ds = ds} {es = es} tells cut d f) is = record {
+  base = base;
+  letter = c;
+  low = ds;
+  high = es;
+  is = ap (λ (v : List ℕ). 37 ∷ c ∷ v) cut;
+  tells = tells;
+  low_digits = d;
+  high_digits = f;
+  low_is = sym (cc is);
+  high_is = sym (cc is);
+}
+
+module _ (z t : List ℕ) (base c : ℕ) (is : z ≡ 37 ∷ c ∷ t) (tells : Tells c base) where
+  -- the same parts
+  record SameRange (a b : ℕ) : Type 0 where
+    pub low : List ℕ
+    pub high : List ℕ
+    pub cut : t ≡ low ++ 45 ∷ high
+    pub low_digits : Digits base low []
+    pub high_digits : Digits base high []
+    pub low_is : a ≡ digits_value base low
+    pub high_is : b ≡ digits_value base high
+
+  same_range : (a b : ℕ) → RangeIn z a b → SameRange a b
+  same_range a b r =
+      let whole : 37 ∷ c ∷ t ≡ 37 ∷ r.letter ∷ (r.low ++ 45 ∷ r.high) = sym is ∙ r.is in
+      let letter : c ≡ r.letter = heads-equal (tails-equal whole) in
+      let same : r.base ≡ base = tells-one (rw (sym letter) at r.tells) tells in
+      record {
+        low = r.low;
+        high = r.high;
+        cut = tails-equal (tails-equal whole);
+        low_digits = subst (λ v. Digits v r.low []) same r.low_digits;
+        high_digits = subst (λ v. Digits v r.high []) same r.high_digits;
+        low_is = r.low_is ∙ ap (λ v. digits_value v r.low) same;
+        high_is = r.high_is ∙ ap (λ v. digits_value v r.high) same;
+      }
+
+  pub no_reversed : ((ds es : List ℕ) → t ≡ ds ++ 45 ∷ es → Digits base ds [] → Digits base es [] → ⊥)
+      → IsReversed z → ⊥
+  no_reversed never r =
+      let s = same_range r.low r.high (range_in r.low r.high r.says refl) in
+      never s.low s.high s.cut s.low_digits s.high_digits
+
+  pub reversed_as : (low high : List ℕ) (told : Bool) → base ≤ 36 → t ≡ low ++ 45 ∷ high → Digits base low []
+      → Digits base high [] → (IsTrue told ↔ ((digits_value base low ≤ MAX_VALUE)
+      × (digits_value base high < digits_value base low))) → IsTrue told ↔ IsReversed z
+  reversed_as low high told w cut d f tell = (
+    (λ on. let p = tell.0 on in record {
+      low = digits_value base low;
+      high = digits_value base high;
+      says = subst (λ v. SaysNum v (Range (digits_value base low) (digits_value base high))) (sym is)
+          (says_range tells cut d f);
+      small = p.0;
+      less = p.1;
+    }),
+    (λ r.
+        let s = same_range r.low r.high (range_in r.low r.high r.says refl) in
+        let ends = ends-range base t s.low s.high low (45 ∷ high) w s.cut s.low_digits cut (digits-run d)
+        (no-digit base 45 36 refl w) in
+        let low_is : r.low ≡ digits_value base low = s.low_is ∙ ap (digits_value base) ends.0 in
+        let high_is : r.high ≡ digits_value base high = s.high_is ∙ ap (digits_value base) (tails-equal ends.1) in
+        tell.1 (rw (sym low_is) r.small, rw (sym low_is, sym high_is) r.less)),
+  )

@@ -1,0 +1,8 @@
+mod AbnfHintsLemmas
+mod AreReversedLemmas
+mod BarrenNamesLemmas
+mod DerivesOnlyWithLemmas
+mod IsReversedLemmas
+mod RulesWithoutLemmas
+mod ToldFirstLemmas
+mod WithoutLemmas

@@ -1,0 +1,13 @@
+-- The first ones, and how many more there are.
+use Rattle.std.proofs.Common.{map}
+use Rattle.noteplaces.specs.BodyMentions.{mentioned_at}
+use Rattle.noteplaces.specs.DefinitionHeads.{defined_at}
+use Rattle.abnfhints.specs.AbnfHints.{reversed_told}
+use Rattle.abnfhints.proofs.ToldFirstLemmas.{first_join}
+use Rattle.abnfhints.proofs.reversed.push_all_reversed.Goals as goal
+
+pub returns : goal.returns
+returns c = first_join (λ m. mentioned_at m.now)
+    (reversed_told (map defined_at c.args.places.now.heads.items) (map mentioned_at c.args.places.now.mentions.items))
+    c.args.mentions.now c.min-shown.result _ _ _ c.min-shown.ensures c.in_ok-push_each_reversed.ensures
+    c.in_ok-push_more.ensures

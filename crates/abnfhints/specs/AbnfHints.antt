@@ -1,0 +1,122 @@
+-- Hints on a grammar in ABNF: what RFC 5234 allows, and most likely is not meant. Own.
+use Rattle.std.specs.Prelude.{◌≡◌, ℕ, ◌-◌, ◌<◌, ◌≤◌, ◌==◌, Bool, List, [], ◌∷◌, ◌++◌, Option, Some, None, length, map}
+use Rattle.std.specs.Prelude.{take, Contains, codes, decimal, slice_index_or}
+use Rattle.std.specs.List.{find, flat_map}
+use Rattle.abnfcheck.specs.AbnfGrammar.{IsSound}
+use Rattle.abnfcheck.specs.AbnfNotes.{Those}
+use Rattle.abnfcheck.specs.AbnfUses.{rule_names}
+use Rattle.abnfcheck.specs.Derivable.{AreLetters, RuleDerives}
+use Rattle.abnfexplain.specs.AbnfNoteLines.{sign_of}
+use Rattle.abnfhints.specs.LineEnds.{end_byte}
+use Rattle.abnfhints.specs.declared.hints.TheConstants.{MAX_HINTS}
+use Rattle.abnfhints.specs.declared.line_end.LineEnd.{LineEnd}
+use Rattle.abnfhints.specs.declared.line_end.LineEnd.TheVariants.{Lf as AtLf, Nul as AtNul}
+use Rattle.abnfread.specs.AbnfKinds.{ends_list}
+use Rattle.abnfread.specs.AbnfSlices.{White, First}
+use Rattle.abnfread.specs.AbnfWords as words
+use Rattle.abnfread.specs.Element.{Rule}
+use Rattle.abnfread.specs.Numerals.{SaysNum}
+use Rattle.abnfread.specs.declared.kind.AbnfKind.{AbnfKind}
+use Rattle.abnfread.specs.declared.number.TheConstants.{MAX_VALUE}
+use Rattle.lexer.specs.TokenLists.{Tok, AreTokens}
+use Rattle.noteplaces.specs.BodyMentions.{MentionedAt, mentions_in}
+use Rattle.noteplaces.specs.DefinitionHeads.{DefinedAt, definitions_in, sign_at}
+use Rattle.noteplaces.specs.NoteLines.{more_told}
+use Rattle.noteplaces.specs.UseLines.{lines_behind}
+use Rattle.noteplaces.specs.declared.mentions.MentionKind.TheVariants.{Number}
+use Rattle.picture.specs.ShownBytes.{cut}
+use Rattle.ruletable.specs.Notes.{said}
+use Rattle.ruletable.specs.declared.lines.LineRule.TheVariants.{Lf}
+use Rattle.ruletable.specs.declared.note.NoteKind.TheVariants.{Unused}
+use Rattle.ruletable.specs.declared.table.NameCase.TheVariants.{Fold}
+
+-- `has` tells the letters of the alphabet
+module _ (has : ℕ → Bool) (rules : List Rule) where
+  -- The rule of that id derives no list of letters. What it reaches is all there: each name has a rule, and there is no
+  -- prose.
+  pub record DerivesNothing (id : ℕ) : Type 0 where
+    pub sound : IsSound rules id
+    pub nothing : (w : List ℕ) → AreLetters has w → RuleDerives has rules id w → ⊥
+
+  -- It derives some list of letters, and in each of them that letter stands. Likewise what it reaches is all there.
+  pub record DerivesOnlyWith (letter id : ℕ) : Type 0 where
+    pub sound : IsSound rules id
+    pub word : List ℕ
+    pub letters : AreLetters has word
+    pub derives : RuleDerives has rules id word
+    pub holds : (w : List ℕ) → AreLetters has w → RuleDerives has rules id w → Contains w letter
+
+-- the token of a range tells a number and a smaller one behind it (RFC 5234, section 3.4), within the limit
+pub record IsReversed (slice : List ℕ) : Type 0 where
+  pub low : ℕ
+  pub high : ℕ
+  pub says : SaysNum slice (words.Range low high)
+  pub small : low ≤ MAX_VALUE
+  pub less : high < low
+
+-- the reversed ranges of what bodies mention, in order
+pub data AreReversed : List MentionedAt → List MentionedAt → Type 0 where
+  none_reversed : AreReversed [] []
+  one_reversed : {m : MentionedAt} {ms rs : List MentionedAt} → m.kind ≡ Number → IsReversed m.text → AreReversed ms rs
+      → AreReversed (m ∷ ms) (m ∷ rs)
+  other_mention : {m : MentionedAt} {ms rs : List MentionedAt} → (m.kind ≡ Number → IsReversed m.text → ⊥)
+      → AreReversed ms rs → AreReversed (m ∷ ms) rs
+
+-- the first ones as they are told, and how many more there are
+abbrev pub told_first : {A : Type 0} → (A → List ℕ) → List A → List ℕ
+told_first told xs = flat_map told (take MAX_HINTS xs) ++ more_told (length xs - MAX_HINTS)
+
+-- the name at the head of a definition, if there is one
+abbrev pub name_of_head : Option DefinedAt → List ℕ
+name_of_head None = []
+name_of_head (Some d) = d.name
+
+module _ (definitions : List DefinedAt) (mentions : List MentionedAt) where
+  -- a rule that derives nothing, and where it is first defined
+  abbrev pub barren_told : List ℕ → List ℕ
+  barren_told name = codes "rule '" ++ (cut name ++ (codes "' derives nothing\n"
+      ++ lines_behind Fold definitions mentions None (said Unused name)))
+
+  -- a reversed range, in the rule of the definition in whose body it stands
+  abbrev pub reversed_told : MentionedAt → List ℕ
+  reversed_told m = codes "reversed numbers in rule '"
+      ++ (cut (name_of_head (find (λ d. d.start == m.within) definitions)) ++ (codes "'\n  line "
+      ++ (decimal m.line ++ (codes ": " ++ (cut m.text ++ codes " derives nothing\n")))))
+
+-- the byte that ends a line, as it is told
+abbrev pub end_told : LineEnd → List ℕ
+end_told AtLf = codes "%x0A"
+end_told AtNul = codes "%x00"
+
+-- a rule that derives no line
+abbrev pub lineless_told : LineEnd → List ℕ → List ℕ
+lineless_told end name = codes "rule '" ++ (cut name ++ (codes "' derives no line\n  all that it derives holds "
+    ++ (end_told end ++ codes "\n")))
+
+-- what is told of the judged rule: that it derives no line, if it derives something
+pub data IsToldOfJudged (has : ℕ → Bool) (rules : List Rule) (end : LineEnd) : Option ℕ → List ℕ → Type 0 where
+  no_rule : IsToldOfJudged has rules end None []
+  no_line : {id : ℕ} → DerivesOnlyWith has rules (end_byte end) id
+      → IsToldOfJudged has rules end (Some id) (lineless_told end (slice_index_or (rule_names rules) id []))
+  some_line : {id : ℕ} → (DerivesOnlyWith has rules (end_byte end) id → ⊥) → IsToldOfJudged has rules end (Some id) []
+
+module _ (has : ℕ → Bool) (rules : List Rule) (count : ℕ) (judged : Option ℕ) (end : LineEnd) where
+  -- The hints, given all rules, of which those of the file are the first ones, their count, and the judged rule: on
+  -- rules of the file that derive nothing, by their order; on reversed ranges, by the order of the text; and on the
+  -- judged rule.
+  pub record AreHintsBy (definitions : List DefinedAt) (mentions : List MentionedAt) (hints : List ℕ) : Type 0 where
+    pub barren : List (List ℕ)
+    pub reversed : List MentionedAt
+    pub last : List ℕ
+    pub are_barren : Those (DerivesNothing has rules) 0 (take count rules) barren
+    pub are_reversed : AreReversed mentions reversed
+    pub is_last : IsToldOfJudged has rules end judged last
+    pub all : hints ≡ told_first (barren_told definitions mentions) barren
+        ++ (told_first (reversed_told definitions mentions) reversed ++ last)
+
+  -- the hints on the grammar of a text
+  pub record AreAbnfHints (text hints : List ℕ) : Type 0 where
+    pub tokens : List (Tok AbnfKind)
+    pub are_tokens : AreTokens White First ends_list (length text) text tokens
+    pub are_hints : AreHintsBy (definitions_in Lf text (map (sign_at sign_of) tokens))
+        (mentions_in Lf text None (map (sign_at sign_of) tokens)) hints

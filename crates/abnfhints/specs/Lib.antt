@@ -1,0 +1,3 @@
+pub mod AbnfHints
+pub mod LineEnds
+pub mod WithoutLetter

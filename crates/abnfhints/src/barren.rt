@@ -1,0 +1,118 @@
+//! Rules that derive nothing.
+ghost use Rattle.std.specs.Prelude.{◌≡◌, ◌↔◌, ◌++◌, flat_map, map, length, take, None, IsTrue, IfOk, OnOk};
+ghost use Rattle.abnfread.specs.AbnfViews.{rules_of};
+ghost use Rattle.abnfcheck.specs.AbnfGrammar.{IsSound};
+ghost use Rattle.abnfcheck.specs.AbnfNotes.{Those};
+ghost use Rattle.abnfcheck.specs.RuleMarks.{AreProductive};
+ghost use Rattle.abnfhints.specs.AbnfHints.{DerivesNothing, barren_told, told_first};
+ghost use Rattle.letters.specs.Letters.{has};
+ghost use Rattle.noteplaces.specs.BodyMentions.{mentioned_at};
+ghost use Rattle.noteplaces.specs.DefinitionHeads.{defined_at};
+ghost use Rattle.noteplaces.specs.UseLines.{lines_behind};
+ghost use Rattle.ruletable.specs.Notes.{said};
+ghost use Rattle.rulenames.specs.IdMarks.{AreMarks};
+
+use crate::hinted::Hinted;
+use crate::hints::MAX_HINTS;
+use crate::marks::{Marks, is_marked};
+use noteplaces::{Places, explain_note, push_more};
+use picture::push_cut;
+use ruletable::{Memory, NameCase, Note, NoteKind};
+use std::alloc::Global;
+
+// Returns whether the rule of that id derives nothing.
+fn is_barren(hinted: &Hinted<'_>, marks: &Marks, id: usize) -> bool
+    requires sound { AreMarks (IsSound (rules_of hinted.now.rules.now)) (length (rules_of hinted.now.rules.now))
+        marks.now.sound.items }
+    requires productive { AreProductive hinted.now.letters (rules_of hinted.now.rules.now) marks.now.productive.items }
+    ensures { IsTrue result ↔ DerivesNothing (has hinted.now.letters) (rules_of hinted.now.rules.now) id }
+{
+    is_marked(&marks.sound, id) && !is_marked(&marks.productive, id)
+}
+
+/// Returns the names of the rules of the file that derive nothing, in order.
+///
+/// `Memory` if an allocation fails.
+pub(crate) fn barren_names<'a>(
+    alloc: Global,
+    hinted: &Hinted<'a>,
+    marks: &Marks,
+) -> Result<Vec<&'a [u8]>, Memory>
+    requires sound { AreMarks (IsSound (rules_of hinted.now.rules.now)) (length (rules_of hinted.now.rules.now))
+        marks.now.sound.items }
+    requires productive { AreProductive hinted.now.letters (rules_of hinted.now.rules.now) marks.now.productive.items }
+    ensures { IfOk result (λ names. Those (DerivesNothing (has hinted.now.letters) (rules_of hinted.now.rules.now)) 0
+        (take hinted.now.count (rules_of hinted.now.rules.now)) (map (λ name. name.now) names.items)) }
+{
+    let mut names = Vec::new(alloc);
+    for id in 0..hinted.rules.len().min(hinted.count) {
+        if is_barren(hinted, marks, id) {
+            names.push(hinted.rules.name(id))?;
+        }
+    }
+    Ok(names)
+}
+
+// Returns the line that tells where a rule is first defined.
+fn first_definition(alloc: Global, places: &Places, name: &[u8]) -> Result<Vec<u8>, Memory>
+    requires { places.now.names ≡ NameCase.Fold }
+    ensures { IfOk result (λ why. why.items ≡ lines_behind NameCase.Fold (map defined_at places.now.heads.items)
+        (map mentioned_at places.now.mentions.items) None (said NoteKind.Unused name.now)) }
+{
+    let note = Note {
+        kind: NoteKind::Unused,
+        name: Vec::from_slice(alloc, name)?,
+    };
+    let why = explain_note(alloc, places, None, &note)?;
+    Ok(why)
+}
+
+// Adds what is told of a rule that derives nothing.
+fn push_barren(alloc: Global, out: &mut Vec<u8>, places: &Places, name: &[u8]) -> Result<(), Memory>
+    requires { places.now.names ≡ NameCase.Fold }
+    ensures { OnOk result (out.new.items ≡ out.old.items ++ barren_told (map defined_at places.now.heads.items)
+        (map mentioned_at places.now.mentions.items) name.now) }
+{
+    out.extend_from_slice(b"rule '")?;
+    push_cut(out, name)?;
+    out.extend_from_slice(b"' derives nothing\n")?;
+    let line = first_definition(alloc, places, name)?;
+    out.extend_from_slice(&line)?;
+    Ok(())
+}
+
+// Adds what is told of each of these.
+fn push_each_barren(
+    alloc: Global,
+    out: &mut Vec<u8>,
+    places: &Places,
+    names: &[&[u8]],
+) -> Result<(), Memory>
+    requires { places.now.names ≡ NameCase.Fold }
+    ensures { OnOk result (out.new.items ≡ out.old.items ++ flat_map (barren_told (map defined_at
+        places.now.heads.items) (map mentioned_at places.now.mentions.items)) (map (λ name. name.now) names.now)) }
+{
+    for name in names {
+        push_barren(alloc, out, places, name)?;
+    }
+    Ok(())
+}
+
+/// Adds what is told of rules that derive nothing: of the first ones, and how many more there are.
+///
+/// `Memory` if an allocation fails.
+pub(crate) fn push_all_barren(
+    alloc: Global,
+    out: &mut Vec<u8>,
+    places: &Places,
+    names: &[&[u8]],
+) -> Result<(), Memory>
+    requires { places.now.names ≡ NameCase.Fold }
+    ensures { OnOk result (out.new.items ≡ out.old.items ++ told_first (barren_told (map defined_at
+        places.now.heads.items) (map mentioned_at places.now.mentions.items)) (map (λ name. name.now) names.now)) }
+{
+    let shown = names.len().min(MAX_HINTS);
+    push_each_barren(alloc, out, places, &names[..shown])?;
+    push_more(out, names.len() - shown)?;
+    Ok(())
+}

@@ -1,0 +1,24 @@
+//! What hints are told of.
+
+use crate::line_end::LineEnd;
+use abnfread::Elem;
+use letters::Alphabet;
+use noteplaces::Places;
+use ruletable::RuleTable;
+
+/// A grammar of which hints are told.
+#[derive(Clone, Copy)]
+pub struct Hinted<'a> {
+    /// Where its text defines its rules, and what their bodies mention.
+    pub places: &'a Places,
+    /// The rules of the file, then the core rules that it leaves alone.
+    pub rules: &'a RuleTable<Elem>,
+    /// How many of them are rules of the file.
+    pub count: usize,
+    /// The id of the judged rule, if there is one.
+    pub judged: Option<usize>,
+    /// What a line is made of.
+    pub letters: Alphabet,
+    /// What ends a line.
+    pub end: LineEnd,
+}

@@ -1,0 +1,54 @@
+//! Hints on grammars.
+ghost use Rattle.std.specs.Prelude.{◌≡◌, ℕ, Bool, List, Option, IfOk};
+ghost use Rattle.abnfexplain.specs.AbnfNoteLines.{AreAbnfPlaces};
+ghost use Rattle.abnfhints.specs.AbnfHints.{AreAbnfHints};
+ghost use Rattle.abnfhints.specs.declared.line_end.LineEnd.{LineEnd};
+ghost use Rattle.abnfread.specs.AbnfViews.{rules_of};
+ghost use Rattle.abnfread.specs.Element.{Rule};
+ghost use Rattle.letters.specs.Letters.{has};
+
+use crate::barren::{barren_names, push_all_barren};
+use crate::hinted::Hinted;
+use crate::lineless::push_judged;
+use crate::marks::marks_of;
+use crate::reversed::{push_all_reversed, reversed_among};
+use abnfread::AbnfKind;
+use lexer::one_list;
+use ruletable::{Memory, NameCase};
+use std::alloc::Global;
+
+/// How many hints of a kind are told.
+pub const MAX_HINTS: usize = 16;
+
+/// Returns the hints on a grammar, as they are told: on rules of the file that derive nothing, by their order; on
+/// reversed ranges, by the order of the text; and on the judged rule, if it derives something, but no line. A rule from
+/// which a name without a rule can be reached, or prose, derives what nobody knows: there is no hint on it of the first
+/// and the last kind. Of each kind the first 16 are told, and how many more there are. Hints never refuse.
+///
+/// # Errors
+/// `Memory` if an allocation fails.
+pub fn abnf_hints(alloc: Global, hinted: &Hinted<'_>) -> Result<Vec<u8>, Memory>
+    requires rules { hinted.now.rules.now.names ≡ NameCase.Fold }
+    requires places { hinted.now.places.now.names ≡ NameCase.Fold }
+    ensures { IfOk result (λ hints. (text : List ℕ) → AreAbnfPlaces text hinted.now.places.now
+        → AreAbnfHints (has hinted.now.letters) (rules_of hinted.now.rules.now) hinted.now.count hinted.now.judged
+        hinted.now.end text hints.items) }
+{
+    let marks = marks_of(alloc, hinted)?;
+    let barren = barren_names(alloc, hinted, &marks)?;
+    let reversed = reversed_among(alloc, &hinted.places.mentions)?;
+    let mut out = Vec::new(alloc);
+    push_all_barren(alloc, &mut out, hinted.places, &barren)?;
+    push_all_reversed(&mut out, hinted.places, &reversed)?;
+    push_judged(alloc, &mut out, hinted, &marks)?;
+    Ok(out)
+}
+
+/// Says that there is at most one text of the hints on a grammar.
+pub fn one_text_of_abnf_hints()
+    ensures { (has : ℕ → Bool) (rules : List Rule) (count : ℕ) (judged : Option ℕ) (end : LineEnd)
+        (text a b : List ℕ) → AreAbnfHints has rules count judged end text a
+        → AreAbnfHints has rules count judged end text b → a ≡ b }
+{
+    one_list::<AbnfKind>();
+}

@@ -1,0 +1,110 @@
+//! Ranges with reversed numbers.
+ghost use Rattle.std.specs.Prelude.{◌≡◌, ◌↔◌, ◌++◌, ◌==◌, flat_map, map, option_map, IsTrue, IfOk, OnOk};
+ghost use Rattle.std.specs.List.{find};
+ghost use Rattle.abnfhints.specs.AbnfHints.{AreReversed, IsReversed, name_of_head, reversed_told, told_first};
+ghost use Rattle.noteplaces.specs.BodyMentions.{mentioned_at};
+ghost use Rattle.noteplaces.specs.DefinitionHeads.{defined_at};
+
+use crate::hints::MAX_HINTS;
+use crate::numbers::is_reversed;
+use noteplaces::{Head, Mention, MentionKind, Places, push_more};
+use picture::{push_cut, push_number};
+use ruletable::Memory;
+use std::alloc::Global;
+
+// Returns whether a mention is a reversed range.
+fn is_reversed_range(mention: &Mention) -> bool
+    ensures { IsTrue result ↔ ((mention.now.kind ≡ MentionKind.Number) × IsReversed mention.now.text.items) }
+{
+    match mention.kind {
+        MentionKind::Number => is_reversed(&mention.text),
+        MentionKind::Use | MentionKind::Prose | MentionKind::Repeat | MentionKind::Literal => false,
+    }
+}
+
+/// Returns the reversed ranges of what bodies mention, in order.
+///
+/// `Memory` if an allocation fails.
+pub(crate) fn reversed_among(alloc: Global, mentions: &[Mention]) -> Result<Vec<&Mention>, Memory>
+    ensures { IfOk result (λ found. AreReversed (map mentioned_at mentions.now) (map (λ m. mentioned_at m.now)
+        found.items)) }
+{
+    let mut found = Vec::new(alloc);
+    for mention in mentions {
+        if is_reversed_range(mention) {
+            found.push(mention)?;
+        }
+    }
+    Ok(found)
+}
+
+// Returns the head of the definition at a place.
+fn head_at(heads: &[Head], place: usize) -> Option<&Head>
+    ensures { option_map (λ h. defined_at h.now) result ≡ find (λ d. d.start == place) (map defined_at heads.now) }
+{
+    for head in heads {
+        if head.start == place {
+            return Some(head);
+        }
+    }
+    None
+}
+
+// Returns the name at the head of the definition at a place, or none if there is none.
+fn name_at(heads: &[Head], place: usize) -> &[u8]
+    ensures { result.now ≡ name_of_head (find (λ d. d.start == place) (map defined_at heads.now)) }
+{
+    match head_at(heads, place) {
+        Some(head) => head.name.as_slice(),
+        None => b"",
+    }
+}
+
+// Adds what is told of a reversed range.
+fn push_reversed(out: &mut Vec<u8>, places: &Places, mention: &Mention) -> Result<(), Memory>
+    ensures { OnOk result (out.new.items ≡ out.old.items ++ reversed_told (map defined_at places.now.heads.items)
+        (map mentioned_at places.now.mentions.items) (mentioned_at mention.now)) }
+{
+    out.extend_from_slice(b"reversed numbers in rule '")?;
+    push_cut(out, name_at(&places.heads, mention.within))?;
+    out.extend_from_slice(b"'\n  line ")?;
+    push_number(out, mention.line)?;
+    out.extend_from_slice(b": ")?;
+    push_cut(out, &mention.text)?;
+    out.extend_from_slice(b" derives nothing\n")?;
+    Ok(())
+}
+
+// Adds what is told of each of these.
+fn push_each_reversed(
+    out: &mut Vec<u8>,
+    places: &Places,
+    mentions: &[&Mention],
+) -> Result<(), Memory>
+    ensures { OnOk result (out.new.items ≡ out.old.items ++ flat_map (reversed_told (map defined_at
+        places.now.heads.items) (map mentioned_at places.now.mentions.items)) (map (λ m. mentioned_at m.now)
+        mentions.now)) }
+{
+    for mention in mentions {
+        push_reversed(out, places, mention)?;
+    }
+    Ok(())
+}
+
+/// Adds what is told of reversed ranges: of the first ones, and how many more there are.
+///
+/// `Memory` if an allocation fails.
+pub(crate) fn push_all_reversed(
+    out: &mut Vec<u8>,
+    places: &Places,
+    mentions: &[&Mention],
+) -> Result<(), Memory>
+    ensures { OnOk result (out.new.items ≡ out.old.items ++ told_first (reversed_told (map defined_at
+        places.now.heads.items) (map mentioned_at places.now.mentions.items)) (map (λ m. mentioned_at m.now)
+        mentions.now)) }
+{
+    let shown = mentions.len().min(MAX_HINTS);
+    push_each_reversed(out, places, &mentions[..shown])?;
+    push_more(out, mentions.len() - shown)?;
+    Ok(())
+}

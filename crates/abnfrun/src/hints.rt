@@ -1,0 +1,52 @@
+//! Hints on a grammar in ABNF, as settings ask for them.
+ghost use Rattle.std.specs.Prelude.{◌≡◌, ℕ, List, IfOk, option_copied};
+ghost use Rattle.abnfread.specs.AbnfViews.{rules_of};
+ghost use Rattle.abnfrun.specs.AbnfExplainedNotes.{AreNotePlaces};
+ghost use Rattle.abnfrun.specs.AbnfTextHints.{AreTextHints, end_for, judged_rule as the_rule};
+
+use crate::abnf_places::AbnfPlaces;
+use abnfhints::{Hinted, LineEnd, abnf_hints};
+use abnfread::Elem;
+use ruletable::{Memory, NameCase, RuleTable};
+use std::alloc::Global;
+use toolrun::Settings;
+
+// Returns the id of the judged rule, if there is one. `Memory` if an allocation fails.
+fn judged_rule(rules: &RuleTable<Elem>, start: Option<&str>) -> Result<Option<usize>, Memory>
+    requires { rules.now.names ≡ NameCase.Fold }
+    ensures { IfOk result (λ id. id ≡ the_rule (rules_of rules.now) (option_copied start.entry)) }
+{
+    match start {
+        Some(name) => rules.find(name.as_bytes()),
+        None => Ok(Some(0)),
+    }
+}
+
+// Returns what ends a line.
+fn line_end(nul: bool) -> LineEnd
+    ensures { result ≡ end_for nul }
+{
+    if nul { LineEnd::Nul } else { LineEnd::Lf }
+}
+
+/// Returns the hints on the grammar of a text by its places, as settings ask for them. `Memory` if an allocation fails.
+pub(crate) fn hints_of(
+    alloc: Global,
+    places: &AbnfPlaces,
+    settings: &Settings<'_>,
+) -> Result<Vec<u8>, Memory>
+    ensures { IfOk result (λ told. (text : List ℕ) → AreNotePlaces text (option_copied settings.now.start) places.now
+        → AreTextHints text settings.now told.items) }
+{
+    let judged = judged_rule(&places.rules, settings.start)?;
+    let hinted = Hinted {
+        places: &places.places,
+        rules: &places.rules,
+        count: places.count,
+        judged,
+        letters: settings.letters,
+        end: line_end(settings.nul),
+    };
+    let hints = abnf_hints(alloc, &hinted)?;
+    Ok(hints)
+}

@@ -1,0 +1,95 @@
+-- The lines that are kept of a text hold no LF, and those that look blank hold blanks alone.
+-- Serves: joined_reading
+use Rattle.std.proofs.Common.{◌≡◌, ℕ, ◌+◌, ◌-◌, ◌==◌, ◌&&◌, Bool, true, false, bytes_eq, nat_lt, List}
+use Rattle.std.proofs.Common.{[]}
+use Rattle.std.proofs.Common.{◌∷◌, length, drop, refl, inl, inr, codes}
+use Rattle.std.proofs.lemmas.Bool.{cases_Bool}
+use Rattle.std.specs.List.{list_all, prefix_len}
+use Rattle.rfctext.specs.Furniture.{KeepsLines, none_left, stays, goes}
+use Rattle.rfctext.specs.KeptSteps.{is_blank_kind}
+use Rattle.rfctext.specs.LineKinds.{is_blank, is_blank_line, is_dated, is_feed, is_foot, kind_of}
+use Rattle.rfctext.specs.TextLines.{NumberedLine, line_in, line_parts, lines_from, text_lines, with_byte, without_cr}
+use Rattle.rfctext.specs.declared.line_kind.LineKind.{LineKind}
+use Rattle.abnfread.specs.AbnfSlices.{is_inside}
+use Rattle.abnftexts.proofs.EachLemmas.{Each, each_none, each_next, each-take, each-drop}
+
+-- bytes without LF
+abbrev pub AreInside : List ℕ → Type 0
+AreInside bytes = Each (λ b. is_inside b ≡ true) bytes
+
+-- so it is with a line
+pub record IsClear (line : NumberedLine) : Type 0 where
+  pub inside : AreInside line.bytes
+  pub blank : is_blank_kind line.kind ≡ true → Each (λ b. is_blank b ≡ true) line.bytes
+
+with_byte-inside : (b : ℕ) (parts : List (List ℕ)) → is_inside b ≡ true → Each AreInside parts
+    → Each AreInside (with_byte b parts)
+with_byte-inside b [] p h = each_next (each_next p each_none) each_none
+with_byte-inside b (part ∷ parts) p (each_next h k) = each_next (each_next p h) k
+
+parts-inside : (bytes : List ℕ) → Each AreInside (line_parts bytes)
+parts-inside [] = each_none
+parts-inside (b ∷ bytes) = elim (cases_Bool (b == 10)) [
+  | inl e ↦ rw e (each_next each_none (parts-inside bytes))
+  | inr e ↦ rw e (with_byte-inside b (line_parts bytes) (rw e refl) (parts-inside bytes))
+]
+
+without_cr-inside : (part : List ℕ) → AreInside part → AreInside (without_cr part)
+without_cr-inside part h = elim (cases_Bool (bytes_eq (drop (length part - 1) part) (codes "\r"))) [
+  | inl e ↦ rw e (each-take (length part - 1) h)
+  | inr e ↦ rw e h
+]
+
+each-pass : (p : ℕ → Bool) (bytes : List ℕ) → list_all p bytes ≡ true → Each (λ b. p b ≡ true) bytes
+each-pass p [] e = each_none
+each-pass p (b ∷ bytes) e = elim (cases_Bool (p b)) [
+  | inl f ↦ each_next f (each-pass p bytes (let k : (p b && list_all p bytes) ≡ true = e in
+      let l : (true && list_all p bytes) ≡ true = rw f at k in l))
+  | inr f ↦ absurd (let k : (p b && list_all p bytes) ≡ true = e in
+      let l : (false && list_all p bytes) ≡ true = rw f at k in cc)
+]
+
+-- a line that looks blank is blank
+blank-kind : (has_feed : Bool) (bytes : List ℕ) → is_blank_kind (kind_of has_feed bytes) ≡ true
+    → is_blank_line bytes ≡ true
+blank-kind has_feed bytes e = elim (cases_Bool (is_blank_line bytes)) [
+  | inl f ↦ f
+  | inr f ↦ absurd (no_blank has_feed bytes f e)
+]
+  where
+    no_blank : (has_feed : Bool) (bytes : List ℕ) → is_blank_line bytes ≡ false
+        → is_blank_kind (kind_of has_feed bytes) ≡ true → ⊥
+    no_blank has_feed bytes f e = elim (cases_Bool (is_foot bytes)) [
+      | inl g ↦ (let k = rw (f, g) at e in cc)
+      | inr g ↦ elim (cases_Bool (is_dated bytes)) [
+        | inl d ↦ elim (cases_Bool has_feed) [
+          | inl h ↦ (let k = rw (f, g, d, h) at e in cc)
+          | inr h ↦ (let k = rw (f, g, d, h) at e in cc)
+        ]
+        | inr d ↦ (let k = rw (f, g, d) at e in cc)
+      ]
+    ]
+
+line-clear : (number : ℕ) (part : List ℕ) → AreInside part → IsClear (line_in number part)
+line-clear number part h =
+    let bare = without_cr part in
+    let feeds = prefix_len is_feed bare in
+    record {
+      inside = each-drop feeds (without_cr-inside part h);
+      blank = λ e. each-pass is_blank (drop feeds bare) (blank-kind (nat_lt 0 feeds) (drop feeds bare) e);
+    }
+
+lines-clear : (number : ℕ) (parts : List (List ℕ)) → Each AreInside parts → Each IsClear (lines_from number parts)
+lines-clear number [] h = each_none
+lines-clear number (part ∷ parts) (each_next h k) =
+    each_next (line-clear number part h) (lines-clear (number + 1) parts k)
+
+keeps-clear : {before : List LineKind} {lines kept : List NumberedLine} → KeepsLines before lines kept
+    → Each IsClear lines → Each IsClear kept
+keeps-clear none_left h = h
+keeps-clear (stays n k) (each_next p h) = each_next p (keeps-clear k h)
+keeps-clear (goes f k) (each_next p h) = keeps-clear k h
+
+pub kept-clear : (bytes : List ℕ) {kept : List NumberedLine} → KeepsLines [] (text_lines bytes) kept
+    → Each IsClear kept
+kept-clear bytes k = keeps-clear k (lines-clear 1 (line_parts bytes) (parts-inside bytes))

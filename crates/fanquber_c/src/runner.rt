@@ -1,0 +1,19 @@
+//! A grammar of peg(1) that was opened, and what settings ask of its runs.
+ghost use Rattle.std.specs.Prelude.{◌≤◌};
+ghost use Rattle.toolrun.specs.declared.settings.TheConstants.{MAX_LIMIT as greatest};
+
+use pegrun::PegRunner;
+
+/// A grammar of peg(1) that was opened, and what settings ask of its runs.
+#[derive(Drop)]
+pub struct Runner {
+    /// The grammar.
+    pub peg: PegRunner,
+    /// How many bytes a unit may look at.
+    pub limit: usize,
+    /// Whether actions are printed verbatim.
+    pub raw: bool,
+    /// Whether it is explained where a run stops.
+    pub explain: bool,
+    ghost in_range: { (1 ≤ limit) × (limit ≤ greatest) },
+}

@@ -1,0 +1,3 @@
+mod BodyHintsLemmas
+mod NeverTakenLemmas
+mod PegHintsLemmas

@@ -1,0 +1,4 @@
+pub mod CodeHints
+pub mod HiddenLiterals
+pub mod NeverTaken
+pub mod PegHints

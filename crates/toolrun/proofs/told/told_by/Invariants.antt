@@ -1,0 +1,10 @@
+use Rattle.std.proofs.Common.{ℕ, List, map, take, option_copied}
+use Rattle.ruletable.specs.Notes.{said_of}
+use Rattle.toolrun.specs.ToldNotes.{AreNotesTold}
+use Rattle.toolrun.proofs.told.told_by.Given as goal
+
+abbrev pub invariant-loop-note : goal.invariant-loop-note
+invariant-loop-note g l = (text : List ℕ)
+    → g.L.Language.are_places text (option_copied l.start) l.places
+    → AreNotesTold (g.L.Language.explains_note text (option_copied l.start)) (map said_of (take l.note-index l.notes))
+    l.told.items

@@ -1,0 +1,14 @@
+-- Nothing is told, or all notes are, without hints.
+use Rattle.std.proofs.Common.{map}
+use Rattle.ruletable.specs.Notes.{said_of}
+use Rattle.toolrun.specs.ToldNotes.{begun_notes, no_note}
+use Rattle.toolrun.proofs.ToldNotesLemmas.{begun-whole}
+use Rattle.toolrun.proofs.told.told_hints.Goals as goal
+
+pub returns-in_default : goal.returns-in_default
+returns-in_default g c = rw c.new.ensures.items (begun_notes (map said_of c.args.notes.now) no_note)
+
+pub returns : goal.returns
+returns g c =
+    let told = (let t = c.told_by.ensures c.args.text.now c.in-Ok.ensures in rw c.in-Whole.is at t) in
+    rw c.in-Err.ensures.err (begun-whole told)

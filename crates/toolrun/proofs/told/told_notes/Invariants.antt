@@ -1,8 +1,0 @@
-use Rattle.std.proofs.Common.{map, take, option_copied}
-use Rattle.ruletable.specs.Notes.{said_of}
-use Rattle.toolrun.specs.ToldNotes.{AreNotesTold}
-use Rattle.toolrun.proofs.told.told_notes.Given as goal
-
-abbrev pub invariant-loop-note : goal.invariant-loop-note
-invariant-loop-note g l = AreNotesTold (g.L.Language.explains_note l.text (option_copied l.start))
-    (map said_of (take l.note-index l.notes)) l.told.items

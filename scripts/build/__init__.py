@@ -1,0 +1,1 @@
+"""What makes the programs, the packages and the library for C."""
