@@ -23,15 +23,16 @@ use Rattle.toolrun.specs.Stop.{unread}
 use Rattle.toolrun.specs.Stopped.{Performs}
 use Rattle.toolrun.specs.declared.status.Status.{Status}
 use Rattle.toolrun.specs.declared.stop.Stop.{Stop}
-use Rattle.toolrun.specs.declared.stop.Stop.TheVariants.{NoMemory, Quiet}
-use Rattle.abnftexts.specs.JoinRun.{IsWrittenAs, JoinStates, JoinedReply, grammar_form, joined_status, no_input}
-use Rattle.abnftexts.specs.JoinRun.{text_written}
+use Rattle.toolrun.specs.declared.stop.Stop.TheVariants.{NoMemory, Quiet, Refused}
+use Rattle.abnftexts.specs.JoinRun.{IsWrittenAs, JoinStates, JoinedReply, TriedReply, grammar_form, joined_status}
+use Rattle.abnftexts.specs.JoinRun.{no_input, text_written, too_long, tries}
 use Rattle.abnftexts.specs.JoinRun.{as_it_is, canonical, joins, no_room, nothing, refused, writes}
 use Rattle.abnftexts.specs.JoinRun as run
 use Rattle.abnftexts.specs.JoinedGrammar.{AreTextsJoined, GrammarJoined}
 use Rattle.abnftexts.specs.RulesGathered.{NamedText}
 use Rattle.abnftexts.specs.declared.run.JoinForm.{JoinForm}
 use Rattle.abnftexts.specs.declared.run.JoinForm.TheVariants.{Plain, Canonical, Listed}
+use Rattle.abnftexts.proofs.SpelledRulesLemmas.{joined-long}
 
 -- it is not want of memory
 abbrev pub IsTextFault : ReadFault → Type 0
@@ -47,7 +48,7 @@ no_memory-told fault is e = subst IsTextFault e is
 
 module _ (form : JoinForm) (j : GrammarJoined) where
   abbrev pub DoesJoin : Input → Reply → Type 0
-  DoesJoin input reply = JoinedReply form j reply
+  DoesJoin input reply = TriedReply form j reply
 
   pub all-written : (text : List ℕ) (status : Status) (s0 s1 : Option (List ℕ)) (was failed : Bool)
       → IsWrittenAs j form text → status ≡ joined_status j → Appends s0 s1 text → failed ≡ was →
@@ -61,7 +62,7 @@ module _ (form : JoinForm) (j : GrammarJoined) where
       more,
       record {
         stated = text_written text (joined_status j);
-        states = writes is;
+        states = tries (writes is);
         written = (refl, refl, ap code_of (sym same));
         within = omega arith;
         exact = λ other. refl;
@@ -82,7 +83,7 @@ module _ (form : JoinForm) (j : GrammarJoined) where
       part.2,
       record {
         stated = text_written text (joined_status j);
-        states = writes is;
+        states = tries (writes is);
         written = part.1;
         within = omega arith;
         exact = tt;
@@ -91,7 +92,7 @@ module _ (form : JoinForm) (j : GrammarJoined) where
     flag = flag;
   }
 
-  pub stop-stated : (stop : Stop) (s : Option (List ℕ)) (was : Bool) → JoinedReply form j (stopped stop) →
+  pub stop-stated : (stop : Stop) (s : Option (List ℕ)) (was : Bool) → TriedReply form j (stopped stop) →
       let r : Result Stop WriteFault = Ok stop in
       Performs DoesJoin no_input (record { old = s; new = s; was = was; failed = was }) r
   stop-stated stop s was is = record {
@@ -112,14 +113,14 @@ module _ (form : JoinForm) (j : GrammarJoined) where
   }
 
   pub fault-stated : (fault : ReadFault) → form ≢ Listed → j.grammar ≢ [] → IsFaultOf j.grammar fault
-      → JoinedReply form j (stopped (unread fault))
+      → TriedReply form j (stopped (unread fault))
   fault-stated (Syntax line) no_list some is =
       refused {fault = Syntax line} no_list some is (no_memory-told (Syntax line) tt)
   fault-stated (Depth line) no_list some is =
       refused {fault = Depth line} no_list some is (no_memory-told (Depth line) tt)
   fault-stated (CodePredicate line) no_list some is = absurd is
   fault-stated TooLong no_list some is = refused {fault = TooLong} no_list some is (no_memory-told TooLong tt)
-  fault-stated Memory no_list some is = run.no_memory
+  fault-stated Memory no_list some is = tries run.no_memory
   fault-stated (NumberTooLarge line) no_list some is =
       refused {fault = NumberTooLarge line} no_list some is (no_memory-told (NumberTooLarge line) tt)
 
@@ -128,7 +129,7 @@ module _ (form : JoinForm) (j : GrammarJoined) where
       let r : Result Stop WriteFault = Ok stop in
       Performs DoesJoin no_input (record { old = s; new = s; was = was; failed = was }) r
   fault-stops text fault stop s was no_list some same is e =
-      stop-stated stop s was (subst (λ (x : Stop). JoinedReply form j (stopped x)) (sym e)
+      stop-stated stop s was (subst (λ (x : Stop). TriedReply form j (stopped x)) (sym e)
       (fault-stated fault no_list some (subst (λ (t : List ℕ). IsFaultOf t fault) same is)))
 
   pub nothing-written : (text : List ℕ) → form ≢ Listed → text ≡ j.grammar → length j.grammar ≡ 0
@@ -167,11 +168,20 @@ module _ (j : GrammarJoined) where
       (canonical some (subst (λ (t : List ℕ). Reads t definitions) same reads))
 
 module _ (texts : List NamedText) (form : JoinForm) where
+  -- a joined grammar has no fault but its length
+  tried-joined : {j : GrammarJoined} {reply : Reply} → AreTextsJoined texts j → TriedReply form j reply
+      → JoinedReply form j reply
+  tried-joined are (tries is) = is
+  tried-joined {j = j} are (refused {fault = fault} no_list some f n) =
+      let long : fault ≡ TooLong = joined-long fault are some f n in
+      subst (λ (w : ReadFault). JoinedReply form j (stopped (Refused w))) (sym long)
+      (too_long no_list some (subst (λ (w : ReadFault). IsFaultOf j.grammar w) long f))
+
   pub joined-planned : (j : GrammarJoined) → AreTextsJoined texts j
       → IsPlan (JoinStates texts form) j.told (DoesJoin form j)
   joined-planned j are = record {
-    stated = λ input reply is. joins are is;
-    some = λ input. (stopped NoMemory, run.no_memory);
+    stated = λ input reply is. joins are (tried-joined are is);
+    some = λ input. (stopped NoMemory, tries run.no_memory);
   }
 
   abbrev pub StopsEarly : Input → Reply → Type 0

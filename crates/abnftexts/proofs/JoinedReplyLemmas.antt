@@ -6,11 +6,9 @@ use Rattle.ruletable.specs.declared.fault.ReadFault.TheVariants as faults
 use Rattle.abnfread.specs.AbnfReading.{IsFaultOf}
 use Rattle.abnfread.specs.Element.{Definition}
 use Rattle.toolrun.specs.Input.{Input}
-use Rattle.toolrun.specs.Plan.{stopped}
 use Rattle.toolrun.specs.Reply.{Reply}
-use Rattle.toolrun.specs.declared.stop.Stop.TheVariants.{Refused}
 use Rattle.abnftexts.specs.JoinRun.{IsWrittenAs, JoinStates, JoinedReply, a_list, as_it_is, canonical, canonical_of}
-use Rattle.abnftexts.specs.JoinRun.{joined_status, joins, no_memory, no_room, nothing, refused, text_written, writes}
+use Rattle.abnftexts.specs.JoinRun.{joined_status, joins, no_memory, no_room, nothing, text_written, too_long, writes}
 use Rattle.abnftexts.specs.JoinedGrammar.{AreTextsJoined, GrammarJoined, UsesPrinted, gathered_joined, standing_places}
 use Rattle.abnftexts.specs.JoinedGrammar.{standing_rules}
 use Rattle.abnftexts.specs.RulesGathered.{NamedText, RulesGathered}
@@ -52,16 +50,20 @@ module _ (one : OneReading) where
     not-refused (as_it_is more reads) no_list fault f n some = one.no_fault _ _ fault f n reads
     not-refused (canonical more reads) no_list fault f n some = one.no_fault _ _ fault f n reads
 
+    long-told : faults.TooLong ≢ faults.Memory
+    long-told bad = absurd (cc)
+
     reply-same : {form : JoinForm} {a b : Reply} → JoinedReply form j a → JoinedReply form j b → a.status ≢ 5
         → b.status ≢ 5 → a ≡ b
     reply-same (writes t) (writes u) p q =
         ap (λ (text : List ℕ). text_written text (joined_status j)) (written-same t u)
-    reply-same (writes t) (refused no_list some f n) p q = absurd (not-refused t no_list _ f n some)
+    reply-same (writes t) (too_long no_list some f) p q =
+        absurd (not-refused t no_list faults.TooLong f long-told some)
     reply-same (writes t) no_memory p q = absurd (q refl)
-    reply-same (refused no_list some f n) (writes t) p q = absurd (not-refused t no_list _ f n some)
-    reply-same (refused l s f n) (refused k r g m) p q =
-        ap (λ (fault : ReadFault). stopped (Refused fault)) (one.one_fault _ _ _ f g n m)
-    reply-same (refused l s f n) no_memory p q = absurd (q refl)
+    reply-same (too_long no_list some f) (writes t) p q =
+        absurd (not-refused t no_list faults.TooLong f long-told some)
+    reply-same (too_long l s f) (too_long k r g) p q = refl
+    reply-same (too_long l s f) no_memory p q = absurd (q refl)
     reply-same no_memory r p q = absurd (p refl)
 
   pub stated-same : (texts : List NamedText) {form : JoinForm} {input : Input} {notes others : List ℕ} {a b : Reply}

@@ -44,13 +44,19 @@ joined_status j = if j.clashes then status.Refused else if length j.grammar == 0
 abbrev pub text_written : List ℕ → Status → Reply
 text_written text status = record { out = text; err = []; status = code_of status; taken = 0 }
 
--- Behind what is told of the texts: the text is written, or a grammar that has some rule is refused, as one that is too
--- long is. A list is never refused.
+-- Behind what is told of the texts: the text is written, or a grammar that has some rule is too long, and refused for
+-- that. A list is never refused.
 pub data JoinedReply (form : JoinForm) (j : GrammarJoined) : Reply → Type 0 where
   writes : {text : List ℕ} → IsWrittenAs j form text → JoinedReply form j (text_written text (joined_status j))
-  refused : {fault : ReadFault} → form ≢ Listed → j.grammar ≢ [] → IsFaultOf j.grammar fault → fault ≢ faults.Memory
-      → JoinedReply form j (stopped (Refused fault))
+  too_long : form ≢ Listed → j.grammar ≢ [] → IsFaultOf j.grammar faults.TooLong
+      → JoinedReply form j (stopped (Refused faults.TooLong))
   no_memory : JoinedReply form j (stopped NoMemory)
+
+-- The same for a grammar of which it is not known that it has no other fault.
+pub data TriedReply (form : JoinForm) (j : GrammarJoined) : Reply → Type 0 where
+  tries : {reply : Reply} → JoinedReply form j reply → TriedReply form j reply
+  refused : {fault : ReadFault} → form ≢ Listed → j.grammar ≢ [] → IsFaultOf j.grammar fault → fault ≢ faults.Memory
+      → TriedReply form j (stopped (Refused fault))
 
 -- What is stated for texts and a form: what is told of the texts first, and the reply. There is no input.
 pub data JoinStates (texts : List NamedText) (form : JoinForm) (input : Input) : List ℕ → Reply → Type 0 where

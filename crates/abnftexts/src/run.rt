@@ -2,7 +2,7 @@
 ghost use Rattle.std.specs.Prelude.{◌≡◌, ◌≢◌, [], false, map};
 ghost use Rattle.abnfread.specs.AbnfViews.{rules_of};
 ghost use Rattle.abnfprint.specs.CanonicalAbnf.{grammar_text};
-ghost use Rattle.abnftexts.specs.JoinRun.{IsWrittenAs, JoinStates, JoinedReply, grammar_form, joined_status, no_input};
+ghost use Rattle.abnftexts.specs.JoinRun.{IsWrittenAs, JoinStates, TriedReply, grammar_form, joined_status, no_input};
 ghost use Rattle.abnftexts.specs.JoinedViews.{grammar_joined};
 ghost use Rattle.abnftexts.specs.RulesGathered.{named_text};
 ghost use Rattle.toolrun.specs.Right.{Comes};
@@ -53,7 +53,7 @@ fn write_text<O: Sink>(
 ) -> Result<Stop, WriteFault>
     requires text { IsWrittenAs (grammar_joined joined.now) form text.now }
     requires fresh { O.failed out.old ≡ false }
-    ensures { Performs (λ input reply. JoinedReply form (grammar_joined joined.now) reply) no_input
+    ensures { Performs (λ input reply. TriedReply form (grammar_joined joined.now) reply) no_input
         (passed O.contents O.failed out.old out.new) result }
 {
     match write_whole(out, text) {
@@ -71,7 +71,7 @@ fn write_canonical<O: Sink>(
     requires text { IsWrittenAs (grammar_joined joined.now) JoinForm.Canonical
         (grammar_text (rules_of abnf.now.rules)) }
     requires fresh { O.failed out.old ≡ false }
-    ensures { Performs (λ input reply. JoinedReply JoinForm.Canonical (grammar_joined joined.now) reply) no_input
+    ensures { Performs (λ input reply. TriedReply JoinForm.Canonical (grammar_joined joined.now) reply) no_input
         (passed O.contents O.failed out.old out.new) result }
 {
     match print_abnf(abnf, out) {
@@ -110,7 +110,7 @@ fn write_grammar<O: Sink>(
 ) -> Result<Stop, WriteFault>
     requires some { joined.now.grammar.items ≢ [] }
     requires fresh { O.failed out.old ≡ false }
-    ensures { Performs (λ input reply. JoinedReply (grammar_form is_canonical) (grammar_joined joined.now) reply)
+    ensures { Performs (λ input reply. TriedReply (grammar_form is_canonical) (grammar_joined joined.now) reply)
         no_input (passed O.contents O.failed out.old out.new) result }
 {
     match read_abnf(alloc, &joined.grammar) {
@@ -133,7 +133,7 @@ fn write_rules<O: Sink>(
     out: &mut O,
 ) -> Result<Stop, WriteFault>
     requires { O.failed out.old ≡ false }
-    ensures { Performs (λ input reply. JoinedReply (grammar_form is_canonical) (grammar_joined joined.now) reply)
+    ensures { Performs (λ input reply. TriedReply (grammar_form is_canonical) (grammar_joined joined.now) reply)
         no_input (passed O.contents O.failed out.old out.new) result }
 {
     if joined.grammar.is_empty() {
@@ -150,7 +150,7 @@ fn write_joined<O: Sink>(
     out: &mut O,
 ) -> Result<Stop, WriteFault>
     requires { O.failed out.old ≡ false }
-    ensures { Performs (λ input reply. JoinedReply form (grammar_joined joined.now) reply) no_input
+    ensures { Performs (λ input reply. TriedReply form (grammar_joined joined.now) reply) no_input
         (passed O.contents O.failed out.old out.new) result }
 {
     match form {

@@ -1,2 +1,3 @@
-pub mod TextEnds
+pub mod JoinAnswers
+pub mod JoinWords
 pub mod TextsRead

@@ -1,9 +1,12 @@
 //! The command line.
-ghost use Rattle.std.specs.Prelude.{◌≡◌, Some, codes};
-ghost use Rattle.clap.specs.Words.{found_of, one_text};
+ghost use Rattle.std.specs.Prelude.{◌≡◌, IfOk, false, map, string_bytes};
+ghost use Rattle.abnfx.specs.JoinWords.{AreFlagTexts, abnfx_app, canonical_rule, form_asked, list_rule, texts_rule};
+ghost use Rattle.clap.specs.Words.{app_of, found_of, rows_of, rule_of};
+ghost use Rattle.commands.specs.Command.{flag_rule};
+ghost use Rattle.commands.specs.Parsing.{Parses};
 
 use abnftexts::JoinForm;
-use clap::{Arg, ArgAction, ArgMatches, Command, value_parser};
+use clap::{Arg, ArgAction, ArgMatches, Command, Error, value_parser};
 use std::alloc::{AllocError, Global};
 
 /// The end of the help.
@@ -18,58 +21,85 @@ const AFTER: &str = "Exit status:
 Example:
   abnfx rfc3339.txt > date.abnf";
 
-// A flag of one letter.
-fn flag<'a>(alloc: Global, name: &'a str, short: char, help: &'a str) -> Arg<'a> {
-    Arg::new(alloc, name)
-        .short(short)
+// The flag for the canonical text.
+fn canonical_arg<'a>(alloc: Global) -> Arg<'a>
+    ensures rule { rule_of result ≡ canonical_rule }
+    ensures local { result.global ≡ false }
+{
+    Arg::new(alloc, "canonical")
+        .short('c')
         .action(ArgAction::SetTrue)
         .value_parser(value_parser!(bool))
-        .help(help)
+        .help("Write the canonical text of the grammar")
 }
 
-/// Returns the command `abnfx [-c | -l] TEXT..`. Refused for want of memory.
-pub(crate) fn abnfx_command<'a>(alloc: Global) -> Result<Command<'a>, AllocError> {
-    let canonical = flag(
-        alloc,
-        "canonical",
-        'c',
-        "Write the canonical text of the grammar",
-    );
-    let list = flag(
-        alloc,
-        "list",
-        'l',
-        "List the rules, and what becomes of each",
-    );
-    let apart = list.conflicts_with("canonical")?;
-    let texts = Arg::new(alloc, "text")
+// The flag for the list.
+fn list_arg<'a>(alloc: Global) -> Arg<'a>
+    ensures rule { rule_of result ≡ list_rule }
+    ensures local { result.global ≡ false }
+{
+    Arg::new(alloc, "list")
+        .short('l')
+        .action(ArgAction::SetTrue)
+        .value_parser(value_parser!(bool))
+        .help("List the rules, and what becomes of each")
+}
+
+// The words that are no options.
+fn text_arg<'a>(alloc: Global) -> Arg<'a>
+    ensures rule { rule_of result ≡ texts_rule }
+    ensures local { result.global ≡ false }
+{
+    Arg::new(alloc, "text")
         .value_name("TEXT")
         .action(ArgAction::Append)
         .num_args(1..)
         .help("The texts of RFCs, each at most 16777216 bytes")
-        .required(true);
+        .required(true)
+}
+
+/// Returns the command `abnfx [-c | -l] TEXT..`. Refused for want of memory.
+pub(crate) fn abnfx_command<'a>(alloc: Global) -> Result<Command<'a>, AllocError>
+    ensures app { IfOk result (λ c. app_of c ≡ abnfx_app) }
+{
     let plain = Command::new(alloc, "abnfx")
         .about("Joins the grammars in ABNF (RFC 5234, RFC 7405) that texts of RFCs give")
         .after_help(AFTER);
-    let with_canonical = plain.arg(canonical)?;
-    let with_list = with_canonical.arg(apart)?;
-    with_list.arg(texts)
+    let with_canonical = plain.arg(canonical_arg(alloc))?;
+    let with_list = with_canonical.arg(list_arg(alloc))?;
+    with_list.arg(text_arg(alloc))
 }
 
-/// Returns the form that the words ask for.
-pub(crate) fn form_of(matches: &ArgMatches<'_>) -> JoinForm
-    ensures listed { one_text (found_of matches.now) (codes "list") ≡ Some (codes "true")
-        → result ≡ JoinForm.Listed }
-    ensures canonical { one_text (found_of matches.now) (codes "list") ≡ Some (codes "false")
-        → one_text (found_of matches.now) (codes "canonical") ≡ Some (codes "true") → result ≡ JoinForm.Canonical }
-    ensures plain { one_text (found_of matches.now) (codes "list") ≡ Some (codes "false")
-        → one_text (found_of matches.now) (codes "canonical") ≡ Some (codes "false") → result ≡ JoinForm.Plain }
+/// Parses the words, the program's name first.
+///
+/// The error holds the help that was asked for, or what is wrong with the words, or want of memory.
+pub(crate) fn parse_words<'a>(alloc: Global, words: &'a [String]) -> Result<ArgMatches<'a>, Error>
+    ensures parses { Parses abnfx_app (map string_bytes words.entry.now) result }
+    ensures flags { IfOk result (λ m. AreFlagTexts (found_of m)) }
 {
+    let command = match abnfx_command(alloc) {
+        Ok(command) => command,
+        Err(fault) => return Err(fault.into()),
+    };
+    command.try_get_matches_from(words)
+}
+
+/// Returns the form that the words ask for; `None` where they ask for two.
+pub(crate) fn form_of(matches: &ArgMatches<'_>) -> Option<JoinForm>
+    requires flags { AreFlagTexts (found_of matches.now) }
+    ensures { result ≡ form_asked (rows_of (found_of matches.now)) }
+{
+    let is_canonical = matches.get_flag("canonical");
     if matches.get_flag("list") {
-        JoinForm::Listed
-    } else if matches.get_flag("canonical") {
+        return if is_canonical {
+            None
+        } else {
+            Some(JoinForm::Listed)
+        };
+    }
+    Some(if is_canonical {
         JoinForm::Canonical
     } else {
         JoinForm::Plain
-    }
+    })
 }

@@ -21,8 +21,8 @@ fn main(rt: HostRuntime) -> ExitCode {
         Err(fault) if fault.kind() == ErrorKind::OutOfMemory => return end_without_memory(&rt),
         // a word that is no text
         Err(_) => {
-            let told = b"error: invalid UTF-8 was detected in one or more arguments\n";
-            return ExitCode::from(run::refuse(told, &mut out, &mut err).code());
+            let status = run::refuse_invalid_utf8(rt.alloc(), &mut out, &mut err);
+            return ExitCode::from(status.code());
         }
     };
     let status = run::abnfx_main(&rt, words.as_slice(), &mut out, &mut err);

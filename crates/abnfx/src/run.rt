@@ -1,74 +1,36 @@
 //! The run of the program.
-ghost use Rattle.std.specs.Prelude.{◌≡◌, false};
+ghost use Rattle.std.specs.Prelude.{◌≡◌, IfOk, [], false, map, string_bytes};
 ghost use Rattle.std.specs.Io.KnownBytes.{Keeps};
-ghost use Rattle.abnfx.specs.TextEnds.{AsksNoHelp, EndsOrStops, TextEnds, unread_status};
-ghost use Rattle.clap.specs.Words.{kind_of};
+ghost use Rattle.std.specs.List.{flat_map};
+ghost use Rattle.abnftexts.specs.JoinRun.{no_input};
+ghost use Rattle.abnfx.specs.JoinAnswers.{FilesJoined, IsToldAnd, JoinAnswers, both_forms, unread_stop, unread_text};
+ghost use Rattle.abnfx.specs.JoinWords.{AreFlagTexts, abnfx_app, paths_asked};
+ghost use Rattle.clap.specs.Words.{fault_of, found_of, kind_of, matches_of, rows_of};
+ghost use Rattle.commands.specs.Parsing.{Answers, EndsAs};
+ghost use Rattle.toolrun.specs.Right.{Comes};
+ghost use Rattle.toolrun.specs.Status.{code_of};
+ghost use Rattle.toolrun.specs.Stream.{passed};
 
-use crate::command::{abnfx_command, form_of};
+use crate::command::{abnfx_command, form_of, parse_words};
 use crate::texts::{Unread, read_texts, sources_of};
 use abnftexts::{JoinForm, run_join};
-use clap::Error;
 use clap::error::ErrorKind;
-use ruletable::{Sink, write_pieces, write_whole};
-use std::alloc::Global;
+use clap::{ArgMatches, Error};
+use commands::{Unready, end_unready};
+use ruletable::{Sink, write_pieces};
+use std::alloc::{AllocError, Global};
 use std::rt::Files;
 use toolrun::{Status, Stop, close_run, end_run};
 
-/// Tells on the error output what is wrong with the words.
-pub(crate) fn refuse<O: Sink, E: Sink>(told: &[u8], out: &mut O, err: &mut E) -> Status
-    requires out_is_fresh { O.failed out.old ≡ false }
-    requires err_is_fresh { E.failed err.old ≡ false }
-    ensures kept { Keeps (O.contents out.old) (O.contents out.new) }
-    ensures ends { TextEnds (O.failed out.new) (E.failed err.new) Status.Refused result }
-{
-    if write_whole(err, told).is_err() {
-        return close_run(out, err);
-    }
-    end_run(Ok(Stop::Quiet(Status::Refused)), out, err)
-}
+/// What is told of a word that is no UTF-8 text.
+const INVALID_UTF8: &str = "invalid UTF-8 was detected in one or more arguments";
 
-// Shows the help on the output.
-fn show_help<O: Sink, E: Sink>(text: &[u8], out: &mut O, err: &mut E) -> Status
-    requires out_is_fresh { O.failed out.old ≡ false }
-    requires err_is_fresh { E.failed err.old ≡ false }
-    ensures ends { TextEnds (O.failed out.new) (E.failed err.new) Status.Done result }
-{
-    match write_whole(out, text) {
-        Ok(()) => end_run(Ok(Stop::Quiet(Status::Done)), out, err),
-        Err(fault) => end_run(Err(fault), out, err),
-    }
-}
-
-// Ends a program whose words were not parsed: the help that was asked for, or what is wrong with them.
-fn end_unparsed<O: Sink, E: Sink>(alloc: Global, error: &Error, out: &mut O, err: &mut E) -> Status
-    requires out_is_fresh { O.failed out.old ≡ false }
-    requires err_is_fresh { E.failed err.old ≡ false }
-    ensures refused { AsksNoHelp (kind_of error.now) → Keeps (O.contents out.old) (O.contents out.new)
-        × EndsOrStops (O.failed out.new) (E.failed err.new) Status.Refused result }
-    ensures helped { kind_of error.now ≡ ErrorKind.DisplayHelp
-        → EndsOrStops (O.failed out.new) (E.failed err.new) Status.Done result }
-    ensures no_memory { kind_of error.now ≡ ErrorKind.OutOfMemory
-        → TextEnds (O.failed out.new) (E.failed err.new) Status.NoMemory result }
-{
-    if error.kind() == ErrorKind::OutOfMemory {
-        return end_run(Ok(Stop::NoMemory), out, err);
-    }
-    let Ok(text) = format!(in alloc; "{error}") else {
-        return end_run(Ok(Stop::NoMemory), out, err);
-    };
-    if error.use_stderr() {
-        refuse(text.as_bytes(), out, err)
-    } else {
-        show_help(text.as_bytes(), out, err)
-    }
-}
-
-// Tells why a text is not had, and ends.
+// Tells why nothing is joined, and ends.
 fn end_told<O: Sink, E: Sink>(pieces: &[&[u8]], status: Status, out: &mut O, err: &mut E) -> Status
     requires out_is_fresh { O.failed out.old ≡ false }
     requires err_is_fresh { E.failed err.old ≡ false }
-    ensures kept { Keeps (O.contents out.old) (O.contents out.new) }
-    ensures ends { TextEnds (O.failed out.new) (E.failed err.new) status result }
+    ensures right { Comes (IsToldAnd (flat_map (λ p. p.now) pieces.now) (Stop.Quiet status)) no_input
+        (passed O.contents O.failed out.old out.new) (passed E.contents E.failed err.old err.new) (code_of result) }
 {
     if write_pieces(err, pieces).is_err() {
         return close_run(out, err);
@@ -80,8 +42,8 @@ fn end_told<O: Sink, E: Sink>(pieces: &[&[u8]], status: Status, out: &mut O, err
 fn end_unread<O: Sink, E: Sink>(why: &Unread<'_>, out: &mut O, err: &mut E) -> Status
     requires out_is_fresh { O.failed out.old ≡ false }
     requires err_is_fresh { E.failed err.old ≡ false }
-    ensures kept { Keeps (O.contents out.old) (O.contents out.new) }
-    ensures ends { TextEnds (O.failed out.new) (E.failed err.new) (unread_status why.now) result }
+    ensures right { Comes (IsToldAnd (unread_text why.now) (unread_stop why.now)) no_input
+        (passed O.contents O.failed out.old out.new) (passed E.contents E.failed err.old err.new) (code_of result) }
 {
     match why {
         Unread::Unreadable(path) => end_told(
@@ -110,6 +72,8 @@ fn join_files<R: Files + AllocGlobal, O: Sink, E: Sink>(
 ) -> Status
     requires out_is_fresh { O.failed out.old ≡ false }
     requires err_is_fresh { E.failed err.old ≡ false }
+    ensures right { Comes (FilesJoined (map (λ p. p.now) paths.now) form) no_input
+        (passed O.contents O.failed out.old out.new) (passed E.contents E.failed err.old err.new) (code_of result) }
 {
     let texts = match read_texts(rt, paths) {
         Ok(texts) => texts,
@@ -121,7 +85,66 @@ fn join_files<R: Files + AllocGlobal, O: Sink, E: Sink>(
     }
 }
 
-/// Runs the program, whose words are its own name and `[-c | -l] TEXT..`: it joins the texts of these files.
+// Tells that two forms exclude each other, and ends.
+fn end_clash<O: Sink, E: Sink>(out: &mut O, err: &mut E) -> Status
+    requires out_is_fresh { O.failed out.old ≡ false }
+    requires err_is_fresh { E.failed err.old ≡ false }
+    ensures right { Comes (IsToldAnd both_forms (Stop.Quiet Status.Refused)) no_input
+        (passed O.contents O.failed out.old out.new) (passed E.contents E.failed err.old err.new) (code_of result) }
+{
+    let told: [&[u8]; 2] = [
+        b"error: the argument '-l' cannot be used with '-c'\n\nUsage: abnfx [OPTIONS] <TEXT>...\n\n",
+        b"For more information, try '--help'.\n",
+    ];
+    end_told(&told, Status::Refused, out, err)
+}
+
+// Joins the texts that the words name, in that form.
+fn join_named<R: Files + AllocGlobal, O: Sink, E: Sink>(
+    rt: &R,
+    matches: &ArgMatches<'_>,
+    form: JoinForm,
+    out: &mut O,
+    err: &mut E,
+) -> Status
+    requires out_is_fresh { O.failed out.old ≡ false }
+    requires err_is_fresh { E.failed err.old ≡ false }
+    ensures right { Comes (FilesJoined (paths_asked (rows_of (found_of matches.now))) form) no_input
+        (passed O.contents O.failed out.old out.new) (passed E.contents E.failed err.old err.new) (code_of result) }
+{
+    match matches.get_strs("text") {
+        Some(paths) => join_files(rt, paths, form, out, err),
+        None => join_files(rt, &[], form, out, err),
+    }
+}
+
+// Joins the texts that the words name, in the form that they ask for.
+fn join_asked<R: Files + AllocGlobal, O: Sink, E: Sink>(
+    rt: &R,
+    matches: &ArgMatches<'_>,
+    out: &mut O,
+    err: &mut E,
+) -> Status
+    requires flags { AreFlagTexts (found_of matches.now) }
+    requires out_is_fresh { O.failed out.old ≡ false }
+    requires err_is_fresh { E.failed err.old ≡ false }
+    ensures right { Comes (JoinAnswers (rows_of (found_of matches.now))) no_input
+        (passed O.contents O.failed out.old out.new) (passed E.contents E.failed err.old err.new) (code_of result) }
+{
+    match form_of(matches) {
+        Some(form) => join_named(rt, matches, form, out, err),
+        None => end_clash(out, err),
+    }
+}
+
+/// Runs the program, whose words are its own name and `[-c | -l] TEXT..`: it joins the texts of these files, as
+/// `run_join` says, in the form that the words ask for.
+///
+/// - `-h`: the help on `out`, `Done`.
+/// - Other words, or both flags: what is wrong with them on `err`, `Refused`, and nothing is read.
+/// - The first text that cannot be read: `cannot read` and its path, `Fault`; that is too long: its path and
+///   `longer than 16777216 bytes`, `Overlong`. Nothing is joined.
+/// - If an allocation fails: `out of memory`, `NoMemory`.
 pub(crate) fn abnfx_main<R: Files + AllocGlobal, O: Sink, E: Sink>(
     rt: &R,
     words: &[String],
@@ -130,15 +153,42 @@ pub(crate) fn abnfx_main<R: Files + AllocGlobal, O: Sink, E: Sink>(
 ) -> Status
     requires out_is_fresh { O.failed out.old ≡ false }
     requires err_is_fresh { E.failed err.old ≡ false }
+    ensures words { Answers (fault_of abnfx_app (map string_bytes words.now))
+        (Keeps (O.contents out.old) (O.contents out.new) ×
+        EndsAs (O.failed out.new) (E.failed err.new) Status.Refused result)
+        (EndsAs (O.failed out.new) (E.failed err.new) Status.Done result) }
+    ensures right { fault_of abnfx_app (map string_bytes words.now) ≡ [] →
+        Comes (JoinAnswers (matches_of abnfx_app (map string_bytes words.now))) no_input
+        (passed O.contents O.failed out.old out.new) (passed E.contents E.failed err.old err.new) (code_of result) }
 {
-    let Ok(command) = abnfx_command(rt.alloc()) else {
-        return end_run(Ok(Stop::NoMemory), out, err);
-    };
-    match command.try_get_matches_from(words) {
-        Ok(matches) => match matches.get_strs("text") {
-            Some(paths) => join_files(rt, paths, form_of(&matches), out, err),
-            None => end_run(Ok(Stop::Quiet(Status::Refused)), out, err),
-        },
-        Err(error) => end_unparsed(rt.alloc(), &error, out, err),
+    match parse_words(rt.alloc(), words) {
+        Ok(matches) => join_asked(rt, &matches, out, err),
+        Err(error) => end_unready(rt.alloc(), &Unready::Words(error), out, err),
+    }
+}
+
+// The error of words that are not all UTF-8 text, in the form of the errors of a parse.
+fn invalid_utf8(alloc: Global) -> Result<Error, AllocError>
+    ensures kind { IfOk result (λ e. kind_of e ≡ ErrorKind.ValueValidation) }
+{
+    let mut command = abnfx_command(alloc)?;
+    command.error(ErrorKind::ValueValidation, INVALID_UTF8)
+}
+
+/// Ends a program whose words are not all UTF-8 text: that is told on `err`, `Refused`. If an allocation fails,
+/// `out of memory`, `NoMemory`.
+pub(crate) fn refuse_invalid_utf8<O: Sink, E: Sink>(
+    alloc: Global,
+    out: &mut O,
+    err: &mut E,
+) -> Status
+    requires out_is_fresh { O.failed out.old ≡ false }
+    requires err_is_fresh { E.failed err.old ≡ false }
+    ensures kept { Keeps (O.contents out.old) (O.contents out.new) }
+    ensures refused { EndsAs (O.failed out.new) (E.failed err.new) Status.Refused result }
+{
+    match invalid_utf8(alloc) {
+        Ok(error) => end_unready(alloc, &Unready::Words(error), out, err),
+        Err(_) => end_run(Ok(Stop::NoMemory), out, err),
     }
 }

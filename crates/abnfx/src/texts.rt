@@ -1,6 +1,7 @@
 //! The texts.
-ghost use Rattle.std.specs.Prelude.{◌≡◌, IfOk, map};
+ghost use Rattle.std.specs.Prelude.{◌≡◌, ◌≤◌, ◌∷◌, [], IfErr, IfOk, length, map};
 ghost use Rattle.abnftexts.specs.RulesGathered.{named_text};
+ghost use Rattle.abnfx.specs.JoinAnswers.{AreTextsOf, IsUnreadOf};
 ghost use Rattle.abnfx.specs.TextsRead.{text_read};
 
 use abnftexts::SourceText;
@@ -41,10 +42,10 @@ fn read_bytes<R: Files + AllocGlobal>(rt: &R, path: &str) -> io::Result<Vec<u8>>
 }
 
 // Reads a text that is not too long.
-fn read_text<'a, R: Files + AllocGlobal>(
-    rt: &R,
-    path: &'a str,
-) -> Result<FileText<'a>, Unread<'a>> {
+fn read_text<'a, R: Files + AllocGlobal>(rt: &R, path: &'a str) -> Result<FileText<'a>, Unread<'a>>
+    ensures text { IfOk result (λ t. (t.path.now ≡ path.entry.now) × (length t.bytes.items ≤ MAX_TEXT)) }
+    ensures unread { IfErr result (IsUnreadOf (path.entry.now ∷ [])) }
+{
     match read_bytes(rt, path) {
         Ok(bytes) => {
             if bytes.len() > MAX_TEXT {
@@ -62,7 +63,10 @@ fn read_text<'a, R: Files + AllocGlobal>(
 pub(crate) fn read_texts<'a, R: Files + AllocGlobal>(
     rt: &R,
     paths: &[&'a str],
-) -> Result<Vec<FileText<'a>>, Unread<'a>> {
+) -> Result<Vec<FileText<'a>>, Unread<'a>>
+    ensures texts { IfOk result (λ texts. AreTextsOf (map (λ p. p.now) paths.now) (map text_read texts.items)) }
+    ensures unread { IfErr result (IsUnreadOf (map (λ p. p.now) paths.now)) }
+{
     let mut texts = Vec::new(rt.alloc());
     for path in paths {
         match read_text(rt, *path) {

@@ -1,6 +1,6 @@
 -- Lines that are comments.
 use Prim.Native.Char.{code}
-use Rattle.std.specs.Prelude.{◌≡◌, ℕ, List, slice_get, Some}
+use Rattle.std.specs.Prelude.{◌≡◌, ℕ, List, Some, codes, slice_get}
 use Rattle.lines.specs.declared.answers.Answer.{Answer}
 use Rattle.lines.specs.declared.answers.Answer.TheVariants.{Yes, No, NoAfter}
 use Rattle.lines.specs.declared.line.LineForm.{LineForm}
@@ -19,6 +19,6 @@ IsCommentAnswer line (NoAfter n) = ⊥
 abbrev pub comment_form : LineForm
 comment_form = record { limit = 65536; end = code "\n" }
 
--- no text explains a line that is refused
-abbrev pub IsUnexplained : List ℕ → ℕ → List ℕ → Type 0
-IsUnexplained line number why = ⊥
+-- what is told of a line that is no comment
+abbrev pub LacksSign : List ℕ → ℕ → List ℕ → Type 0
+LacksSign line number why = why ≡ codes "a comment begins with #\n"

@@ -1,7 +1,6 @@
 //! A caller of `lines`.
-ghost use Rattle.std.specs.Prelude.{◌≡◌, false};
-ghost use Rattle.callers.specs.CommentLines.{IsUnexplained};
-ghost use Rattle.callers.specs.CommentLines.{IsCommentAnswer, comment_form};
+ghost use Rattle.std.specs.Prelude.{◌≡◌, false, true};
+ghost use Rattle.callers.specs.CommentLines.{IsCommentAnswer, LacksSign, comment_form};
 ghost use Rattle.lines.specs.LineRefusals.{LinesStates};
 ghost use Rattle.toolrun.specs.Stopped.{Fulfils};
 ghost use Rattle.toolrun.specs.Stream.{passed};
@@ -12,15 +11,18 @@ use ruletable::{Memory, Sink, WriteFault};
 use std::alloc::Global;
 use toolrun::Ending;
 
-/// Judges lines by their first byte.
-pub struct Comments;
+/// Judges lines by their first byte, and tells what the refused ones lack.
+#[derive(Drop)]
+pub struct Comments {
+    alloc: Global,
+}
 
 impl Judge<()> for Comments {
     ghost told = { λ _ line said. IsCommentAnswer line said };
 
-    ghost explains = { λ _. false };
+    ghost explains = { λ _. true };
 
-    ghost refusal = { λ _. IsUnexplained };
+    ghost refusal = { λ _. LacksSign };
 
     ghost served = { λ _. 65536 };
 
@@ -34,18 +36,20 @@ impl Judge<()> for Comments {
     }
 
     fn is_explained(&self) -> bool {
-        false
+        true
     }
 
-    // no line is explained
     fn explain(&self, _work: &mut (), _line: &[u8], _number: usize) -> Result<Vec<u8>, Memory> {
-        Err(Memory)
+        let mut why = Vec::new(self.alloc);
+        why.extend_from_slice(b"a comment begins with #\n")?;
+        Ok(why)
     }
 
     fn decided(&self) {}
 }
 
-/// Writes `yes` for each line of an input that begins with `#`, and `no` for any other.
+/// Writes `yes` for each line of an input that begins with `#`, and `no` for any other. The ending holds what is told
+/// of the first 16 lines that are refused, and how many more there are.
 pub fn answer_comments<R: Source, O: Sink>(
     alloc: Global,
     reader: &mut R,
@@ -54,12 +58,12 @@ pub fn answer_comments<R: Source, O: Sink>(
     requires reader_is_fresh { R.failed reader.old ≡ false }
     requires reader_is_open { R.ended reader.old ≡ false }
     requires out_is_fresh { O.failed out.old ≡ false }
-    ensures { Fulfils (LinesStates IsCommentAnswer false IsUnexplained comment_form)
+    ensures { Fulfils (LinesStates IsCommentAnswer true LacksSign comment_form)
         (passed R.remaining R.failed reader.old reader.new) (passed O.contents O.failed out.old out.new) result }
 {
     let form = LineForm {
         limit: 65_536,
         end: b'\n',
     };
-    run_lines(alloc, &Comments, &mut (), form, reader, out)
+    run_lines(alloc, &Comments { alloc }, &mut (), form, reader, out)
 }

@@ -39,18 +39,18 @@ is_none (Some x) e = absurd (true≢false (sym e))
 -- ---- tests of lists of rules
 
 -- none has this id
-abbrev lacks_id : List Rule → Text → Bool
+abbrev pub lacks_id : List Rule → Text → Bool
 lacks_id [] id = true
 lacks_id (r ∷ rs) id = not (bytes_eq r.id id) && lacks_id rs id
 
 -- none but the one at place k has this id
-abbrev is_only : List Rule → ℕ → Text → Bool
+abbrev pub is_only : List Rule → ℕ → Text → Bool
 is_only [] k id = true
 is_only (r ∷ rs) zero id = lacks_id rs id
 is_only (r ∷ rs) (suc k) id = not (bytes_eq r.id id) && is_only rs k id
 
 -- each is simple, and has no rule on another
-abbrev are_bare : List Rule → Bool
+abbrev pub are_bare : List Rule → Bool
 are_bare [] = true
 are_bare (r ∷ rs) = (r.is_simple && r.is_free) && are_bare rs
 
@@ -99,12 +99,12 @@ arg_bare a simple free =
 -- ---- the command
 
 -- what a command with these rules gives of itself
-record IsCommand (c : Command) (rs : List Rule) : Type 0 where
-  list : map rule_of (args_of c) ≡ rs
-  bare_rules : are_bare rs ≡ true
-  plain : IsPlain c
-  globals : (out-Command c).has_globals ≡ false
-  negates : (out-Command c).subcommand_negates_reqs ≡ false
+pub record IsCommand (c : Command) (rs : List Rule) : Type 0 where
+  pub list : map rule_of (args_of c) ≡ rs
+  pub bare_rules : are_bare rs ≡ true
+  pub plain : IsPlain c
+  pub globals : (out-Command c).has_globals ≡ false
+  pub negates : (out-Command c).subcommand_negates_reqs ≡ false
 
 rules_count : (xs : List Arg) (rs : List Rule) → map rule_of xs ≡ rs → length xs ≡ length rs
 rules_count xs rs e = sym (length-map xs rule_of) ∙ ap length e
@@ -123,7 +123,7 @@ bare_at xs rs e all k d lt =
     arg_bare (slice_index_or xs k d) (ap (λ (r : Rule). r.is_simple) is ∙ both_true.0)
     (ap (λ (r : Rule). r.is_free) is ∙ both_true.1)
 
-is_command : (c : Command) (app : App) → app_of c ≡ app → app.top.is_plain ≡ true
+pub is_command : (c : Command) (app : App) → app_of c ≡ app → app.top.is_plain ≡ true
     → app.top.subcommand_negates_reqs ≡ false → are_bare app.top.rules ≡ true → IsCommand c app.top.rules
 is_command c app e plain negates all =
     let shape : shape_of c ≡ app.top = ap (λ (a : App). a.top) e in
@@ -143,16 +143,16 @@ is_command c app e plain negates all =
     }
 
 -- the rule r stands at place k, and no other has its id
-record HasAt (rs : List Rule) (k : ℕ) (r : Rule) : Type 0 where
-  within : k < length rs
-  at : (d : Rule) → slice_index_or rs k d ≡ r
-  only : is_only rs k r.id ≡ true
+pub record HasAt (rs : List Rule) (k : ℕ) (r : Rule) : Type 0 where
+  pub within : k < length rs
+  pub at : (d : Rule) → slice_index_or rs k d ≡ r
+  pub only : is_only rs k r.id ≡ true
 
 -- an id that building adds to no command
-record IsOwn (id : Text) : Type 0 where
-  named : id ≡ [] → ⊥
-  help : bytes_eq id (codes "help") ≡ false
-  version : bytes_eq id (codes "version") ≡ false
+pub record IsOwn (id : Text) : Type 0 where
+  pub named : id ≡ [] → ⊥
+  pub help : bytes_eq id (codes "help") ≡ false
+  pub version : bytes_eq id (codes "version") ≡ false
 
 -- the argument of a rule
 record IsArgOf (c : Command) (k : ℕ) (d : Arg) (r : Rule) : Type 0 where
@@ -242,7 +242,7 @@ limit_is c rs is m p d k has =
       limit_text read.0.now read.2,
     )
 
-flag_is : (c : Command) (rs : List Rule) → IsCommand c rs → (m : ArgMatches) → IsParsedFrom c m → (d : Arg) (k : ℕ)
+pub flag_is : (c : Command) (rs : List Rule) → IsCommand c rs → (m : ArgMatches) → IsParsedFrom c m → (d : Arg) (k : ℕ)
     → (id : Text) (letter : ℕ) → IsOwn id → HasAt rs k (flag_rule id letter)
     → IsFlagText (one_text (found_of m) id)
 flag_is c rs is m p d k id letter own has =
@@ -281,7 +281,7 @@ none_is c rs is m p id own none = none_found c m p is.plain is.globals id own.na
 -- ---- the programs
 
 -- some argument of a command that has some
-first_arg : (c : Command) (rs : List Rule) → IsCommand c rs → 0 < length rs → Arg
+pub first_arg : (c : Command) (rs : List Rule) → IsCommand c rs → 0 < length rs → Arg
 first_arg c rs is some = head_of (args_of c) (subst (λ n. 0 < n) (sym (rules_count (args_of c) rs is.list)) some)
 
 pegi_is_whole : (c : Command) (names : Names) → app_of c ≡ pegi_app names → (m : ArgMatches)

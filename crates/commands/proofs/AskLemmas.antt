@@ -15,8 +15,8 @@ first_found f rows e id = first_value-rows f id ∙ ap (first_of id) e
 one_found : (f : Found) (rows : List Row) → rows_of f ≡ rows → (id : Text) → one_text f id ≡ one_of id rows
 one_found f rows e id = one_text-rows f id ∙ ap (one_of id) e
 
-flag_found : (f : Found) (rows : List Row) → rows_of f ≡ rows → (id : Text) (given : Bool) → IsFlagText (one_text f id)
-    → IsFlagOf (one_text f id) given → given ≡ is_flagged (one_of id rows)
+pub flag_found : (f : Found) (rows : List Row) → rows_of f ≡ rows → (id : Text) (given : Bool)
+    → IsFlagText (one_text f id) → IsFlagOf (one_text f id) given → given ≡ is_flagged (one_of id rows)
 flag_found f rows e id given text said = elim text [
   | inl none ↦ said.0 none ∙ ap is_flagged (sym none ∙ one_found f rows e id)
   | inr (inl on) ↦ said.1 on ∙ ap is_flagged (sym on ∙ one_found f rows e id)

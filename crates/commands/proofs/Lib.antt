@@ -1,4 +1,4 @@
-mod AppLemmas
+pub mod AppLemmas
 mod EntryLemmas
-mod AreWholeLemmas
-mod AskLemmas
+pub mod AreWholeLemmas
+pub mod AskLemmas

@@ -1,29 +1,44 @@
 //! The answers to the lines of small inputs, by hand.
-ghost use Rattle.std.specs.Prelude.{◌≡◌, ◌-◌, false, length, ltb, if◌then◌else◌};
+ghost use Rattle.std.specs.Prelude.{◌≡◌, ◌-◌, codes, length, ltb, if◌then◌else◌};
 ghost use Rattle.lines.specs.declared.answers.Answer.TheVariants as answer;
 
 use feed::SourceOf;
 use lines::{Answer, Judge, LineForm, run_lines};
 use ruletable::{Memory, SinkOf};
+use std::alloc::Global;
 use std::process::Abort;
 use std::rt::HostRuntime;
 use toolrun::{Ending, Status, Stop};
 
 /// Says yes to the lines of at most so many bytes. To another line it says no, and by how many bytes it is longer if it
-/// counts.
+/// counts; if it explains, it tells that the line is long.
 #[derive(Drop)]
 struct Short {
+    alloc: Global,
     most: usize,
     counts: bool,
+    explains: bool,
+}
+
+impl Short {
+    /// Says yes to the lines of at most 2 bytes, and does no more.
+    fn plain(alloc: Global) -> Short {
+        Short {
+            alloc,
+            most: 2,
+            counts: false,
+            explains: false,
+        }
+    }
 }
 
 impl Judge<u8> for Short {
     ghost told = { λ short line said. said ≡ (if ltb short.most (length line)
         then (if short.counts then answer.NoAfter (length line - short.most) else answer.No) else answer.Yes) };
 
-    ghost explains = { λ _. false };
+    ghost explains = { λ short. short.explains };
 
-    ghost refusal = { λ _ line number why. ⊥ };
+    ghost refusal = { λ _ line number why. why ≡ codes "long\n" };
 
     ghost served = { λ _. 4 };
 
@@ -40,12 +55,13 @@ impl Judge<u8> for Short {
     }
 
     fn is_explained(&self) -> bool {
-        false
+        self.explains
     }
 
-    // no line is explained
     fn explain(&self, _work: &mut u8, _line: &[u8], _number: usize) -> Result<Vec<u8>, Memory> {
-        Err(Memory)
+        let mut why = Vec::new(self.alloc);
+        why.extend_from_slice(b"long\n")?;
+        Ok(why)
     }
 
     fn decided(&self) {}
@@ -98,20 +114,14 @@ fn check_lines<R: Abort + AllocGlobal>(
 #[test]
 fn answers_lines(rt: HostRuntime) {
     for row in &ROWS {
-        let judge = Short {
-            most: 2,
-            counts: false,
-        };
+        let judge = Short::plain(rt.alloc());
         check_lines(&rt, judge, b'\n', row.0, row.1, row.2);
     }
 }
 
 #[test]
 fn another_byte_ends_lines(rt: HostRuntime) {
-    let judge = Short {
-        most: 2,
-        counts: false,
-    };
+    let judge = Short::plain(rt.alloc());
     let stop = Stop::Quiet(Status::NoMatch);
     check_lines(&rt, judge, 0, b"a\n\0a\nb\0\n", b"yes\nno\nyes\n", stop);
 }
@@ -120,8 +130,8 @@ fn another_byte_ends_lines(rt: HostRuntime) {
 fn tells_numbers(rt: HostRuntime) {
     let stop = Stop::Quiet(Status::NoMatch);
     let judge = Short {
-        most: 2,
         counts: true,
+        ..Short::plain(rt.alloc())
     };
     check_lines(
         &rt,
@@ -131,4 +141,35 @@ fn tells_numbers(rt: HostRuntime) {
         b"no 2\nyes\nno 1\n",
         stop,
     );
+}
+
+/// Eighteen lines that are too long, one of them behind a short one.
+static LONG_LINES: &[u8] =
+    b"abc\nabc\nabc\nabc\nabc\nabc\nabc\nabc\nabc\na\nabc\nabc\nabc\nabc\nabc\nabc\nabc\nabc\nabcd";
+
+/// What is told of the first sixteen.
+static LONG_TOLD: &[u8] =
+    b"long\nlong\nlong\nlong\nlong\nlong\nlong\nlong\nlong\nlong\nlong\nlong\nlong\nlong\nlong\nlong\n";
+
+#[test]
+fn explains_sixteen_lines(rt: HostRuntime) {
+    let judge = Short {
+        explains: true,
+        ..Short::plain(rt.alloc())
+    };
+    let mut reader = SourceOf::new(LONG_LINES);
+    let mut out = SinkOf::new(Vec::new(rt.alloc()));
+    let form = LineForm {
+        limit: 4,
+        end: b'\n',
+    };
+    match run_lines(rt.alloc(), &judge, &mut 0u8, form, &mut reader, &mut out) {
+        Ok(Ending::Explained { told, stop, why }) => {
+            assert!(rt; told.text.as_slice() == LONG_TOLD, "what is told");
+            assert!(rt; told.more == 2, "how many more there are");
+            assert!(rt; stop == Stop::Quiet(Status::NoMatch), "how it stops");
+            assert!(rt; why.is_empty(), "what explains the stop");
+        }
+        _ => assert!(rt; false, "how the run ends"),
+    }
 }

@@ -174,6 +174,9 @@ fn an_error_output_that_fails_holds_a_beginning_of_what_is_told(rt: HostRuntime)
         };
         let settings = explaining(row);
         let ran = run_over(rt.alloc(), Program::Abnfi, row.grammar, &settings, &ends);
-        assert!(rt; ran.is(row.out, &row.told[..room], Status::Fault), "room {room}");
+        assert!(rt;
+            ran.is(row.out, &row.told[..room], Status::Fault),
+            "room {room}"
+        );
     }
 }

@@ -73,6 +73,12 @@ fn hints_stand_behind_the_notes(rt: HostRuntime) {
 fn without_explanations_there_are_no_hints(rt: HostRuntime) {
     let row = &HINTS[0];
     let ends = Ends::new(b"x\n", 7);
-    let ran = run_over(rt.alloc(), row.program, row.grammar, &checking(false), &ends);
+    let ran = run_over(
+        rt.alloc(),
+        row.program,
+        row.grammar,
+        &checking(false),
+        &ends,
+    );
     assert!(rt; ran.is(b"", b"", Status::Done));
 }

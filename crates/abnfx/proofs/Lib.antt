@@ -1,0 +1,3 @@
+mod JoinAnswersLemmas
+mod JoinWordsLemmas
+mod TextsReadLemmas

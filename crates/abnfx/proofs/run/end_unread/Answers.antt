@@ -1,0 +1,19 @@
+-- Each way in which a text is not had.
+use Rattle.toolrun.specs.Status.{code_of}
+use Rattle.toolrun.specs.Stream.{passed}
+use Rattle.toolrun.specs.declared.stop.Stop.TheVariants.{NoMemory}
+use Rattle.abnfx.proofs.JoinAnswersLemmas.{stop_comes}
+use Rattle.abnfx.proofs.run.end_unread.Goals as goal
+
+pub returns-in-TooLong : goal.returns-in-TooLong
+returns-in-TooLong g c = record {
+  right = rw c.in-TooLong.is (rw c.as_bytes-in-TooLong.ensures.value at c.end_told-in-TooLong.ensures.right);
+}
+
+pub returns-in-NoMemory : goal.returns-in-NoMemory
+returns-in-NoMemory g c = record {
+  right = rw c.in-NoMemory.is (stop_comes NoMemory
+      (passed g.O.Sink.contents g.O.Sink.failed c.args.out.now c.finish.new.out)
+      (passed g.E.Sink.contents g.E.Sink.failed c.args.err.now c.finish.new.err) (code_of c.finish.result)
+      (c.finish.ensures.kept, c.finish.ensures.told));
+}

@@ -1,0 +1,65 @@
+-- What the program states where nothing is wrong with its words.
+use Rattle.std.specs.Prelude.{◌≡◌, ⊤, ℕ, ◌≤◌, List, [], ◌++◌, Some, None, codes, length, map}
+use Rattle.std.specs.List.{All, Contains}
+use Rattle.clap.specs.Words.{Row, Text}
+use Rattle.abnftexts.specs.JoinRun.{JoinStates}
+use Rattle.abnftexts.specs.RulesGathered.{NamedText}
+use Rattle.abnftexts.specs.declared.run.JoinForm.{JoinForm}
+use Rattle.abnfx.specs.JoinWords.{form_asked, paths_asked}
+use Rattle.abnfx.specs.declared.texts.TheConstants.{MAX_TEXT}
+use Rattle.abnfx.specs.declared.texts.Unread.{Unread}
+use Rattle.abnfx.specs.declared.texts.Unread.TheVariants.{Unreadable, TooLong, NoMemory}
+use Rattle.toolrun.specs.Input.{Input}
+use Rattle.toolrun.specs.Plan.{stopped}
+use Rattle.toolrun.specs.Reply.{Reply}
+use Rattle.toolrun.specs.declared.status.Status.TheVariants as status
+use Rattle.toolrun.specs.declared.stop.Stop.{Stop}
+use Rattle.toolrun.specs.declared.stop.Stop.TheVariants as stop
+
+-- this is told, and then the program stops so
+abbrev pub IsToldAnd : List ℕ → Stop → Input → List ℕ → Reply → Type 0
+IsToldAnd told why input notes reply = (notes ≡ told) × (reply ≡ stopped why)
+
+-- the texts have these paths for names, in order, and none is longer than a text may be
+pub record AreTextsOf (paths : List Text) (texts : List NamedText) : Type 0 where
+  pub names : map (λ t. t.name) texts ≡ paths
+  pub lengths : All (λ t. length t.bytes ≤ MAX_TEXT) texts
+
+-- what is told where a text is not had
+abbrev pub unread_text : Unread → List ℕ
+unread_text (Unreadable path) = codes "cannot read " ++ path.now ++ codes "\n"
+unread_text (TooLong path) = path.now ++ codes " longer than 16777216 bytes\n"
+unread_text NoMemory = []
+
+-- how the program stops then
+abbrev pub unread_stop : Unread → Stop
+unread_stop (Unreadable path) = stop.Quiet status.Fault
+unread_stop (TooLong path) = stop.Quiet status.Overlong
+unread_stop NoMemory = stop.NoMemory
+
+-- a text among these is not had, or memory was wanting
+abbrev pub IsUnreadOf : List Text → Unread → Type 0
+IsUnreadOf paths (Unreadable path) = Contains paths path.now
+IsUnreadOf paths (TooLong path) = Contains paths path.now
+IsUnreadOf paths NoMemory = ⊤
+
+-- What is stated for the files of these paths: what is stated for their texts. No clause can say which text a file
+-- holds. Or one is not had.
+pub data FilesJoined (paths : List Text) (form : JoinForm) (input : Input) : List ℕ → Reply → Type 0 where
+  joins : {texts : List NamedText} {notes : List ℕ} {reply : Reply} → AreTextsOf paths texts
+      → JoinStates texts form input notes reply → FilesJoined paths form input notes reply
+  unread : (why : Unread) → IsUnreadOf paths why → FilesJoined paths form input (unread_text why)
+      (stopped (unread_stop why))
+  no_memory : FilesJoined paths form input [] (stopped stop.NoMemory)
+
+-- what is told of words that ask for two forms
+abbrev pub both_forms : List ℕ
+both_forms = codes "error: the argument '-l' cannot be used with '-c'\n\nUsage: abnfx [OPTIONS] <TEXT>...\n\n"
+    ++ codes "For more information, try '--help'.\n"
+
+-- What is stated for the matches of the words: two forms at once are refused, and the files are not read.
+pub data JoinAnswers (rows : List Row) (input : Input) : List ℕ → Reply → Type 0 where
+  asks : {form : JoinForm} {notes : List ℕ} {reply : Reply} → form_asked rows ≡ Some form
+      → FilesJoined (paths_asked rows) form input notes reply → JoinAnswers rows input notes reply
+  both : form_asked rows ≡ None → JoinAnswers rows input both_forms (stopped (stop.Quiet status.Refused))
+  no_memory : JoinAnswers rows input [] (stopped stop.NoMemory)
