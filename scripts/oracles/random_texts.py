@@ -1,7 +1,7 @@
 #!/usr/bin/env python3
 """Makes random texts in the manner of RFCs, of rules, prose and pages, and compares what abnfx writes of them with what
 slow_abnfx.py works out, and its canonical text with what `abnfi -m print` prints of the grammar, unless abnfi refuses
-that. A grammar that is too long is tried too.
+that. A grammar that is too long is tried too, and so are words and files that it refuses.
 
 usage: random_texts.py [-n TEXTS] [-s SEED]
 
@@ -19,6 +19,9 @@ import slow_abnfx
 
 BIN = pathlib.Path(__file__).resolve().parents[2] / "bin"
 ABNFX, ABNFI = BIN / "abnfx", BIN / "abnfi"
+# What is told of both flags together.
+BOTH = (b"error: the argument '-l' cannot be used with '-c'\n\nUsage: abnfx [OPTIONS] <TEXT>...\n\n"
+        b"For more information, try '--help'.\n")
 # Two texts that read, whose grammar has more than 1048576 bytes.
 LONG = [(f"{name}.txt", f'{name} = "x" ;'.encode() + b"c" * 600000) for name in ("a", "b")]
 NAMES = ("a", "B", "b", "c-1", "Date", "date")
@@ -97,6 +100,17 @@ class Trials:
         listed = "".join(f"{name}:1: '{name[0]}' stands\n" for name, _ in LONG)
         self.expect(LONG, ["-l"], listed.encode(), b"", 0)
 
+    def refusals(self):
+        """Words and files of which nothing is joined: the first file that is not had is told."""
+        text, long_text, none = ("t.txt", b'a = "x"\n'), ("long.txt", b" " * 16777217), ("none.txt", b"")
+        self.put([text, long_text])
+        for option in (["-c", "-l"], ["-l", "-c"], ["-lc"]):
+            self.expect([text], option, b"", BOTH, 2)
+        self.expect([text, none, long_text], [], b"", b"cannot read none.txt\n", 4)
+        self.expect([text, long_text, none], ["-l"], b"", b"long.txt longer than 16777216 bytes\n", 3)
+        (self.folder / "long.txt").write_bytes(text[1] + b" " * (16777216 - len(text[1])))
+        self.expect([long_text], ["-l"], b"long.txt:1: 'a' stands\n", b"", 0)
+
 
 def main():
     asked = argparse.ArgumentParser()
@@ -107,6 +121,7 @@ def main():
     with tempfile.TemporaryDirectory() as folder:
         trials = Trials(folder)
         trials.long_grammar()
+        trials.refusals()
         for _ in range(words.n):
             texts = [(f"t{it}.txt", text(made)) for it in range(made.choice((1, 1, 2, 3)))]
             trials.put(texts)
