@@ -15,9 +15,10 @@
 extern "C" {
 #endif
 
-/* The version of this interface. Libraries of one major version take and give the same structs. */
+/* The version of this interface. Libraries of one major version take and give the same structs. Minor version 1 added the
+   calls of a runner. */
 #define FANQUBER_VERSION_MAJOR 1
-#define FANQUBER_VERSION_MINOR 0
+#define FANQUBER_VERSION_MINOR 1
 
 /* What is done with the grammar. */
 enum { FANQUBER_RUN = 0, FANQUBER_CHECK = 1, FANQUBER_PRINT = 2 };

@@ -25,7 +25,7 @@ from crates import below, listed, uses
 TOP = pathlib.Path(__file__).resolve().parents[2]
 CRATE = "fanquber_c"
 SONAME = "libfanquber.so.1"
-VERSION = "1.0"
+VERSION = "1.1"
 RT = os.environ.get("RT", "rt").split()
 CC = os.environ.get("CC", "cc").split()
 
