@@ -1,7 +1,7 @@
 //! Judges the lines of its standard input by an ABNF grammar.
 #![tactic(auto)]
 
-use commands::{Program, refuse_invalid_utf8};
+use commands::{abnfi_command, refuse_invalid_utf8};
 use feed::SourceOf;
 use mains::{abnfi_main, end_without_memory, words_of};
 use ruletable::SinkOf;
@@ -19,7 +19,12 @@ fn main(rt: HostRuntime) -> ExitCode {
         Err(fault) if fault.kind() == ErrorKind::OutOfMemory => return end_without_memory(&rt),
         // a word that is no text
         Err(_) => {
-            let status = refuse_invalid_utf8(rt.alloc(), Program::Abnfi, &mut out, &mut err);
+            let status = refuse_invalid_utf8(
+                rt.alloc(),
+                abnfi_command(rt.alloc()),
+                &mut out,
+                &mut err,
+            );
             return ExitCode::from(status.code());
         }
     };

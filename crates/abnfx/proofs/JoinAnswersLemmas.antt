@@ -1,14 +1,13 @@
 -- What is told and the end, together, are what is stated.
 -- Serves: end_told, end_unread, join_files, join_asked, abnfx_main (right)
-use Rattle.std.proofs.Common.{inl, inr, ◌∷◌, ◌≡◌, ℕ, false, List, [], refl}
+use Rattle.std.proofs.Common.{inl, inr, ◌≡◌, ℕ, false, List, [], refl}
 use Rattle.std.specs.Prelude.{Ok}
 use Rattle.ruletable.proofs.AppendsLemmas.{Appends-same}
 use Rattle.abnftexts.specs.JoinRun.{no_input}
 use Rattle.clap.specs.Words.{HasKind, Kinds, kind_of}
 use Rattle.clap.specs.declared.error.Error.{Error}
-use Rattle.clap.specs.declared.error.kind.ErrorKind.TheVariants.{OutOfMemory, ValueValidation}
+use Rattle.clap.specs.declared.error.kind.ErrorKind.TheVariants.{OutOfMemory}
 use Rattle.commands.specs.Jobs.{TellsOf}
-use Rattle.commands.specs.Parsing.{AreFaults}
 use Rattle.toolrun.specs.Input.{Input}
 use Rattle.toolrun.specs.Plan.{IsPlan, stopped}
 use Rattle.toolrun.specs.Reply.{Reply}
@@ -58,10 +57,3 @@ stop_comes stop out err code tells =
 pub no_room : (kinds : Kinds) (error : Error) → kinds ≡ [] → HasKind kinds error → kind_of error ≡ OutOfMemory
 no_room kinds error none (inl memory) = memory
 no_room kinds error none (inr among) = absurd (rw none at among)
-
--- the one fault of words that are no text is no help
-pub invalid_faults : AreFaults (ValueValidation ∷ [])
-invalid_faults = (
-  λ bad. absurd (cc),
-  λ kind is. elim is [ inl same ↦ rw same (λ bad. absurd (cc), λ bad. absurd (cc)) | inr none ↦ absurd none ],
-)

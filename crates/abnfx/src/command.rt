@@ -1,12 +1,12 @@
 //! The command line.
 ghost use Rattle.std.specs.Prelude.{◌≡◌, IfOk, false, map, string_bytes};
-ghost use Rattle.abnfx.specs.JoinWords.{AreFlagTexts, abnfx_app, canonical_rule, form_asked, list_rule, texts_rule};
+ghost use Rattle.abnfx.specs.JoinWords.{AreFlagTexts, abnfx_app, form_asked, texts_rule};
 ghost use Rattle.clap.specs.Words.{app_of, found_of, rows_of, rule_of};
-ghost use Rattle.commands.specs.Command.{flag_rule};
 ghost use Rattle.commands.specs.Parsing.{Parses};
 
 use abnftexts::JoinForm;
-use clap::{Arg, ArgAction, ArgMatches, Command, Error, value_parser};
+use clap::{Arg, ArgAction, ArgMatches, Command, Error};
+use commands::flag_arg;
 use std::alloc::{AllocError, Global};
 
 /// The end of the help.
@@ -20,30 +20,6 @@ const AFTER: &str = "Exit status:
 
 Example:
   abnfx rfc3339.txt > date.abnf";
-
-// The flag for the canonical text.
-fn canonical_arg<'a>(alloc: Global) -> Arg<'a>
-    ensures rule { rule_of result ≡ canonical_rule }
-    ensures local { result.global ≡ false }
-{
-    Arg::new(alloc, "canonical")
-        .short('c')
-        .action(ArgAction::SetTrue)
-        .value_parser(value_parser!(bool))
-        .help("Write the canonical text of the grammar")
-}
-
-// The flag for the list.
-fn list_arg<'a>(alloc: Global) -> Arg<'a>
-    ensures rule { rule_of result ≡ list_rule }
-    ensures local { result.global ≡ false }
-{
-    Arg::new(alloc, "list")
-        .short('l')
-        .action(ArgAction::SetTrue)
-        .value_parser(value_parser!(bool))
-        .help("List the rules, and what becomes of each")
-}
 
 // The words that are no options.
 fn text_arg<'a>(alloc: Global) -> Arg<'a>
@@ -65,8 +41,18 @@ pub(crate) fn abnfx_command<'a>(alloc: Global) -> Result<Command<'a>, AllocError
     let plain = Command::new(alloc, "abnfx")
         .about("Joins the grammars in ABNF (RFC 5234, RFC 7405) that texts of RFCs give")
         .after_help(AFTER);
-    let with_canonical = plain.arg(canonical_arg(alloc))?;
-    let with_list = with_canonical.arg(list_arg(alloc))?;
+    let with_canonical = plain.arg(flag_arg(
+        alloc,
+        "canonical",
+        'c',
+        "Write the canonical text of the grammar",
+    ))?;
+    let with_list = with_canonical.arg(flag_arg(
+        alloc,
+        "list",
+        'l',
+        "List the rules, and what becomes of each",
+    ))?;
     with_list.arg(text_arg(alloc))
 }
 

@@ -5,6 +5,7 @@ mod command;
 mod run;
 mod texts;
 
+use commands::refuse_invalid_utf8;
 use mains::{end_without_memory, words_of};
 use ruletable::SinkOf;
 use std::io::{BufWriter, ErrorKind};
@@ -21,7 +22,8 @@ fn main(rt: HostRuntime) -> ExitCode {
         Err(fault) if fault.kind() == ErrorKind::OutOfMemory => return end_without_memory(&rt),
         // a word that is no text
         Err(_) => {
-            let status = run::refuse_invalid_utf8(rt.alloc(), &mut out, &mut err);
+            let command = command::abnfx_command(rt.alloc());
+            let status = refuse_invalid_utf8(rt.alloc(), command, &mut out, &mut err);
             return ExitCode::from(status.code());
         }
     };

@@ -1,29 +1,24 @@
 //! The run of the program.
-ghost use Rattle.std.specs.Prelude.{◌≡◌, IfOk, [], false, map, string_bytes};
+ghost use Rattle.std.specs.Prelude.{◌≡◌, [], false, map, string_bytes};
 ghost use Rattle.std.specs.Io.KnownBytes.{Keeps};
 ghost use Rattle.std.specs.List.{flat_map};
 ghost use Rattle.abnftexts.specs.JoinRun.{no_input};
 ghost use Rattle.abnfx.specs.JoinAnswers.{FilesJoined, IsToldAnd, JoinAnswers, both_forms, unread_stop, unread_text};
 ghost use Rattle.abnfx.specs.JoinWords.{AreFlagTexts, abnfx_app, paths_asked};
-ghost use Rattle.clap.specs.Words.{fault_of, found_of, kind_of, matches_of, rows_of};
+ghost use Rattle.clap.specs.Words.{fault_of, found_of, matches_of, rows_of};
 ghost use Rattle.commands.specs.Parsing.{Answers, EndsAs};
 ghost use Rattle.toolrun.specs.Right.{Comes};
 ghost use Rattle.toolrun.specs.Status.{code_of};
 ghost use Rattle.toolrun.specs.Stream.{passed};
 
-use crate::command::{abnfx_command, form_of, parse_words};
+use crate::command::{form_of, parse_words};
 use crate::texts::{Unread, read_texts, sources_of};
 use abnftexts::{JoinForm, run_join};
-use clap::error::ErrorKind;
-use clap::{ArgMatches, Error};
+use clap::ArgMatches;
 use commands::{Unready, end_unready};
 use ruletable::{Sink, write_pieces};
-use std::alloc::{AllocError, Global};
 use std::rt::Files;
 use toolrun::{Status, Stop, close_run, end_run};
-
-/// What is told of a word that is no UTF-8 text.
-const INVALID_UTF8: &str = "invalid UTF-8 was detected in one or more arguments";
 
 // Tells why nothing is joined, and ends.
 fn end_told<O: Sink, E: Sink>(pieces: &[&[u8]], status: Status, out: &mut O, err: &mut E) -> Status
@@ -164,31 +159,5 @@ pub(crate) fn abnfx_main<R: Files + AllocGlobal, O: Sink, E: Sink>(
     match parse_words(rt.alloc(), words) {
         Ok(matches) => join_asked(rt, &matches, out, err),
         Err(error) => end_unready(rt.alloc(), &Unready::Words(error), out, err),
-    }
-}
-
-// The error of words that are not all UTF-8 text, in the form of the errors of a parse.
-fn invalid_utf8(alloc: Global) -> Result<Error, AllocError>
-    ensures kind { IfOk result (λ e. kind_of e ≡ ErrorKind.ValueValidation) }
-{
-    let mut command = abnfx_command(alloc)?;
-    command.error(ErrorKind::ValueValidation, INVALID_UTF8)
-}
-
-/// Ends a program whose words are not all UTF-8 text: that is told on `err`, `Refused`. If an allocation fails,
-/// `out of memory`, `NoMemory`.
-pub(crate) fn refuse_invalid_utf8<O: Sink, E: Sink>(
-    alloc: Global,
-    out: &mut O,
-    err: &mut E,
-) -> Status
-    requires out_is_fresh { O.failed out.old ≡ false }
-    requires err_is_fresh { E.failed err.old ≡ false }
-    ensures kept { Keeps (O.contents out.old) (O.contents out.new) }
-    ensures refused { EndsAs (O.failed out.new) (E.failed err.new) Status.Refused result }
-{
-    match invalid_utf8(alloc) {
-        Ok(error) => end_unready(alloc, &Unready::Words(error), out, err),
-        Err(_) => end_run(Ok(Stop::NoMemory), out, err),
     }
 }

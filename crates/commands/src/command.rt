@@ -2,9 +2,8 @@
 ghost use Rattle.std.specs.Prelude.{◌≡◌, IfOk, false, true, map};
 ghost use Rattle.clap.specs.Words.{app_of, found_of, is_simple, is_simple_and_free, rule_of};
 ghost use Rattle.commands.specs.Asked.{AreWhole};
-ghost use Rattle.commands.specs.Command.{AreAlphabets, AreModes, IsAppOf, explain_rule, grammar_rule, letters_rule};
-ghost use Rattle.commands.specs.Command.{limit_rule, mode_rule, nul_rule, raw_rule, start_rule, viable_rule};
-ghost use Rattle.commands.specs.Command.{with_options};
+ghost use Rattle.commands.specs.Command.{AreAlphabets, AreModes, IsAppOf, flag_rule, grammar_rule, letters_rule};
+ghost use Rattle.commands.specs.Command.{limit_rule, mode_rule, start_rule, with_options};
 ghost use Rattle.commands.specs.Parsing.{Parses};
 
 use crate::help;
@@ -62,15 +61,16 @@ fn start_arg<'a>(alloc: Global, help: &'a str) -> Arg<'a>
         .help(help)
 }
 
-fn raw_arg<'a>(alloc: Global) -> Arg<'a>
-    ensures rule { rule_of result ≡ raw_rule }
+/// Returns the argument of a flag of one letter, with its help.
+pub fn flag_arg<'a>(alloc: Global, name: &'a str, short: char, help: &'a str) -> Arg<'a>
+    ensures rule { rule_of result ≡ flag_rule name.entry.now short }
     ensures local { result.global ≡ false }
 {
-    Arg::new(alloc, "raw")
-        .short('r')
+    Arg::new(alloc, name)
+        .short(short)
         .action(ArgAction::SetTrue)
         .value_parser(value_parser!(bool))
-        .help(help::RAW)
+        .help(help)
 }
 
 fn letters_arg<'a>(alloc: Global) -> Arg<'a>
@@ -83,39 +83,6 @@ fn letters_arg<'a>(alloc: Global) -> Arg<'a>
         .help(help::LETTERS)
         .value_parser(ALPHABETS.as_slice())
         .default_value("bytes")
-}
-
-fn viable_arg<'a>(alloc: Global) -> Arg<'a>
-    ensures rule { rule_of result ≡ viable_rule }
-    ensures local { result.global ≡ false }
-{
-    Arg::new(alloc, "viable")
-        .short('w')
-        .action(ArgAction::SetTrue)
-        .value_parser(value_parser!(bool))
-        .help(help::VIABLE)
-}
-
-fn nul_arg<'a>(alloc: Global) -> Arg<'a>
-    ensures rule { rule_of result ≡ nul_rule }
-    ensures local { result.global ≡ false }
-{
-    Arg::new(alloc, "nul")
-        .short('z')
-        .action(ArgAction::SetTrue)
-        .value_parser(value_parser!(bool))
-        .help(help::NUL)
-}
-
-fn explain_arg<'a>(alloc: Global) -> Arg<'a>
-    ensures rule { rule_of result ≡ explain_rule }
-    ensures local { result.global ≡ false }
-{
-    Arg::new(alloc, "explain")
-        .short('x')
-        .action(ArgAction::SetTrue)
-        .value_parser(value_parser!(bool))
-        .help(help::EXPLAIN)
 }
 
 fn grammar_arg<'a>(alloc: Global) -> Arg<'a>
@@ -152,8 +119,8 @@ pub fn pegi_command<'a>(alloc: Global) -> Result<Command<'a>, AllocError>
         .about(help::PEGI)
         .after_help(help::AFTER_PEGI);
     let with_options = add_options(alloc, plain, help::PEGI_LIMIT, help::PEGI_START)?;
-    let with_raw = with_options.arg(raw_arg(alloc))?;
-    let with_explain = with_raw.arg(explain_arg(alloc))?;
+    let with_raw = with_options.arg(flag_arg(alloc, "raw", 'r', help::RAW))?;
+    let with_explain = with_raw.arg(flag_arg(alloc, "explain", 'x', help::EXPLAIN))?;
     with_explain.arg(grammar_arg(alloc))
 }
 
@@ -167,14 +134,14 @@ pub fn abnfi_command<'a>(alloc: Global) -> Result<Command<'a>, AllocError>
         .after_help(help::AFTER_ABNFI);
     let with_options = add_options(alloc, plain, help::ABNFI_LIMIT, help::ABNFI_START)?;
     let with_letters = with_options.arg(letters)?;
-    let with_viable = with_letters.arg(viable_arg(alloc))?;
-    let with_nul = with_viable.arg(nul_arg(alloc))?;
-    let with_explain = with_nul.arg(explain_arg(alloc))?;
+    let with_viable = with_letters.arg(flag_arg(alloc, "viable", 'w', help::VIABLE))?;
+    let with_nul = with_viable.arg(flag_arg(alloc, "nul", 'z', help::NUL))?;
+    let with_explain = with_nul.arg(flag_arg(alloc, "explain", 'x', help::EXPLAIN))?;
     with_explain.arg(grammar_arg(alloc))
 }
 
 /// Returns the command of a program. Refused for want of memory.
-pub fn command_of<'a>(alloc: Global, program: Program) -> Result<Command<'a>, AllocError>
+fn command_of<'a>(alloc: Global, program: Program) -> Result<Command<'a>, AllocError>
     ensures app { (app : _) × IsAppOf program app × IfOk result (λ c. app_of c ≡ app) }
 {
     match program {

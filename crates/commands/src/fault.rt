@@ -6,9 +6,8 @@ ghost use Rattle.commands.specs.Jobs.{TellsOf};
 ghost use Rattle.commands.specs.Parsing.{EndsAs, IsNoHelp};
 ghost use Rattle.toolrun.specs.Status.{code_of};
 
-use crate::command::{Program, command_of};
-use clap::Error;
 use clap::error::ErrorKind;
+use clap::{Command, Error};
 use ruletable::{Sink, write_whole};
 use std::alloc::{AllocError, Global};
 use toolrun::{Status, Stop, close_run, end_run};
@@ -79,19 +78,19 @@ pub fn end_unparsed<O: Sink, E: Sink>(
     }
 }
 
-/// Returns the error of words that are not all UTF-8 text, in the form of the errors of a parse.
-fn invalid_utf8(alloc: Global, program: Program) -> Result<Error, AllocError>
+/// Returns the error of words that are not all UTF-8 text, in the form of the errors of a parse by that command.
+fn invalid_utf8(command: Result<Command<'_>, AllocError>) -> Result<Error, AllocError>
     ensures kind { IfOk result (λ e. kind_of e ≡ ErrorKind.ValueValidation) }
 {
-    let mut command = command_of(alloc, program)?;
+    let mut command = command?;
     command.error(ErrorKind::ValueValidation, INVALID_UTF8)
 }
 
-/// Ends a program whose words are not all UTF-8 text: that is told on `err`, `Refused`. If an allocation fails,
-/// `out of memory`, `NoMemory`.
+/// Ends a program of that command, whose words are not all UTF-8 text: that is told on `err`, `Refused`. If an
+/// allocation fails, or failed for the command, `out of memory`, `NoMemory`.
 pub fn refuse_invalid_utf8<O: Sink, E: Sink>(
     alloc: Global,
-    program: Program,
+    command: Result<Command<'_>, AllocError>,
     out: &mut O,
     err: &mut E,
 ) -> Status
@@ -101,7 +100,7 @@ pub fn refuse_invalid_utf8<O: Sink, E: Sink>(
     ensures refused { EndsAs (O.failed out.new) (E.failed err.new) Status.Refused result }
     ensures failed { (O.failed out.new ≡ true) ⊎ (E.failed err.new ≡ true) → 4 ≤ code_of result }
 {
-    match invalid_utf8(alloc, program) {
+    match invalid_utf8(command) {
         Ok(error) => end_unparsed(alloc, &error, out, err),
         Err(_) => end_run(Ok(Stop::NoMemory), out, err),
     }

@@ -7,7 +7,7 @@ mod help;
 mod reading;
 mod settings;
 
-pub use command::{Program, abnfi_command, is_a_simple_command, parse, pegi_command};
+pub use command::{Program, abnfi_command, flag_arg, is_a_simple_command, parse, pegi_command};
 pub use fault::refuse_invalid_utf8;
 pub use reading::{Job, Unready, end_unready, read_job};
 pub use settings::{Asked, read_words, settings_of};

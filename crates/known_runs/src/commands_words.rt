@@ -171,7 +171,11 @@ fn refuses_words_that_are_no_text(rt: HostRuntime) {
     for (program, told) in &INVALID_UTF8 {
         let mut out = SinkOf::new(Vec::new(rt.alloc()));
         let mut err = SinkOf::new(Vec::new(rt.alloc()));
-        let status = refuse_invalid_utf8(rt.alloc(), *program, &mut out, &mut err);
+        let command = match program {
+            Program::Pegi => pegi_command(rt.alloc()),
+            Program::Abnfi => abnfi_command(rt.alloc()),
+        };
+        let status = refuse_invalid_utf8(rt.alloc(), command, &mut out, &mut err);
         assert!(rt; status == Status::Refused && out.into_inner().is_empty());
         assert!(rt; err.into_inner().as_slice() == told.as_bytes(), "{told}");
     }

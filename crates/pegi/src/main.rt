@@ -1,7 +1,7 @@
 //! Runs a grammar in the syntax of peg(1) on its standard input.
 #![tactic(auto)]
 
-use commands::{Program, refuse_invalid_utf8};
+use commands::{pegi_command, refuse_invalid_utf8};
 use feed::SourceOf;
 use mains::{end_without_memory, pegi_main, words_of};
 use ruletable::SinkOf;
@@ -19,7 +19,12 @@ fn main(rt: HostRuntime) -> ExitCode {
         Err(fault) if fault.kind() == ErrorKind::OutOfMemory => return end_without_memory(&rt),
         // a word that is no text
         Err(_) => {
-            let status = refuse_invalid_utf8(rt.alloc(), Program::Pegi, &mut out, &mut err);
+            let status = refuse_invalid_utf8(
+                rt.alloc(),
+                pegi_command(rt.alloc()),
+                &mut out,
+                &mut err,
+            );
             return ExitCode::from(status.code());
         }
     };

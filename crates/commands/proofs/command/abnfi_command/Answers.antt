@@ -62,11 +62,12 @@ returns c =
     let zero = ap app_of_fields c.after_help-plain.ensures ∙ ap app_of_fields c.about.ensures ∙ c.new.ensures.app in
     let base = options.2 ∙ ap (with_options options.0) zero in
     let two = c.in_ok-with_letters.ensures.shape c.letters_arg-letters.ensures.local ∙ ap₂ with_rule base letters.2 in
-    let three = c.in_ok-with_viable.ensures.shape c.viable_arg.ensures.local
-    ∙ ap₂ with_rule two c.viable_arg.ensures.rule in
-    let four = c.in_ok-with_nul.ensures.shape c.nul_arg.ensures.local ∙ ap₂ with_rule three c.nul_arg.ensures.rule in
-    let five = c.in_ok-with_explain.ensures.shape c.explain_arg.ensures.local
-    ∙ ap₂ with_rule four c.explain_arg.ensures.rule in
+    let three = c.in_ok-with_viable.ensures.shape c.flag_arg.ensures.local
+    ∙ ap₂ with_rule two c.flag_arg.ensures.rule in
+    let four = c.in_ok-with_nul.ensures.shape c.flag_arg-2.ensures.local
+    ∙ ap₂ with_rule three c.flag_arg-2.ensures.rule in
+    let five = c.in_ok-with_explain.ensures.shape c.flag_arg-3.ensures.local
+    ∙ ap₂ with_rule four c.flag_arg-3.ensures.rule in
     record {
       app = (
         abnfi_app options.0 letters.0,

@@ -30,9 +30,9 @@ returns c =
     let options = c.in_ok-with_options.ensures.options in
     let zero = ap app_of_fields c.after_help-plain.ensures ∙ ap app_of_fields c.about.ensures ∙ c.new.ensures.app in
     let base = options.2 ∙ ap (with_options options.0) zero in
-    let raw = c.in_ok-with_raw.ensures.shape c.raw_arg.ensures.local ∙ ap₂ with_rule base c.raw_arg.ensures.rule in
-    let explain = c.in_ok-with_explain.ensures.shape c.explain_arg.ensures.local
-    ∙ ap₂ with_rule raw c.explain_arg.ensures.rule in
+    let raw = c.in_ok-with_raw.ensures.shape c.flag_arg.ensures.local ∙ ap₂ with_rule base c.flag_arg.ensures.rule in
+    let explain = c.in_ok-with_explain.ensures.shape c.flag_arg-2.ensures.local
+    ∙ ap₂ with_rule raw c.flag_arg-2.ensures.rule in
     record {
       app = (
         pegi_app options.0,
