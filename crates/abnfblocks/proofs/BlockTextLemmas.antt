@@ -4,8 +4,8 @@ use Rattle.std.proofs.Common.{◌≡◌, ℕ, ◌+◌, ◌<◌, ◌≤◌, List,
 use Rattle.std.proofs.Common.{append-nil}
 use Rattle.std.proofs.lemmas.Grind.{flat_map-append, take_at_read}
 use Rattle.std.proofs.lemmas.List.{take_all, map-append}
-use Rattle.rfctext.specs.TextLines.{NumberedLine, numbered}
-use Rattle.rfctext.specs.declared.text_line.TextLine.{TextLine}
+use Rattle.abnfblocks.specs.TextLines.{NumberedLine, numbered}
+use Rattle.abnfblocks.specs.declared.rfctext.text_line.TextLine.{TextLine}
 use Rattle.abnfblocks.specs.TextBlocks.{block_text, cut_line}
 
 pub one-line_more : (margin : ℕ) (lines : List TextLine) (i : ℕ) (d : TextLine) (before text : List ℕ)

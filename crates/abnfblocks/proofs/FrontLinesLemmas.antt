@@ -7,9 +7,9 @@ use Rattle.std.proofs.lemmas.List.{get_or-map, length-map}
 use Rattle.std.proofs.lemmas.List.Sums.{prefix_len-drop_yes, prefix_len-drop_no, prefix_len-drop_all}
 use Rattle.std.proofs.lemmas.List.Sums.{suffix_len-take_yes, suffix_len-take_no}
 use Rattle.std.specs.List.{prefix_len, suffix_len}
-use Rattle.rfctext.specs.KeptSteps.{is_blank_kind}
-use Rattle.rfctext.specs.TextLines.{NumberedLine, numbered}
-use Rattle.rfctext.specs.declared.text_line.TextLine.{TextLine}
+use Rattle.abnfblocks.specs.KeptSteps.{is_blank_kind}
+use Rattle.abnfblocks.specs.TextLines.{NumberedLine, numbered}
+use Rattle.abnfblocks.specs.declared.rfctext.text_line.TextLine.{TextLine}
 use Rattle.abnfblocks.specs.TextBlocks.{goes_on, block_size, paragraph_size, is_full_line, is_empty_line}
 use Rattle.abnfblocks.specs.TextBlocks.{ends_paragraph}
 use Rattle.abnfblocks.specs.RuleLines.{margin_of}

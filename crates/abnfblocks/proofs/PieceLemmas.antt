@@ -12,8 +12,8 @@ use Rattle.ruletable.specs.declared.fault.ReadFault.{ReadFault}
 use Rattle.ruletable.specs.declared.fault.ReadFault.TheVariants as faults
 use Rattle.abnfread.specs.AbnfReading.{Reads, IsFaultOf}
 use Rattle.abnfread.specs.Element.{Definition}
-use Rattle.rfctext.specs.TextLines.{NumberedLine, numbered}
-use Rattle.rfctext.specs.declared.text_line.TextLine.{TextLine}
+use Rattle.abnfblocks.specs.TextLines.{NumberedLine, numbered}
+use Rattle.abnfblocks.specs.declared.rfctext.text_line.TextLine.{TextLine}
 use Rattle.abnfblocks.specs.TextBlocks.{margin_at, block_text, piece_text, IsCut, paragraph_size, ends_paragraph}
 use Rattle.abnfblocks.specs.TextBlocks.{block_size}
 use Rattle.abnfblocks.specs.FoundBlocks.{IsAbnf, IsOutcome, IsPiece, IsNoPiece, IsAbnfCut, IsCutOutcome}

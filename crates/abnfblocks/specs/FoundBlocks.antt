@@ -4,7 +4,7 @@ use Rattle.ruletable.specs.declared.fault.ReadFault.{ReadFault}
 use Rattle.ruletable.specs.declared.fault.ReadFault.TheVariants as faults
 use Rattle.abnfread.specs.AbnfReading.{Reads, IsFaultOf}
 use Rattle.abnfread.specs.Element.{Definition}
-use Rattle.rfctext.specs.TextLines.{NumberedLine}
+use Rattle.abnfblocks.specs.TextLines.{NumberedLine}
 use Rattle.abnfblocks.specs.TextBlocks.{opens_block, block_at, IsCut, paragraph_size, piece_text}
 use Rattle.abnfblocks.specs.TextBlocks.{block_text, ends_paragraph}
 use Rattle.abnfblocks.specs.declared.found.Found.{Found}

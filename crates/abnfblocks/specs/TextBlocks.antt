@@ -3,8 +3,8 @@ use Prim.Native.Char.{code}
 use Rattle.std.specs.Prelude.{◌≡◌, ℕ, suc, ◌<◌, ◌≤◌, ◌⊎◌, ◌==◌, ◌||◌, ◌&&◌, nat_lt, min, not, Bool, true}
 use Rattle.std.specs.Prelude.{List, [], ◌∷◌, ◌++◌, length, take, drop}
 use Rattle.std.specs.List.{prefix_len, suffix_len, flat_map}
-use Rattle.rfctext.specs.KeptSteps.{is_blank_kind}
-use Rattle.rfctext.specs.TextLines.{NumberedLine}
+use Rattle.abnfblocks.specs.KeptSteps.{is_blank_kind}
+use Rattle.abnfblocks.specs.TextLines.{NumberedLine}
 use Rattle.abnfblocks.specs.RuleLines.{margin_of, begins_comment, begins_rule_line}
 
 abbrev pub is_empty_line : NumberedLine → Bool

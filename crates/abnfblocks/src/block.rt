@@ -1,12 +1,12 @@
 //! Blocks and their paragraphs.
 ghost use Rattle.std.specs.Prelude.{◌≡◌, ◌++◌, ◌<◌, ◌≤◌, length, map, min, drop, [], ◌∷◌, IfOk, OnOk};
 ghost use Rattle.abnfblocks.specs.RuleLines.{margin_of};
-ghost use Rattle.rfctext.specs.TextLines.{numbered};
+ghost use Rattle.abnfblocks.specs.TextLines.{numbered};
 ghost use Rattle.abnfblocks.specs.TextBlocks.{goes_on as goes, block_size as size_in, paragraph_size as first_size};
 ghost use Rattle.abnfblocks.specs.TextBlocks.{ends_paragraph as ends, block_text, begins_rule_at, rule_lines};
 
+use crate::rfctext::TextLine;
 use crate::rule_line::{is_comment, is_rule_line, margin};
-use rfctext::TextLine;
 use ruletable::Memory;
 use std::alloc::Global;
 

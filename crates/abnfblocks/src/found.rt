@@ -1,11 +1,11 @@
 //! What is found among the lines of a text.
 ghost use Rattle.std.specs.Prelude.{◌≡◌, ℕ, List, map, IfOk};
-ghost use Rattle.rfctext.specs.TextLines.{NumberedLine, numbered};
+ghost use Rattle.abnfblocks.specs.TextLines.{NumberedLine, numbered};
 ghost use Rattle.abnfblocks.specs.FoundBlocks.{AreFound};
 
 use crate::look::look_at;
+use crate::rfctext::TextLine;
 use abnfread::one_reading;
-use rfctext::TextLine;
 use ruletable::{Memory, ReadFault};
 use std::alloc::Global;
 

@@ -1,14 +1,14 @@
 //! What a line of a text begins.
 ghost use Rattle.std.specs.Prelude.{◌≡◌, ◌<◌, ◌≤◌, ◌++◌, length, map, IfOk, OnOk};
-ghost use Rattle.rfctext.specs.TextLines.{numbered};
+ghost use Rattle.abnfblocks.specs.TextLines.{numbered};
 ghost use Rattle.abnfblocks.specs.FoundBlocks.{IsLook, IsBlockLook, IsCutOutcome, size_of, look_tells};
 
 use crate::block::{block_size, ends_paragraph, paragraph_size};
 use crate::found::Found;
 use crate::reading::fault_of;
+use crate::rfctext::TextLine;
 use crate::rule_line::{is_rule_line, margin};
 use abnfread::one_reading;
-use rfctext::TextLine;
 use ruletable::{Memory, ReadFault};
 use std::alloc::Global;
 

@@ -1,12 +1,12 @@
 //! What the lines of a block read as.
 ghost use Rattle.std.specs.Prelude.{map, IfOk};
-ghost use Rattle.rfctext.specs.TextLines.{numbered};
+ghost use Rattle.abnfblocks.specs.TextLines.{numbered};
 ghost use Rattle.abnfblocks.specs.TextBlocks.{block_text};
 ghost use Rattle.abnfblocks.specs.FoundBlocks.{IsOutcome};
 
 use crate::block::joined_text;
+use crate::rfctext::TextLine;
 use abnfread::read_abnf;
-use rfctext::TextLine;
 use ruletable::{Memory, ReadFault};
 use std::alloc::Global;
 

@@ -7,8 +7,8 @@ use Rattle.std.specs.Prelude.{slice_index_or, option_to_list, Contains}
 use Rattle.std.proofs.Math.Seq.{drop-append_seam}
 use Rattle.std.proofs.lemmas.Bool.{both_ways}
 use Rattle.std.proofs.lemmas.List.{length-map, get_or-take, get_or_past, length-take}
-use Rattle.leastset.specs.NumberMarks.{IsMarked}
-use Rattle.leastset.proofs.IsMarkedLemmas.{marked_lt}
+use Rattle.fixpoint.specs.NumberMarks.{IsMarked}
+use Rattle.fixpoint.proofs.IsMarkedLemmas.{marked_lt}
 use Rattle.ruletable.specs.Rules.{same_name}
 use Rattle.ruletable.specs.declared.table.NameCase.TheVariants.{Fold}
 use Rattle.rulenames.specs.FirstUses.{news}

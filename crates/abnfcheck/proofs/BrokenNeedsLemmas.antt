@@ -6,12 +6,12 @@ use Rattle.std.specs.Prelude.{slice_get, slice_index_or, Contains}
 use Rattle.std.proofs.lemmas.Bool.{cases_eq, cases_lt}
 use Rattle.std.proofs.lemmas.List.{length-append, length-map, length-take, get_or-take, get_or_past}
 use Rattle.std.proofs.lemmas.Option.{slice_get_within}
-use Rattle.leastset.specs.Demands.{Demand, All, One, row_of, AreNeedsWithin}
-use Rattle.leastset.specs.Least.{Comes, by_all, by_one, AreMarksOfThose}
-use Rattle.leastset.specs.Reach.{Reaches, here as start, further}
-use Rattle.leastset.specs.StepRows.{Step, row_at, AreStepsWithin}
-use Rattle.leastset.proofs.AtLemmas.{at_append_left, at_push}
-use Rattle.leastset.proofs.ContainsLemmas.{none_of}
+use Rattle.fixpoint.specs.Demands.{Demand, All, One, row_of, AreNeedsWithin}
+use Rattle.fixpoint.specs.Least.{Comes, by_all, by_one, AreMarksOfThose}
+use Rattle.fixpoint.specs.Reach.{Reaches, here as start, further}
+use Rattle.fixpoint.specs.StepRows.{Step, row_at, AreStepsWithin}
+use Rattle.fixpoint.proofs.AtLemmas.{at_append_left, at_push}
+use Rattle.fixpoint.proofs.ContainsLemmas.{none_of}
 use Rattle.rulenames.specs.IdMarks.{AreMarks}
 use Rattle.rulenames.proofs.AreMarksLemmas.{marks-opposite}
 use Rattle.abnfread.specs.Element.{Rule, id_of}

@@ -7,9 +7,9 @@ use Rattle.std.specs.Prelude.{slice_get, Contains}
 use Rattle.std.proofs.Math.Seq.{take-suc}
 use Rattle.std.proofs.lemmas.Bool.{cases_eq}
 use Rattle.std.proofs.lemmas.List.{map-append, length-map}
-use Rattle.leastset.specs.Demands.{Demand, All, One, row_of, AreNeedsWithin, owned_demand_of, owned_demands_of}
-use Rattle.leastset.specs.declared.owned.OwnedNeed.{OwnedNeed}
-use Rattle.leastset.proofs.ContainsLemmas.{none_of, only_one, cons_cases}
+use Rattle.fixpoint.specs.Demands.{Demand, All, One, row_of, AreNeedsWithin, owned_demand_of, owned_demands_of}
+use Rattle.fixpoint.specs.declared.owned.OwnedNeed.{OwnedNeed}
+use Rattle.fixpoint.proofs.ContainsLemmas.{none_of, only_one, cons_cases}
 use Rattle.abnfread.specs.Element.{Element, Elements, Rule, bodies, id_of, none}
 use Rattle.abnfread.specs.AbnfViews.{elements, element_of, elements_of}
 use Rattle.abnfread.specs.declared.elem.Elem.{Elem}

@@ -5,9 +5,9 @@ use Rattle.std.proofs.Common.{◌∷◌, ◌++◌, length, Option, Some, refl, s
 use Rattle.std.specs.Prelude.{slice_get, slice_index_or, Contains}
 use Rattle.std.proofs.lemmas.Bool.{cases_lt}
 use Rattle.std.proofs.lemmas.List.{length-map}
-use Rattle.leastset.specs.Reach.{Reaches, here as start, further}
-use Rattle.leastset.specs.StepRows.{Step, AreStepsWithin}
-use Rattle.leastset.proofs.ContainsLemmas.{none_of, in_first, in_later, cons_cases}
+use Rattle.fixpoint.specs.Reach.{Reaches, here as start, further}
+use Rattle.fixpoint.specs.StepRows.{Step, AreStepsWithin}
+use Rattle.fixpoint.proofs.ContainsLemmas.{none_of, in_first, in_later, cons_cases}
 use Rattle.ruletable.specs.declared.table.NameCase.TheVariants.{Fold}
 use Rattle.rulenames.specs.FirstUses.{news}
 use Rattle.rulenames.specs.NameUses.{IsPlace, AreIdsOf, no_uses, one_use}

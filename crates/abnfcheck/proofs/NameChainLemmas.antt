@@ -5,13 +5,13 @@ use Rattle.std.proofs.Common.{None, refl, sym, ◌∙◌, ap, subst, arith, ⊎_
 use Rattle.std.specs.Prelude.{option_map, MatchOption}
 use Rattle.std.proofs.lemmas.Bool.{cases_lt}
 use Rattle.std.proofs.lemmas.List.{ext_get_or}
-use Rattle.leastset.specs.StepRows.{row_at}
+use Rattle.fixpoint.specs.StepRows.{row_at}
 use Rattle.ruletable.specs.Rules.{Rules, find_in, names_of, same_name}
 use Rattle.ruletable.specs.declared.table.NameCase.TheVariants.{Fold}
 use Rattle.rulenames.specs.NameUses.{AreIdsOf, IsPlace, here, there, no_uses, one_use}
 use Rattle.rulenames.proofs.IsAddedLemmas.{found_in}
 use Rattle.rulenames.proofs.IsPlaceLemmas.{place_below, place_of}
-use Rattle.stepchains.specs.ShortChains.{IsChainIfReached}
+use Rattle.shortestpaths.specs.ShortChains.{IsChainIfReached}
 use Rattle.abnfread.specs.Element.{Rule}
 use Rattle.abnfcheck.specs.NameChains.{IsChainAt, IsNameChain, names_at}
 use Rattle.abnfcheck.specs.NameIds.{AreRows, IsGraph, IsJudged}

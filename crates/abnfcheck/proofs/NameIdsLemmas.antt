@@ -13,7 +13,7 @@ use Rattle.std.proofs.lemmas.Simd.{map-map}
 use Rattle.ruletable.specs.Rules.{Rules}
 use Rattle.ruletable.specs.Rules as table
 use Rattle.ruletable.specs.declared.table.NameCase.TheVariants.{Fold}
-use Rattle.leastset.specs.StepRows.{row_at}
+use Rattle.fixpoint.specs.StepRows.{row_at}
 use Rattle.rulenames.specs.FirstUses.{news}
 use Rattle.rulenames.specs.NameUses.{IsPlace, here, there, AreIdsOf, IsScanned}
 use Rattle.rulenames.proofs.IsPlaceLemmas.{place_append}

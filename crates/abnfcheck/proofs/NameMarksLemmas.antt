@@ -5,9 +5,9 @@ use Rattle.std.proofs.Common.{length, take, sym, ◌∙◌, ap, subst, arith, ad
 use Rattle.std.specs.Prelude.{slice_get, Some, Contains}
 use Rattle.std.proofs.lemmas.Bool.{cases_eq, cases_lt}
 use Rattle.std.proofs.lemmas.List.{get_or_past}
-use Rattle.leastset.specs.NumberMarks.{IsMarked, MarksThose}
-use Rattle.leastset.specs.StepRows.{Step, row_at}
-use Rattle.leastset.proofs.ContainsLemmas.{none_of}
+use Rattle.fixpoint.specs.NumberMarks.{IsMarked, MarksThose}
+use Rattle.fixpoint.specs.StepRows.{Step, row_at}
+use Rattle.fixpoint.proofs.ContainsLemmas.{none_of}
 use Rattle.abnfread.specs.Element.{Element, Rule, bodies}
 use Rattle.abnfcheck.specs.ProseIn.{prose_in, prose_marks}
 

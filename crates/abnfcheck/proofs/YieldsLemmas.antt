@@ -4,12 +4,12 @@ use Rattle.std.proofs.Common.{◌≡◌, ◌↔◌, ℕ, zero, suc, ◌<◌, ◌
 use Rattle.std.proofs.Common.{ltb, List, [], ◌∷◌, ◌++◌, length, Option, Some, None, refl, sym, ◌∙◌, subst, arith}
 use Rattle.std.proofs.Common.{leb-true, le-leb, ltb-true, lt-ltb, take}
 use Rattle.std.specs.Prelude.{slice_get, Contains, IsTrue}
-use Rattle.leastset.specs.Demands.{Demand, All, One}
-use Rattle.leastset.specs.Least.{Comes, by_all, by_one, AreMarksOfThose}
+use Rattle.fixpoint.specs.Demands.{Demand, All, One}
+use Rattle.fixpoint.specs.Least.{Comes, by_all, by_one, AreMarksOfThose}
 use Rattle.std.proofs.lemmas.Bool.{both_ways, cases_lt}
 use Rattle.std.proofs.lemmas.List.{get_or-take, length-take-le}
-use Rattle.leastset.specs.NumberMarks.{IsMarked}
-use Rattle.leastset.proofs.ContainsLemmas.{none_of, only_one, in_first, in_later, cons_cases}
+use Rattle.fixpoint.specs.NumberMarks.{IsMarked}
+use Rattle.fixpoint.proofs.ContainsLemmas.{none_of, only_one, in_first, in_later, cons_cases}
 use Rattle.letters.specs.Letters.{has as in_alphabet}
 use Rattle.letters.specs.declared.alphabet.Alphabet.{Alphabet}
 use Rattle.abnfread.specs.Element as e

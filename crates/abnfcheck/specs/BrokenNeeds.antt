@@ -1,8 +1,8 @@
 -- Needs by which the names are found that reach one without a rule, or prose. Private helpers alone use it.
 use Rattle.std.specs.Prelude.{◌≡◌, ℕ, ◌<◌, Bool, true, List, [], length, slice_get, slice_index_or, Some}
 use Rattle.std.specs.Prelude.{if◌then◌else◌}
-use Rattle.leastset.specs.Demands.{Demand, All, One}
-use Rattle.leastset.specs.StepRows.{row_at}
+use Rattle.fixpoint.specs.Demands.{Demand, All, One}
+use Rattle.fixpoint.specs.StepRows.{row_at}
 
 -- at once, or one of the names in the body
 abbrev pub broken_demand : Bool → List ℕ → Demand

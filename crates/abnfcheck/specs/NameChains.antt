@@ -3,7 +3,7 @@ use Rattle.std.specs.Prelude.{◌≡◌, ℕ, ◌≤◌, List, [], length, map, 
 use Rattle.std.specs.Prelude.{MatchOption, option_map}
 use Rattle.ruletable.specs.Rules.{names_of, same_name}
 use Rattle.ruletable.specs.declared.table.NameCase.TheVariants.{Fold}
-use Rattle.stepchains.specs.ShortChains.{AreChains, IsChainIfReached}
+use Rattle.shortestpaths.specs.ShortChains.{AreChains, IsChainIfReached}
 use Rattle.abnfread.specs.Element.{Rule}
 use Rattle.abnfcheck.specs.NameIds.{IsGraph}
 use Rattle.abnfcheck.specs.declared.reached_names.NameChains.{NameChains as Found}

@@ -1,7 +1,7 @@
 -- Names by id, and the ids of the names in the rules' bodies.
 use Rattle.std.specs.Prelude.{◌≡◌, ◌⊎◌, ℕ, ◌<◌, ◌≤◌, List, [], ◌++◌, length, slice_get, Option, Some, None}
 use Rattle.std.specs.Prelude.{option_to_list}
-use Rattle.leastset.specs.StepRows.{row_at}
+use Rattle.fixpoint.specs.StepRows.{row_at}
 use Rattle.ruletable.specs.declared.table.NameCase.TheVariants.{Fold}
 use Rattle.rulenames.specs.FirstUses.{news}
 use Rattle.rulenames.specs.NameUses.{IsPlace, AreIdsOf}

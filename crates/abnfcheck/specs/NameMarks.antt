@@ -1,8 +1,8 @@
 -- Marks on names and rules by id. Private helpers alone use it.
 use Rattle.std.specs.Prelude.{◌≡◌, ◌⊎◌, ℕ, Bool, true, List, slice_index_or, Contains}
-use Rattle.leastset.specs.NumberMarks.{IsMarked}
-use Rattle.leastset.specs.Reach.{Reaches}
-use Rattle.leastset.specs.StepRows.{Step}
+use Rattle.fixpoint.specs.NumberMarks.{IsMarked}
+use Rattle.fixpoint.specs.Reach.{Reaches}
+use Rattle.fixpoint.specs.StepRows.{Step}
 use Rattle.rulenames.specs.IdMarks.{AreMarks}
 use Rattle.abnfread.specs.Element.{Rule}
 use Rattle.abnfcheck.specs.AbnfUses.{HoldsProse}

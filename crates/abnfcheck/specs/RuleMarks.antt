@@ -2,8 +2,8 @@
 -- and `AreProductive`, private helpers alone use it, those of flatgrammar too.
 use Rattle.std.specs.Prelude.{◌≡◌, ◌↔◌, ℕ, ◌<◌, ◌≤◌, Bool, List, [], ◌∷◌, ◌++◌, length, leb, ltb, slice_get, Option}
 use Rattle.std.specs.Prelude.{Some, None, if◌then◌else◌}
-use Rattle.leastset.specs.Demands.{Demand, All, One, AreNeedsWithin}
-use Rattle.leastset.specs.NumberMarks.{IsMarked}
+use Rattle.fixpoint.specs.Demands.{Demand, All, One, AreNeedsWithin}
+use Rattle.fixpoint.specs.NumberMarks.{IsMarked}
 use Rattle.letters.specs.Letters.{has as in_alphabet}
 use Rattle.letters.specs.declared.alphabet.Alphabet.{Alphabet}
 use Rattle.abnfread.specs.Element.{Element, Elements, Concat, Alt, Rep, Name, none, more, Rule, bodies, id_of}

@@ -1,6 +1,6 @@
 //! The notes on a grammar in ABNF.
 ghost use Rattle.std.specs.Prelude.{◌≡◌, ◌↔◌, ◌≤◌, ◌++◌, ℕ, Bool, List, length, map, drop, Option, Contains, IfOk};
-ghost use Rattle.leastset.specs.StepRows.{rows_of, AreStepsWithin};
+ghost use Rattle.fixpoint.specs.StepRows.{rows_of, AreStepsWithin};
 ghost use Rattle.ruletable.specs.Rules.{names_of};
 ghost use Rattle.rulenames.specs.IdMarks.{chosen, AreMarks};
 ghost use Rattle.abnfread.specs.Element.{Rule};

@@ -1,6 +1,6 @@
 //! Names by id, and the ids of the names in the rules' bodies.
 ghost use Rattle.std.specs.Prelude.{◌≡◌, ◌≤◌, ℕ, List, [], ◌++◌, length, IfOk, option_copied, option_to_list};
-ghost use Rattle.leastset.specs.StepRows.{rows_of, row_at};
+ghost use Rattle.fixpoint.specs.StepRows.{rows_of, row_at};
 ghost use Rattle.ruletable.specs.Rules.{names_of};
 ghost use Rattle.ruletable.specs.declared.table.NameCase.TheVariants.{Fold};
 ghost use Rattle.rulenames.specs.FirstUses.{news};

@@ -1,10 +1,10 @@
 //! Marks on names and rules by id.
 ghost use Rattle.std.specs.Prelude.{◌≡◌, ◌↔◌, ◌⊎◌, ℕ, ◌<◌, Bool, length, IfOk};
-ghost use Rattle.leastset.specs.NumberMarks.{AreBelow, IsMarked};
-ghost use Rattle.leastset.specs.StepRows.{Step, rows_of, AreStepsWithin};
+ghost use Rattle.fixpoint.specs.NumberMarks.{AreBelow, IsMarked};
+ghost use Rattle.fixpoint.specs.StepRows.{Step, rows_of, AreStepsWithin};
 ghost use Rattle.abnfcheck.specs.NameMarks.{IsBroken, IsUsed, ReachesBroken};
 
-use leastset::{mark, reached, slices};
+use fixpoint::{mark, reached, slices};
 use ruletable::Memory;
 use std::alloc::Global;
 

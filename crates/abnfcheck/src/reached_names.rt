@@ -1,18 +1,18 @@
 //! By which rules the judged one reaches a name.
 ghost use Rattle.std.specs.Prelude.{◌≡◌, ◌≤◌, ℕ, List, length, Option, MatchOption, IfOk, option_copied, option_map};
-ghost use Rattle.leastset.specs.StepRows.{rows_of, AreStepsWithin};
+ghost use Rattle.fixpoint.specs.StepRows.{rows_of, AreStepsWithin};
 ghost use Rattle.ruletable.specs.Rules.{names_of};
-ghost use Rattle.stepchains.specs.ShortChains.{AreChains};
+ghost use Rattle.shortestpaths.specs.ShortChains.{AreChains};
 ghost use Rattle.abnfread.specs.AbnfViews.{rules_of};
 ghost use Rattle.abnfread.specs.Element.{Rule};
 ghost use Rattle.abnfcheck.specs.NameChains.{AreNameChains, IsNameChain, names_at};
 
 use crate::name_ids::name_ids;
 use abnfread::Elem;
-use leastset::slices;
+use fixpoint::slices;
 use ruletable::{Memory, NameCase, RuleTable};
+use shortestpaths::{Chains, chains_from, one_chain};
 use std::alloc::Global;
-use stepchains::{Chains, chains_from, one_chain};
 
 /// The names of a grammar, and the chains by which the judged rule reaches them.
 #[derive(Drop)]

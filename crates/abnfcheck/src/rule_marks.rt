@@ -1,6 +1,6 @@
 //! Which rules derive the empty string, or some list of letters.
 ghost use Rattle.std.specs.Prelude.{◌≡◌, ◌↔◌, ◌≤◌, ℕ, Bool, IsTrue, List, [], ◌∷◌, ◌++◌, length, replicate, IfOk};
-ghost use Rattle.leastset.specs.Demands.{All, One, AreNeedsWithin, owned_demand_of, owned_demands_of};
+ghost use Rattle.fixpoint.specs.Demands.{All, One, AreNeedsWithin, owned_demand_of, owned_demands_of};
 ghost use Rattle.abnfread.specs.Element.{Rule, Text, Values, Range, id_of};
 ghost use Rattle.abnfread.specs.AbnfViews.{element_of, elements_of, rules_of};
 ghost use Rattle.abnfcheck.specs.Derivable.{AreLetters};
@@ -10,7 +10,7 @@ ghost use Rattle.abnfcheck.specs.RuleMarks.{IsTestOf, Yields, need_if, need_of_i
 
 use crate::aim::Aim;
 use abnfread::Elem;
-use leastset::{OwnedNeed, borrowed_needs, least};
+use fixpoint::{OwnedNeed, borrowed_needs, least};
 use letters::Alphabet;
 use ruletable::{Memory, NameCase, RuleTable};
 use std::alloc::Global;

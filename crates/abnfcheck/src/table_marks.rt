@@ -1,7 +1,7 @@
 //! What the rules of any table are good for.
 ghost use Rattle.std.specs.Prelude.{◌≡◌, Bool, length, slice_index_or, IfOk};
-ghost use Rattle.leastset.specs.Demands.{demand_of, demands_of};
-ghost use Rattle.leastset.specs.StepRows.{rows_of};
+ghost use Rattle.fixpoint.specs.Demands.{demand_of, demands_of};
+ghost use Rattle.fixpoint.specs.StepRows.{rows_of};
 ghost use Rattle.rulenames.specs.IdMarks.{AreMarks};
 ghost use Rattle.abnfread.specs.AbnfViews.{rules_of};
 ghost use Rattle.abnfcheck.specs.AbnfGrammar.{IsSound};
@@ -13,7 +13,7 @@ use crate::name_ids::name_ids;
 use crate::prose::rules_with_prose;
 use crate::rule_marks::rule_marks;
 use abnfread::Elem;
-use leastset::{Need, least};
+use fixpoint::{Need, least};
 use letters::Alphabet;
 use rulenames::opposites;
 use ruletable::{Memory, NameCase, RuleTable};

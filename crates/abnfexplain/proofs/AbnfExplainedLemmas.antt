@@ -10,9 +10,9 @@ use Rattle.std.specs.Prelude.{codes, decimal}
 use Rattle.lexer.specs.Pieces.{LiesIn}
 use Rattle.lexer.specs.TokenLists.{Tok, start_of, end_of, kind_of}
 use Rattle.lexer.specs.declared.limits.TheConstants.{MAX_GRAMMAR}
-use Rattle.picture.specs.PhraseLists.{listed}
-use Rattle.picture.specs.ToldPhrases.{AreTold}
-use Rattle.picture.proofs.PhraseLemmas.{told-same}
+use Rattle.diagnostics.specs.PhraseLists.{listed}
+use Rattle.diagnostics.specs.ToldPhrases.{AreTold}
+use Rattle.diagnostics.proofs.PhraseLemmas.{told-same}
 use Rattle.abnfread.specs.declared.kind.AbnfKind.{AbnfKind}
 use Rattle.abnfread.specs.declared.marks.MarkedToken.{MarkedToken}
 use Rattle.abnfread.specs.AbnfReading.{is_bracket, IsDecidedAt, IsFaultOf}

@@ -3,9 +3,9 @@
 use Rattle.std.proofs.Common.{◌≡◌, ℕ, ◌⊎◌, inl, inr, List, ◌++◌, codes, refl, sym, ◌∙◌, ap, arith, slice_get, Some}
 use Rattle.std.proofs.Common.{take, true, false, true≢false}
 use Rattle.lexer.proofs.ViabilityLemmas as viability
-use Rattle.picture.specs.PhraseLists.{listed}
-use Rattle.picture.specs.ToldPhrases.{AreTold}
-use Rattle.picture.proofs.OneToldLemmas.{one-told}
+use Rattle.diagnostics.specs.PhraseLists.{listed}
+use Rattle.diagnostics.specs.ToldPhrases.{AreTold}
+use Rattle.diagnostics.proofs.OneToldLemmas.{one-told}
 use Rattle.ruletable.specs.declared.fault.ReadFault.{ReadFault}
 use Rattle.ruletable.specs.declared.fault.ReadFault.TheVariants as faults
 use Rattle.abnfread.specs.AbnfReading.{is_bracket}

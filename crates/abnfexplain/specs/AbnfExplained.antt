@@ -3,11 +3,11 @@ use Rattle.std.specs.Prelude.{◌≡◌, ℕ, ◌<◌, ◌≤◌, ◌&&◌, Bool
 use Rattle.std.specs.Prelude.{Option, Some, None, codes, decimal, if◌then◌else◌}
 use Rattle.lexer.specs.TokenLists.{tok, kind_of, start_of}
 use Rattle.lexer.specs.declared.limits.TheConstants.{MAX_GRAMMAR}
-use Rattle.picture.specs.FirstBytes.{Row, first_told}
-use Rattle.picture.specs.LinesAround.{bytes_before}
-use Rattle.picture.specs.PhraseLists.{listed}
-use Rattle.picture.specs.Pictures.{place_told}
-use Rattle.picture.specs.ToldPhrases.{AreTold}
+use Rattle.diagnostics.specs.FirstBytes.{Row, first_told}
+use Rattle.diagnostics.specs.LinesAround.{bytes_before}
+use Rattle.diagnostics.specs.PhraseLists.{listed}
+use Rattle.diagnostics.specs.Pictures.{place_told}
+use Rattle.diagnostics.specs.ToldPhrases.{AreTold}
 use Rattle.abnfread.specs.declared.kind.AbnfKind.TheVariants.{Name, Bad, End}
 use Rattle.abnfread.specs.AbnfReading.{is_bracket}
 use Rattle.abnfread.specs.AbnfSays.{IsHopeless, IsOver}

@@ -4,10 +4,10 @@ use Rattle.abnfread.specs.AbnfKinds.{ends_list}
 use Rattle.abnfread.specs.AbnfSlices.{White, First}
 use Rattle.abnfread.specs.declared.kind.AbnfKind.{AbnfKind}
 use Rattle.abnfread.specs.declared.kind.AbnfKind.TheVariants.{Name, Is, Adds, Prose, Num}
-use Rattle.noteplaces.specs.ExplainedNotes.{ArePlaces, IsNoteExplained}
-use Rattle.noteplaces.specs.declared.places.Places.{Places}
-use Rattle.noteplaces.specs.declared.sign.Sign.{Sign}
-use Rattle.noteplaces.specs.declared.sign.Sign.TheVariants as signs
+use Rattle.diagnostics.specs.ExplainedNotes.{ArePlaces, IsNoteExplained}
+use Rattle.diagnostics.specs.declared.noteplaces.places.Places.{Places}
+use Rattle.diagnostics.specs.declared.noteplaces.sign.Sign.{Sign}
+use Rattle.diagnostics.specs.declared.noteplaces.sign.Sign.TheVariants as signs
 use Rattle.ruletable.specs.Notes.{Said}
 use Rattle.ruletable.specs.declared.lines.LineRule.TheVariants.{Lf}
 use Rattle.ruletable.specs.declared.table.NameCase.TheVariants.{Fold}

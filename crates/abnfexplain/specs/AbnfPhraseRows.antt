@@ -1,5 +1,5 @@
 -- The phrases of the code.
-use Rattle.picture.specs.ToldPhrases as told
+use Rattle.diagnostics.specs.ToldPhrases as told
 use Rattle.abnfexplain.specs.declared.abnf_phrases.Phrase.{Phrase}
 use Rattle.abnfexplain.specs.declared.abnf_stand.Form.{Form}
 

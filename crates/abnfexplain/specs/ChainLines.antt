@@ -1,7 +1,7 @@
 -- The line that tells by which rules a name is reached.
 use Rattle.std.specs.Prelude.{ℕ, zero, suc, ◌-◌, List, [], ◌∷◌, ◌++◌, Option, Some, None, length, drop, codes, decimal}
 use Rattle.std.specs.List.{flat_map}
-use Rattle.picture.specs.ShownBytes.{cut}
+use Rattle.diagnostics.specs.ShownBytes.{cut}
 use Rattle.abnfexplain.specs.declared.chain_lines.TheConstants.{MAX_LAST}
 
 -- a name as it is told

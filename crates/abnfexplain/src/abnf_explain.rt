@@ -2,9 +2,9 @@
 ghost use Rattle.std.specs.Prelude.{◌≡◌, ℕ, ◌≤◌, ◌++◌, ◌&&◌, List, Some, true, length, map, codes, OnOk, IfOk};
 ghost use Rattle.std.specs.Option.{option_map};
 ghost use Rattle.lexer.specs.declared.limits.TheConstants.{MAX_GRAMMAR};
-ghost use Rattle.picture.specs.FactRows.{row_of};
-ghost use Rattle.picture.specs.PhraseLists.{listed};
-ghost use Rattle.picture.specs.ToldPhrases.{AreTold};
+ghost use Rattle.diagnostics.specs.FactRows.{row_of};
+ghost use Rattle.diagnostics.specs.PhraseLists.{listed};
+ghost use Rattle.diagnostics.specs.ToldPhrases.{AreTold};
 ghost use Rattle.abnfread.specs.AbnfReading.{IsFaultOf};
 ghost use Rattle.abnfread.specs.MarkedTokens.{marked_of};
 ghost use Rattle.abnfexplain.specs.AbnfDecisions.{NoneDecides};
@@ -19,8 +19,8 @@ use crate::abnf_decide::{Decision, Refused, deciding_token};
 use crate::abnf_phrases::told_phrases;
 use crate::abnf_stand::Place;
 use abnfread::{AbnfKind, MarkedToken};
+use diagnostics::{Fact, line_around, push_fact, push_number, push_phrases, push_place};
 use lexer::tokens_make_up;
-use picture::{Fact, line_around, push_fact, push_number, push_phrases, push_place};
 use ruletable::{LineRule, Memory, ReadFault};
 use std::alloc::Global;
 

@@ -1,7 +1,7 @@
 //! The phrases that tell what can stand at a place in ABNF.
 ghost use Rattle.std.specs.Prelude.{◌≡◌, true, map, IfOk};
 ghost use Rattle.std.specs.List.{list_all, list_any};
-ghost use Rattle.picture.specs.ToldPhrases.{AreTold, tells};
+ghost use Rattle.diagnostics.specs.ToldPhrases.{AreTold, tells};
 ghost use Rattle.abnfexplain.specs.AbnfExpected.{phrases};
 ghost use Rattle.abnfexplain.specs.AbnfPhraseRows.{phrase_of};
 ghost use Rattle.abnfexplain.specs.AbnfPlaces.{place_allows};

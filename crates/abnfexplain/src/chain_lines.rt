@@ -3,7 +3,7 @@ ghost use Rattle.std.specs.Prelude.{◌≡◌, ◌++◌, [], map, slice_index_or
 ghost use Rattle.ruletable.specs.Rules.{names_of};
 ghost use Rattle.abnfexplain.specs.ChainLines.{chain_line, last_told, left_out, names_behind, in_quotes};
 
-use picture::{push_cut, push_number};
+use diagnostics::{push_cut, push_number};
 use ruletable::{Memory, RuleTable};
 
 /// How many names behind the first one are told: the last ones.

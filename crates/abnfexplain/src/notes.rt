@@ -4,8 +4,8 @@ ghost use Rattle.ruletable.specs.Notes.{Said, said_of};
 ghost use Rattle.abnfexplain.specs.AbnfNoteLines.{AreAbnfPlaces, ExplainsNote, sign_of as the_sign};
 
 use abnfread::AbnfKind;
+use diagnostics::{Places, Sign, Signs, explain_note, places_of};
 use lexer::one_list;
-use noteplaces::{Places, Sign, Signs, explain_note, places_of};
 use ruletable::{LineRule, Memory, NameCase, Note};
 use std::alloc::Global;
 

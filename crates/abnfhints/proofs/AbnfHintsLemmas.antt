@@ -8,9 +8,9 @@ use Rattle.abnfread.specs.Element.{Rule}
 use Rattle.abnfread.specs.declared.kind.AbnfKind.{AbnfKind}
 use Rattle.abnfcheck.proofs.AbnfNotesLemmas.{those_same}
 use Rattle.abnfexplain.specs.AbnfNoteLines.{AreAbnfPlaces, sign_of}
-use Rattle.noteplaces.specs.BodyMentions.{MentionedAt, mentioned_at, mentions_in}
-use Rattle.noteplaces.specs.DefinitionHeads.{DefinedAt, defined_at, definitions_in, sign_at}
-use Rattle.noteplaces.specs.declared.places.Places.{Places}
+use Rattle.diagnostics.specs.BodyMentions.{MentionedAt, mentioned_at, mentions_in}
+use Rattle.diagnostics.specs.DefinitionHeads.{DefinedAt, defined_at, definitions_in, sign_at}
+use Rattle.diagnostics.specs.declared.noteplaces.places.Places.{Places}
 use Rattle.ruletable.specs.declared.lines.LineRule.TheVariants.{Lf}
 use Rattle.abnfhints.specs.AbnfHints.{AreAbnfHints, AreHintsBy, DerivesNothing, IsToldOfJudged, no_rule, no_line}
 use Rattle.abnfhints.specs.AbnfHints.{some_line, told_first, barren_told, reversed_told}

@@ -4,9 +4,9 @@ use Rattle.std.proofs.Common.{◌≡◌, ℕ, ◌+◌, ◌<◌, List, [], ◌∷
 use Rattle.std.proofs.Common.{add-one, subst}
 use Rattle.std.proofs.lemmas.List.{map-append}
 use Rattle.std.proofs.Math.Seq.{take-suc}
-use Rattle.noteplaces.specs.BodyMentions.{MentionedAt, mentioned_at}
-use Rattle.noteplaces.specs.declared.mentions.Mention.{Mention}
-use Rattle.noteplaces.specs.declared.mentions.MentionKind.TheVariants.{Number}
+use Rattle.diagnostics.specs.BodyMentions.{MentionedAt, mentioned_at}
+use Rattle.diagnostics.specs.declared.noteplaces.mentions.Mention.{Mention}
+use Rattle.diagnostics.specs.declared.noteplaces.mentions.MentionKind.TheVariants.{Number}
 use Rattle.abnfhints.specs.AbnfHints.{AreReversed, IsReversed, none_reversed, one_reversed, other_mention}
 
 reversed_push : {ms rs : List MentionedAt} (m : MentionedAt) → AreReversed ms rs → m.kind ≡ Number → IsReversed m.text

@@ -4,7 +4,7 @@ use Rattle.std.proofs.Common.{◌≡◌, ◌↔◌, ℕ, ◌<◌, ◌⊎◌, inl
 use Rattle.std.proofs.Common.{subst, zero, suc, map, Some, lit<}
 use Rattle.std.specs.Prelude.{Contains, IsTrue, slice_get, slice_index_or}
 use Rattle.std.proofs.lemmas.Bool.{cases_eq}
-use Rattle.leastset.proofs.ContainsLemmas.{none_of, in_first, in_later, cons_cases}
+use Rattle.fixpoint.proofs.ContainsLemmas.{none_of, in_first, in_later, cons_cases}
 use Rattle.abnfcheck.specs.AbnfGrammar.{IsSound}
 use Rattle.abnfcheck.specs.Derivable.{AreLetters, RuleDerives}
 use Rattle.abnfcheck.specs.AbnfUses.{rule_names}

@@ -6,7 +6,7 @@ use Rattle.std.proofs.lemmas.List.{append-nil, map-append, take-map, take_min, l
 use Rattle.std.proofs.lemmas.Grind.{flat_map-append}
 use Rattle.std.proofs.Math.Seq.{take-suc}
 use Rattle.std.specs.List.{flat_map}
-use Rattle.noteplaces.specs.NoteLines.{more_told}
+use Rattle.diagnostics.specs.NoteLines.{more_told}
 use Rattle.abnfhints.specs.AbnfHints.{told_first}
 use Rattle.abnfhints.specs.declared.hints.TheConstants.{MAX_HINTS}
 

@@ -9,8 +9,8 @@ use Rattle.std.proofs.lemmas.Bool.Decides.{nat_tests}
 use Rattle.std.proofs.lemmas.List.{map-append}
 use Rattle.std.proofs.lemmas.List.Elements.{Contains-append_left, Contains-append_right, Contains-append_cases}
 use Rattle.std.proofs.Math.Seq.{take-suc}
-use Rattle.leastset.proofs.ContainsLemmas.{none_of, only_one, in_first, in_later, cons_cases}
-use Rattle.leastset.specs.NumberMarks.{IsMarked}
+use Rattle.fixpoint.proofs.ContainsLemmas.{none_of, only_one, in_first, in_later, cons_cases}
+use Rattle.fixpoint.specs.NumberMarks.{IsMarked}
 use Rattle.letters.specs.Letters.{has as in_alphabet}
 use Rattle.letters.specs.declared.alphabet.Alphabet.{Alphabet}
 use Rattle.ruletable.specs.Rules.{same_name}

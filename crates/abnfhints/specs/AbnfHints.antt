@@ -19,12 +19,12 @@ use Rattle.abnfread.specs.Numerals.{SaysNum}
 use Rattle.abnfread.specs.declared.kind.AbnfKind.{AbnfKind}
 use Rattle.abnfread.specs.declared.number.TheConstants.{MAX_VALUE}
 use Rattle.lexer.specs.TokenLists.{Tok, AreTokens}
-use Rattle.noteplaces.specs.BodyMentions.{MentionedAt, mentions_in}
-use Rattle.noteplaces.specs.DefinitionHeads.{DefinedAt, definitions_in, sign_at}
-use Rattle.noteplaces.specs.NoteLines.{more_told}
-use Rattle.noteplaces.specs.UseLines.{lines_behind}
-use Rattle.noteplaces.specs.declared.mentions.MentionKind.TheVariants.{Number}
-use Rattle.picture.specs.ShownBytes.{cut}
+use Rattle.diagnostics.specs.BodyMentions.{MentionedAt, mentions_in}
+use Rattle.diagnostics.specs.DefinitionHeads.{DefinedAt, definitions_in, sign_at}
+use Rattle.diagnostics.specs.NoteLines.{more_told}
+use Rattle.diagnostics.specs.UseLines.{lines_behind}
+use Rattle.diagnostics.specs.declared.noteplaces.mentions.MentionKind.TheVariants.{Number}
+use Rattle.diagnostics.specs.ShownBytes.{cut}
 use Rattle.ruletable.specs.Notes.{said}
 use Rattle.ruletable.specs.declared.lines.LineRule.TheVariants.{Lf}
 use Rattle.ruletable.specs.declared.note.NoteKind.TheVariants.{Unused}

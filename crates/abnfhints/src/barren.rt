@@ -6,17 +6,16 @@ ghost use Rattle.abnfcheck.specs.AbnfNotes.{Those};
 ghost use Rattle.abnfcheck.specs.RuleMarks.{AreProductive};
 ghost use Rattle.abnfhints.specs.AbnfHints.{DerivesNothing, barren_told, told_first};
 ghost use Rattle.letters.specs.Letters.{has};
-ghost use Rattle.noteplaces.specs.BodyMentions.{mentioned_at};
-ghost use Rattle.noteplaces.specs.DefinitionHeads.{defined_at};
-ghost use Rattle.noteplaces.specs.UseLines.{lines_behind};
+ghost use Rattle.diagnostics.specs.BodyMentions.{mentioned_at};
+ghost use Rattle.diagnostics.specs.DefinitionHeads.{defined_at};
+ghost use Rattle.diagnostics.specs.UseLines.{lines_behind};
 ghost use Rattle.ruletable.specs.Notes.{said};
 ghost use Rattle.rulenames.specs.IdMarks.{AreMarks};
 
 use crate::hinted::Hinted;
 use crate::hints::MAX_HINTS;
 use crate::marks::{Marks, is_marked};
-use noteplaces::{Places, explain_note, push_more};
-use picture::push_cut;
+use diagnostics::{Places, explain_note, push_cut, push_more};
 use ruletable::{Memory, NameCase, Note, NoteKind};
 use std::alloc::Global;
 

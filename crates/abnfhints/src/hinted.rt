@@ -2,8 +2,8 @@
 
 use crate::line_end::LineEnd;
 use abnfread::Elem;
+use diagnostics::Places;
 use letters::Alphabet;
-use noteplaces::Places;
 use ruletable::RuleTable;
 
 /// A grammar of which hints are told.

@@ -14,7 +14,7 @@ use crate::line_end::LineEnd;
 use crate::marks::{Marks, is_marked};
 use crate::without::rules_without;
 use abnfcheck::productive_rules;
-use picture::push_cut;
+use diagnostics::push_cut;
 use ruletable::{Memory, NameCase};
 use std::alloc::Global;
 

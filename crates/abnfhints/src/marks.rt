@@ -3,7 +3,7 @@ ghost use Rattle.std.specs.Prelude.{◌≡◌, ◌↔◌, length, IsTrue, IfOk};
 ghost use Rattle.abnfcheck.specs.AbnfGrammar.{IsSound};
 ghost use Rattle.abnfcheck.specs.RuleMarks.{AreProductive};
 ghost use Rattle.abnfread.specs.AbnfViews.{rules_of};
-ghost use Rattle.leastset.specs.NumberMarks.{IsMarked};
+ghost use Rattle.fixpoint.specs.NumberMarks.{IsMarked};
 ghost use Rattle.rulenames.specs.IdMarks.{AreMarks};
 
 use crate::hinted::Hinted;

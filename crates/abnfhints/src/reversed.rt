@@ -2,13 +2,12 @@
 ghost use Rattle.std.specs.Prelude.{◌≡◌, ◌↔◌, ◌++◌, ◌==◌, flat_map, map, option_map, IsTrue, IfOk, OnOk};
 ghost use Rattle.std.specs.List.{find};
 ghost use Rattle.abnfhints.specs.AbnfHints.{AreReversed, IsReversed, name_of_head, reversed_told, told_first};
-ghost use Rattle.noteplaces.specs.BodyMentions.{mentioned_at};
-ghost use Rattle.noteplaces.specs.DefinitionHeads.{defined_at};
+ghost use Rattle.diagnostics.specs.BodyMentions.{mentioned_at};
+ghost use Rattle.diagnostics.specs.DefinitionHeads.{defined_at};
 
 use crate::hints::MAX_HINTS;
 use crate::numbers::is_reversed;
-use noteplaces::{Head, Mention, MentionKind, Places, push_more};
-use picture::{push_cut, push_number};
+use diagnostics::{Head, Mention, MentionKind, Places, push_cut, push_more, push_number};
 use ruletable::Memory;
 use std::alloc::Global;
 

@@ -1,9 +1,11 @@
 //! Judges the lines of its standard input by an ABNF grammar.
 #![tactic(auto)]
 
-use commands::{abnfi_command, refuse_invalid_utf8};
+mod run;
+
+use crate::run::abnfi_main;
+use cli::{abnfi_command, end_without_memory, refuse_invalid_utf8, words_of};
 use feed::SourceOf;
-use mains::{abnfi_main, end_without_memory, words_of};
 use ruletable::SinkOf;
 use std::io::{BufReader, BufWriter, ErrorKind};
 use std::process::ExitCode;

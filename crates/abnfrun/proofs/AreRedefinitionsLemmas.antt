@@ -4,7 +4,7 @@ use Rattle.std.proofs.Common.{◌≡◌, ◌↔◌, ◌+◌, List, [], ◌++◌,
 use Rattle.std.specs.Prelude.{ℕ, Bool, Contains}
 use Rattle.std.proofs.lemmas.List.{length-map}
 use Rattle.std.proofs.lemmas.Simd.{map-map}
-use Rattle.leastset.specs.NumberMarks.{IsMarked}
+use Rattle.fixpoint.specs.NumberMarks.{IsMarked}
 use Rattle.ruletable.specs.Notes.{Said, said}
 use Rattle.ruletable.specs.Rules as table
 use Rattle.ruletable.specs.Rules.{names_of}

@@ -18,8 +18,8 @@ use Rattle.flatgrammar.specs.declared.verdict.Verdict.TheVariants as verdict
 use Rattle.flatgrammar.specs.Flat.{Flat}
 use Rattle.flatgrammar.specs.Lowered.{IsLowered}
 use Rattle.flatgrammar.specs.ToldBeginnings.{TellsBeginnings}
-use Rattle.lines.specs.declared.answers.Answer.{Answer}
-use Rattle.lines.specs.declared.answers.Answer.TheVariants.{Yes, No, NoAfter}
+use Rattle.linejudge.specs.declared.answers.Answer.{Answer}
+use Rattle.linejudge.specs.declared.answers.Answer.TheVariants.{Yes, No, NoAfter}
 
 -- the laws of derivation and of viable beginnings
 abbrev pub DerivationIsDecided : Type 0

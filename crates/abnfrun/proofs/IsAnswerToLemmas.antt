@@ -15,8 +15,8 @@ use Rattle.letters.specs.Letters.{has}
 use Rattle.letters.specs.Utf8Text.{IsLongestText, IsText, Spells, end}
 use Rattle.letters.specs.declared.alphabet.Alphabet.{Alphabet}
 use Rattle.letters.specs.declared.alphabet.Alphabet.TheVariants.{Bytes, Utf8}
-use Rattle.lines.specs.declared.answers.Answer.{Answer}
-use Rattle.lines.specs.declared.answers.Answer.TheVariants.{Yes, No, NoAfter}
+use Rattle.linejudge.specs.declared.answers.Answer.{Answer}
+use Rattle.linejudge.specs.declared.answers.Answer.TheVariants.{Yes, No, NoAfter}
 
 -- the laws of UTF-8
 abbrev pub TextIsDecided : Type 0

@@ -14,13 +14,13 @@ use Rattle.abnfrun.specs.AbnfReply.{AnswersFor, IsAnswerTo, RefusalFor, form_of}
 use Rattle.abnfrun.specs.OpenAbnf.{IsOpened, TellsAlone, answer_alone, line_alone}
 use Rattle.abnfrun.specs.AbnfTextHints.{AreTextHints}
 use Rattle.abnfrun.specs.OpenJudge.{OpenJudge}
-use Rattle.lines.specs.InputLines.{HasNoEnd, StandsAt, with_end, none, one_more, finished, at_front, behind}
-use Rattle.lines.specs.InputLines.{answer_text, refused_by, status_after, place_taken}
-use Rattle.lines.specs.LineRefusals.{LinesReply, TellsLine, count_untold, none_told, one_told}
-use Rattle.lines.specs.declared.answers.Answer.{Answer}
-use Rattle.lines.specs.declared.answers.Answer.TheVariants.{Yes, No, NoAfter}
-use Rattle.lines.specs.declared.line.LineForm.{LineForm}
-use Rattle.lines.specs.declared.reached.At.{At}
+use Rattle.linejudge.specs.InputLines.{HasNoEnd, StandsAt, with_end, none, one_more, finished, at_front, behind}
+use Rattle.linejudge.specs.InputLines.{answer_text, refused_by, status_after, place_taken}
+use Rattle.linejudge.specs.LineRefusals.{LinesReply, TellsLine, count_untold, none_told, one_told}
+use Rattle.linejudge.specs.declared.answers.Answer.{Answer}
+use Rattle.linejudge.specs.declared.answers.Answer.TheVariants.{Yes, No, NoAfter}
+use Rattle.linejudge.specs.declared.line.LineForm.{LineForm}
+use Rattle.linejudge.specs.declared.reached.At.{At}
 use Rattle.ruletable.specs.Notes.{Said}
 use Rattle.toolrun.specs.Input.{Input}
 use Rattle.toolrun.specs.Reply.{Reply}

@@ -9,10 +9,10 @@ use Rattle.letters.specs.Letters.{has}
 use Rattle.letters.specs.Utf8Text.{IsLongestText, Spells}
 use Rattle.letters.specs.declared.alphabet.Alphabet.{Alphabet}
 use Rattle.letters.specs.declared.alphabet.Alphabet.TheVariants.{Bytes, Utf8}
-use Rattle.lines.specs.LineRefusals.{LinesReply, LinesStates}
-use Rattle.lines.specs.declared.answers.Answer.{Answer}
-use Rattle.lines.specs.declared.line.LineForm.{LineForm}
-use Rattle.lines.specs.declared.answers.Answer.TheVariants.{Yes, No, NoAfter}
+use Rattle.linejudge.specs.LineRefusals.{LinesReply, LinesStates}
+use Rattle.linejudge.specs.declared.answers.Answer.{Answer}
+use Rattle.linejudge.specs.declared.line.LineForm.{LineForm}
+use Rattle.linejudge.specs.declared.answers.Answer.TheVariants.{Yes, No, NoAfter}
 use Rattle.refusedlines.specs.Refusals.{IsRefusalTold}
 use Rattle.toolrun.specs.Input.{Input}
 use Rattle.toolrun.specs.Reply.{Reply, text_alone}

@@ -6,9 +6,9 @@ use Rattle.abnfread.specs.Element.{Definition}
 use Rattle.abnfrun.specs.AbnfNoted.{all_rules, judged_of, AreNotesOn, IsRefusedFor, rule_given}
 use Rattle.abnfrun.specs.AbnfReply.{IsAnswerTo, form_of}
 use Rattle.abnfrun.specs.OpenJudge.{OpenJudge}
-use Rattle.lines.specs.InputLines.{answer_text, at_front, refused_by, status_after}
-use Rattle.lines.specs.LineRefusals.{TellsLine}
-use Rattle.lines.specs.declared.answers.Answer.{Answer}
+use Rattle.linejudge.specs.InputLines.{answer_text, at_front, refused_by, status_after}
+use Rattle.linejudge.specs.LineRefusals.{TellsLine}
+use Rattle.linejudge.specs.declared.answers.Answer.{Answer}
 use Rattle.refusedlines.specs.Refusals.{IsRefusalTold}
 use Rattle.ruletable.specs.Notes.{Said}
 use Rattle.toolrun.specs.Input.{Input}

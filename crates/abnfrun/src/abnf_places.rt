@@ -4,7 +4,7 @@ ghost use Rattle.ruletable.specs.declared.table.NameCase.TheVariants.{Fold};
 
 use abnfcheck::NameChains;
 use abnfread::Elem;
-use noteplaces::Places;
+use diagnostics::Places;
 use ruletable::RuleTable;
 
 /// Where a text defines and uses its rules, by which rules the judged one reaches a name, and the rules.

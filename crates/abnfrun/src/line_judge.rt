@@ -9,7 +9,7 @@ ghost use Rattle.flatgrammar.specs.Lowered.{IsLowered};
 ghost use Rattle.flatgrammar.specs.ToldBeginnings.{TellsBeginnings};
 ghost use Rattle.letters.specs.Letters.{has};
 ghost use Rattle.letters.specs.Utf8Text.{IsText};
-ghost use Rattle.lines.specs.declared.answers.Answer.{Answer};
+ghost use Rattle.linejudge.specs.declared.answers.Answer.{Answer};
 ghost use Rattle.refusedlines.specs.Refusals.{IsRefusalTold};
 ghost use Rattle.toolrun.specs.Stopped.{Fulfils};
 ghost use Rattle.toolrun.specs.Stream.{passed};
@@ -21,12 +21,12 @@ use feed::Source;
 use flatgrammar::{Flat, Verdict, lower};
 use lazydfa::Automaton;
 use letters::{Alphabet, CodePoint, Letter, decode, utf8_is_decided, utf8_len};
-use lines::{Answer, Judge, LineForm, run_lines};
+use linejudge::{Answer, Judge, LineForm, run_lines};
+use prune::lower_viable;
 use refusedlines::{Explainer, RefusedLine, explain_refused};
 use ruletable::{Memory, Sink, WriteFault};
 use std::alloc::Global;
 use toolrun::{Ending, Settings, Stop};
-use viable::lower_viable;
 
 /// Answers lines by a grammar: whether its judged rule derives them, and how far they begin something that it derives
 /// if that is asked for. It explains refused lines by the flat grammar for lines of one letter more, if there is one.

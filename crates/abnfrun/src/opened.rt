@@ -13,7 +13,7 @@ use abnfcheck::SoundAbnf;
 use abnfread::read_abnf;
 use flatgrammar::Flat;
 use letters::Alphabet;
-use lines::{Answer, Judge};
+use linejudge::{Answer, Judge};
 use ruletable::{Memory, Note, ReadFault};
 use std::alloc::Global;
 use std::marker::Model;

@@ -5,11 +5,11 @@ use Rattle.std.proofs.Common.{[]}
 use Rattle.std.proofs.Common.{◌∷◌, length, drop, refl, inl, inr, codes}
 use Rattle.std.proofs.lemmas.Bool.{cases_Bool}
 use Rattle.std.specs.List.{list_all, prefix_len}
-use Rattle.rfctext.specs.Furniture.{KeepsLines, none_left, stays, goes}
-use Rattle.rfctext.specs.KeptSteps.{is_blank_kind}
-use Rattle.rfctext.specs.LineKinds.{is_blank, is_blank_line, is_dated, is_feed, is_foot, kind_of}
-use Rattle.rfctext.specs.TextLines.{NumberedLine, line_in, line_parts, lines_from, text_lines, with_byte, without_cr}
-use Rattle.rfctext.specs.declared.line_kind.LineKind.{LineKind}
+use Rattle.abnfblocks.specs.Furniture.{KeepsLines, none_left, stays, goes}
+use Rattle.abnfblocks.specs.KeptSteps.{is_blank_kind}
+use Rattle.abnfblocks.specs.LineKinds.{is_blank, is_blank_line, is_dated, is_feed, is_foot, kind_of}
+use Rattle.abnfblocks.specs.TextLines.{NumberedLine, line_in, line_parts, lines_from, text_lines, with_byte, without_cr}
+use Rattle.abnfblocks.specs.declared.rfctext.line_kind.LineKind.{LineKind}
 use Rattle.abnfread.specs.AbnfSlices.{is_inside}
 use Rattle.abnftexts.proofs.EachLemmas.{Each, each_none, each_next, each-take, each-drop}
 

@@ -6,9 +6,9 @@ use Rattle.std.proofs.Math.Dec.{ltb}
 use Rattle.std.proofs.lemmas.Bool.{cases_Bool, ltb-true}
 use Rattle.std.proofs.lemmas.Option.{slice_get-get_or, slice_get-map, slice_get_past}
 use Rattle.std.specs.Prelude.{Result, Ok, Err, IfOk, slice_get}
-use Rattle.abnfjoin.specs.GivenRules.{RuleGiven, fates_of, text_rule}
-use Rattle.abnfjoin.specs.declared.fate.Fate.{Fate}
-use Rattle.abnfjoin.specs.declared.given.GivenRule.{GivenRule}
+use Rattle.abnftexts.specs.GivenRules.{RuleGiven, fates_of, text_rule}
+use Rattle.abnftexts.specs.declared.join.fate.Fate.{Fate}
+use Rattle.abnftexts.specs.declared.join.given.GivenRule.{GivenRule}
 use Rattle.abnftexts.specs.JoinedGrammar.{GrammarJoined, has_stayed, ordered_rules, printed_behind, rule_printed}
 use Rattle.abnftexts.specs.JoinedGrammar.{rules_listed, standing}
 use Rattle.abnftexts.specs.JoinedViews.{IsGatheredJoined, IsStandingJoined}

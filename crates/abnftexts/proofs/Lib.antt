@@ -12,3 +12,10 @@ pub mod RulesTakenLemmas
 pub mod SpelledRulesLemmas
 pub mod TextRulesLemmas
 pub mod UndefinedLemmas
+pub mod AllSameLemmas
+pub mod FatesLemmas
+pub mod JoinedLemmas
+pub mod LineEndLemmas
+pub mod LinkedTextLemmas
+pub mod LinkedTokenLemmas
+pub mod MovedWordLemmas

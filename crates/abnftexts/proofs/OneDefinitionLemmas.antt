@@ -26,8 +26,8 @@ use Rattle.abnfread.specs.BaseDigits.{is_digit}
 use Rattle.abnfread.specs.Element.{Definition, Element, Elements}
 use Rattle.abnfread.specs.MarkedTokens.{begins_rule, indented, indent_at, is_first, marks}
 use Rattle.abnfread.proofs.AbnfSliceLemmas.{first-less, white-ends}
-use Rattle.abnfjoin.proofs.LinkedTextLemmas.{begins-at_none}
-use Rattle.abnfjoin.proofs.LinkedTokenLemmas.{WordSaid, first-said, word-said}
+use Rattle.abnftexts.proofs.LinkedTextLemmas.{begins-at_none}
+use Rattle.abnftexts.proofs.LinkedTokenLemmas.{WordSaid, first-said, word-said}
 use Rattle.abnftexts.proofs.EachLemmas.{Each, each_none, each_next}
 use Rattle.abnftexts.proofs.OneRuleLemmas.{Later, is_dark, later-at}
 

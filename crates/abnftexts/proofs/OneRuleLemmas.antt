@@ -6,8 +6,8 @@ use Rattle.std.proofs.Common.{arith, inl, inr, subst, append_assoc, min, cond}
 use Rattle.std.proofs.lemmas.Bool.{cases_Bool, eqb-true}
 use Rattle.std.proofs.lemmas.Bool.Decides.{nat_tests}
 use Rattle.std.specs.List.{prefix_len}
-use Rattle.rfctext.specs.LineKinds.{is_blank as is_blank_byte}
-use Rattle.rfctext.specs.TextLines.{NumberedLine}
+use Rattle.abnfblocks.specs.LineKinds.{is_blank as is_blank_byte}
+use Rattle.abnfblocks.specs.TextLines.{NumberedLine}
 use Rattle.abnfread.specs.AbnfSlices.{is_blank, is_inside}
 use Rattle.abnfread.specs.MarkedTokens.{plus, indented, indent_from}
 use Rattle.abnfblocks.specs.RuleLines.{begins_by, begins_comment, behind_margin, is_margin, margin_of}

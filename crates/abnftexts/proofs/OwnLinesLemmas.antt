@@ -8,15 +8,15 @@ use Rattle.std.proofs.lemmas.Bool.Decides.{nat_tests}
 use Rattle.std.proofs.lemmas.List.Sums.{prefix_len-le-length}
 use Rattle.std.proofs.lemmas.List.{drop-drop, length-take}
 use Rattle.std.specs.List.{filter_map, prefix_len, slice_get, cons_option}
-use Rattle.rfctext.specs.TextLines.{NumberedLine}
+use Rattle.abnfblocks.specs.TextLines.{NumberedLine}
 use Rattle.abnfblocks.specs.FoundBlocks.{AreFound, no_rule as opens_none, piece, no_piece as opens_no_piece}
 use Rattle.abnfblocks.specs.FoundBlocks.{none_left as none_there}
 use Rattle.abnfblocks.specs.RuleLines.{margin_of}
 use Rattle.abnfblocks.specs.TextBlocks.{begins_rule_at, block_at, block_size, goes_on, margin_at, opens_block}
 use Rattle.abnfblocks.specs.TextBlocks.{paragraph_size, is_full_line, IsCut}
 use Rattle.abnfblocks.specs.declared.found.Found.{Found}
-use Rattle.abnfjoin.specs.GivenRules.{RuleGiven}
-use Rattle.abnfjoin.specs.declared.fate.Fate.{Fate}
+use Rattle.abnftexts.specs.GivenRules.{RuleGiven}
+use Rattle.abnftexts.specs.declared.join.fate.Fate.{Fate}
 use Rattle.abnftexts.specs.JoinedGrammar.{has_stayed, standing}
 use Rattle.abnftexts.proofs.ClearLinesLemmas.{IsClear, kept-clear}
 use Rattle.abnftexts.proofs.EachLemmas.{Each, each_none, each_next, each-take, each-drop}

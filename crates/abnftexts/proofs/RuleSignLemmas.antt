@@ -26,8 +26,8 @@ use Rattle.abnfread.proofs.AbnfFirstLemmas.{letter-digit}
 use Rattle.abnfread.proofs.AbnfSliceLemmas.{first-dark, first-last, white-unique}
 use Rattle.abnfread.proofs.ByteRunLemmas.{run-longest, run-shorter}
 use Rattle.abnfblocks.specs.RuleLines.{begins_by, behind_margin, behind_name, is_margin}
-use Rattle.abnfjoin.proofs.LinkedTextLemmas.{letter-no_piece}
-use Rattle.abnfjoin.proofs.LinkedTokenLemmas.{WordSaid, first-said, word-said}
+use Rattle.abnftexts.proofs.LinkedTextLemmas.{letter-no_piece}
+use Rattle.abnftexts.proofs.LinkedTokenLemmas.{WordSaid, first-said, word-said}
 
 behind-one_more : (n : ℕ) (b : ℕ) (bytes : List ℕ) → drop (1 + n) (b ∷ bytes) ≡ drop n bytes
 behind-one_more n b bytes = let e : 1 + n ≡ suc n = omega arith in ap (λ (k : ℕ). drop k (b ∷ bytes)) e

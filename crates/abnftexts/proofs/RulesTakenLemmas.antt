@@ -7,10 +7,10 @@ use Rattle.std.proofs.lemmas.List.{at_drop_all, drop-drop, drop-map, length-map,
 use Rattle.ruletable.specs.declared.fault.ReadFault.{ReadFault}
 use Rattle.ruletable.specs.declared.fault.ReadFault.TheVariants as ReadFaults
 use Rattle.abnfread.specs.AbnfReading.{IsFaultOf}
-use Rattle.abnfjoin.specs.GivenRules.{text_rule}
-use Rattle.abnfjoin.specs.declared.given.GivenRule.{GivenRule}
-use Rattle.rfctext.specs.TextLines.{NumberedLine, numbered}
-use Rattle.rfctext.specs.declared.text_line.TextLine.{TextLine}
+use Rattle.abnftexts.specs.GivenRules.{text_rule}
+use Rattle.abnftexts.specs.declared.join.given.GivenRule.{GivenRule}
+use Rattle.abnfblocks.specs.TextLines.{NumberedLine, numbered}
+use Rattle.abnfblocks.specs.declared.rfctext.text_line.TextLine.{TextLine}
 use Rattle.abnfblocks.specs.TextBlocks.{block_text, margin_at, rule_lines}
 use Rattle.abnfblocks.specs.declared.found.Found.{Found}
 use Rattle.abnfblocks.specs.declared.found.Found.TheVariants as found

@@ -10,8 +10,8 @@ use Rattle.std.specs.Char.{is_ascii_alphabetic}
 use Rattle.std.specs.Fmt.{digit_glyph, digits_onto, digits}
 use Rattle.lexer.specs.SliceEnds.{piece, no_more}
 use Rattle.lexer.specs.declared.limits.TheConstants.{MAX_GRAMMAR}
-use Rattle.picture.specs.ShownBytes.{hex_digit, shown, shown_byte}
-use Rattle.rfctext.specs.TextLines.{NumberedLine}
+use Rattle.diagnostics.specs.ShownBytes.{hex_digit, shown, shown_byte}
+use Rattle.abnfblocks.specs.TextLines.{NumberedLine}
 use Rattle.ruletable.specs.declared.fault.ReadFault.{ReadFault}
 use Rattle.ruletable.specs.declared.fault.ReadFault.TheVariants as faults
 use Rattle.abnfread.specs.AbnfReading.{IsFaultOf, Reads}
@@ -24,12 +24,12 @@ use Rattle.abnfread.specs.MarkedTokens.{indented}
 use Rattle.abnfread.proofs.AbnfFaultLemmas.{no-fault, one-reading}
 use Rattle.abnfblocks.specs.RuleLines.{begins_letter, begins_by, behind_margin, behind_name, margin_of}
 use Rattle.abnfblocks.specs.TextBlocks.{block_text, cut_line, opens_block}
-use Rattle.abnfjoin.specs.GivenRules.{RuleGiven}
-use Rattle.abnfjoin.specs.LinkedTexts.{EndsLine, lf, behind_byte, SpellsAtMargin, moved_definition}
-use Rattle.abnfjoin.proofs.LinkedTextLemmas.{spells-linked, spells-behind, spells-reads, reads-spells}
-use Rattle.abnfjoin.proofs.LinkedTextLemmas.{nothing-reads}
-use Rattle.abnfjoin.specs.GivenRules.{fates_of}
-use Rattle.abnfjoin.specs.JoinedRules.{joined_order}
+use Rattle.abnftexts.specs.GivenRules.{RuleGiven}
+use Rattle.abnftexts.specs.LinkedTexts.{EndsLine, lf, behind_byte, SpellsAtMargin, moved_definition}
+use Rattle.abnftexts.proofs.LinkedTextLemmas.{spells-linked, spells-behind, spells-reads, reads-spells}
+use Rattle.abnftexts.proofs.LinkedTextLemmas.{nothing-reads}
+use Rattle.abnftexts.specs.GivenRules.{fates_of}
+use Rattle.abnftexts.specs.JoinedRules.{joined_order}
 use Rattle.abnftexts.specs.JoinedGrammar.{AreTextsJoined, GrammarJoined, comment_before, first_number, goes_behind_it}
 use Rattle.abnftexts.specs.JoinedGrammar.{printed_behind, rule_printed, standing_rules}
 use Rattle.abnftexts.specs.RulesGathered.{NamedText, RuleLines}

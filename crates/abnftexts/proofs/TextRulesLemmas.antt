@@ -3,8 +3,8 @@
 use Rattle.std.proofs.Common.{◌≡◌, ◌≢◌, ℕ, Bool, List, [], ◌∷◌, ◌++◌, None, drop, map, refl, sym, ap, ◌∙◌, subst}
 use Rattle.std.specs.List.{flat_map}
 use Rattle.lexer.specs.TokenLists.{Tok}
-use Rattle.noteplaces.specs.BodyMentions.{mentions_in}
-use Rattle.noteplaces.specs.DefinitionHeads.{SignAt, sign_at}
+use Rattle.diagnostics.specs.BodyMentions.{mentions_in}
+use Rattle.diagnostics.specs.DefinitionHeads.{SignAt, sign_at}
 use Rattle.ruletable.specs.declared.lines.LineRule.TheVariants.{Lf}
 use Rattle.abnfread.specs.MarkedTokens.{AreTokens}
 use Rattle.abnfread.specs.declared.kind.AbnfKind.{AbnfKind}
@@ -15,9 +15,9 @@ use Rattle.abnfread.specs.AbnfReading.{IsFaultOf, Reads}
 use Rattle.abnfread.specs.AbnfTable.{firsts}
 use Rattle.abnfread.specs.CoreRules.{core_list}
 use Rattle.abnfread.specs.Element.{Definition, Rule, body_of}
-use Rattle.abnfjoin.specs.GivenRules.{RuleGiven}
-use Rattle.rfctext.specs.Furniture.{KeepsLines}
-use Rattle.rfctext.specs.TextLines.{NumberedLine}
+use Rattle.abnftexts.specs.GivenRules.{RuleGiven}
+use Rattle.abnfblocks.specs.Furniture.{KeepsLines}
+use Rattle.abnfblocks.specs.TextLines.{NumberedLine}
 use Rattle.abnfblocks.specs.FoundBlocks.{AreFound}
 use Rattle.abnfblocks.specs.TextBlocks.{block_text}
 use Rattle.abnfblocks.specs.declared.found.Found.{Found}

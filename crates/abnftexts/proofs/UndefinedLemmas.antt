@@ -9,8 +9,8 @@ use Rattle.std.proofs.lemmas.Bool.Decides.{nat_tests}
 use Rattle.std.specs.List.{enumerate_from, flat_map, list_any, position_or_len}
 use Rattle.std.specs.Option.{is_some}
 use Rattle.std.specs.Prelude.{position, slice_get}
-use Rattle.noteplaces.specs.BodyMentions.{MentionedAt, mentioned_at}
-use Rattle.noteplaces.specs.declared.places.Places.{Places}
+use Rattle.diagnostics.specs.BodyMentions.{MentionedAt, mentioned_at}
+use Rattle.diagnostics.specs.declared.noteplaces.places.Places.{Places}
 use Rattle.ruletable.specs.Rules as table
 use Rattle.ruletable.specs.Rules.{same_name}
 use Rattle.ruletable.specs.declared.table.NameCase.{NameCase}
@@ -22,7 +22,7 @@ use Rattle.abnfread.specs.Element.{Rule}
 use Rattle.abnfread.specs.declared.elem.Elem.{Elem}
 use Rattle.abnfexplain.specs.AbnfNoteLines.{AreAbnfPlaces}
 use Rattle.abnfblocks.specs.TextBlocks.{block_text}
-use Rattle.abnfjoin.specs.GivenRules.{RuleGiven}
+use Rattle.abnftexts.specs.GivenRules.{RuleGiven}
 use Rattle.abnftexts.specs.JoinedGrammar.{ordered_rules}
 use Rattle.abnftexts.specs.CodeUses.{AddsUses, name_used}
 use Rattle.abnftexts.specs.RulesGathered.{RuleLines}

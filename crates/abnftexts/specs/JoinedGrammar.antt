@@ -3,11 +3,11 @@ use Rattle.std.specs.Prelude.{◌≡◌, ℕ, ◌-◌, ◌==◌, ◌&&◌, bytes
 use Rattle.std.specs.Prelude.{length, map, Option, None, Some, codes, slice_get, if◌then◌else◌}
 use Rattle.std.specs.List.{enumerate_from, filter_map, flat_map, zip}
 use Rattle.abnfblocks.specs.TextBlocks.{block_text}
-use Rattle.abnfjoin.specs.GivenRules.{RuleGiven, fates_of}
-use Rattle.abnfjoin.specs.JoinedRules.{clashes_of, joined_order}
-use Rattle.abnfjoin.specs.declared.fate.Fate.{Fate}
-use Rattle.abnfjoin.specs.declared.fate.Fate.TheVariants.{Stands, Again, Yields}
-use Rattle.abnfjoin.specs.declared.order.Clash.{Clash}
+use Rattle.abnftexts.specs.GivenRules.{RuleGiven, fates_of}
+use Rattle.abnftexts.specs.JoinedRules.{clashes_of, joined_order}
+use Rattle.abnftexts.specs.declared.join.fate.Fate.{Fate}
+use Rattle.abnftexts.specs.declared.join.fate.Fate.TheVariants.{Stands, Again, Yields}
+use Rattle.abnftexts.specs.declared.join.order.Clash.{Clash}
 use Rattle.abnftexts.specs.RulesGathered.{NamedText, RuleLines, RulesGathered}
 use Rattle.abnftexts.specs.TextRules.{GiveTexts}
 use Rattle.abnftexts.specs.UsedNames.{AreNameUses, UsedName, undefined_told}

@@ -1,6 +1,6 @@
 -- The joined grammar that the code's stands for.
 use Rattle.std.specs.Prelude.{◌≡◌, ℕ, List}
-use Rattle.abnfjoin.specs.GivenRules.{RuleGiven}
+use Rattle.abnftexts.specs.GivenRules.{RuleGiven}
 use Rattle.abnftexts.specs.JoinedGrammar.{GrammarJoined, UsesPrinted, gathered_joined, joined_of, standing_places}
 use Rattle.abnftexts.specs.JoinedGrammar.{standing_rules}
 use Rattle.abnftexts.specs.RulesGathered.{RuleLines, RulesGathered}

@@ -9,3 +9,8 @@ pub mod TakenRules
 pub mod TextPlaces
 pub mod TextRules
 pub mod UsedNames
+pub mod GivenRules
+pub mod JoinedRules
+pub mod LinkedTexts
+pub mod OnlyProse
+pub mod SameElements

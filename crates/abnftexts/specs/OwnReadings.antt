@@ -2,8 +2,8 @@
 use Rattle.std.specs.Prelude.{◌≢◌, ℕ, List}
 use Rattle.ruletable.specs.declared.fault.ReadFault.TheVariants as faults
 use Rattle.abnfread.specs.AbnfReading.{IsFaultOf}
-use Rattle.abnfjoin.specs.GivenRules.{text_rule}
-use Rattle.rfctext.specs.TextLines.{NumberedLine}
+use Rattle.abnftexts.specs.GivenRules.{text_rule}
+use Rattle.abnfblocks.specs.TextLines.{NumberedLine}
 use Rattle.abnfblocks.specs.TextBlocks.{block_text}
 use Rattle.abnftexts.specs.TextRules.{SpellRule}
 use Rattle.abnftexts.specs.declared.own.OwnReading.{OwnReading}

@@ -1,7 +1,7 @@
 -- What texts give: rules with their places, and what is told.
 use Rattle.std.specs.Prelude.{ℕ, List, [], ◌∷◌, ◌++◌, map}
-use Rattle.abnfjoin.specs.GivenRules.{RuleGiven, text_rule}
-use Rattle.rfctext.specs.TextLines.{NumberedLine, numbered}
+use Rattle.abnftexts.specs.GivenRules.{RuleGiven, text_rule}
+use Rattle.abnfblocks.specs.TextLines.{NumberedLine, numbered}
 use Rattle.abnftexts.specs.declared.gathered.Gathered.{Gathered}
 use Rattle.abnftexts.specs.declared.gathered.RulePlace.{RulePlace}
 use Rattle.abnftexts.specs.declared.gathered.SourceText.{SourceText}

@@ -4,8 +4,8 @@ use Rattle.std.specs.List.{filter_map}
 use Rattle.abnfread.specs.AbnfTable.{first_body}
 use Rattle.abnfread.specs.CoreRules.{core_list}
 use Rattle.abnfread.specs.Element.{Definition, body_of}
-use Rattle.abnfjoin.specs.GivenRules.{RuleGiven}
-use Rattle.abnfjoin.specs.JoinedRules.{joined_order}
+use Rattle.abnftexts.specs.GivenRules.{RuleGiven}
+use Rattle.abnftexts.specs.JoinedRules.{joined_order}
 use Rattle.abnftexts.specs.JoinedGrammar.{ordered_rules, standing_places, standing_rules}
 use Rattle.abnftexts.specs.RulesGathered.{RuleLines, RulesGathered}
 use Rattle.abnftexts.specs.TextRules.{SpellRule}

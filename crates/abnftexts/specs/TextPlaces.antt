@@ -1,7 +1,7 @@
 -- Places in texts, as they are told.
 use Rattle.std.specs.Prelude.{ℕ, ◌-◌, min, List, ◌++◌, length, map, codes, decimal, slice_index}
-use Rattle.picture.specs.ShownBytes.{shown}
-use Rattle.rfctext.specs.TextLines.{NumberedLine}
+use Rattle.diagnostics.specs.ShownBytes.{shown}
+use Rattle.abnfblocks.specs.TextLines.{NumberedLine}
 use Rattle.ruletable.specs.Faults.{fault_text}
 use Rattle.ruletable.specs.declared.fault.ReadFault.{ReadFault}
 use Rattle.ruletable.specs.declared.fault.ReadFault.TheVariants.{Syntax, Depth, CodePredicate, TooLong, Memory}

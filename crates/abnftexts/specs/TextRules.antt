@@ -6,9 +6,9 @@ use Rattle.abnfread.specs.AbnfReading.{Reads, IsFaultOf}
 use Rattle.abnfread.specs.AbnfTable.{firsts}
 use Rattle.abnfread.specs.CoreRules.{core_list}
 use Rattle.abnfread.specs.Element.{Definition, Rule, body_of}
-use Rattle.abnfjoin.specs.GivenRules.{RuleGiven}
-use Rattle.rfctext.specs.Furniture.{KeepsLines}
-use Rattle.rfctext.specs.TextLines.{NumberedLine, text_lines}
+use Rattle.abnftexts.specs.GivenRules.{RuleGiven}
+use Rattle.abnfblocks.specs.Furniture.{KeepsLines}
+use Rattle.abnfblocks.specs.TextLines.{NumberedLine, text_lines}
 use Rattle.abnfblocks.specs.FoundBlocks.{AreFound}
 use Rattle.abnfblocks.specs.RuleLines.{adds_rule}
 use Rattle.abnfblocks.specs.TextBlocks.{block_text, margin_at, rule_lines}

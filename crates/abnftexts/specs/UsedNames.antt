@@ -5,15 +5,15 @@ use Rattle.lexer.specs.TokenLists.{Tok}
 use Rattle.ruletable.specs.Rules.{same_name}
 use Rattle.ruletable.specs.declared.lines.LineRule.TheVariants.{Lf}
 use Rattle.ruletable.specs.declared.table.NameCase.TheVariants.{Fold}
-use Rattle.noteplaces.specs.BodyMentions.{MentionedAt, is_kind, mentions_in}
-use Rattle.noteplaces.specs.DefinitionHeads.{sign_at}
-use Rattle.noteplaces.specs.declared.mentions.MentionKind.TheVariants.{Use}
+use Rattle.diagnostics.specs.BodyMentions.{MentionedAt, is_kind, mentions_in}
+use Rattle.diagnostics.specs.DefinitionHeads.{sign_at}
+use Rattle.diagnostics.specs.declared.noteplaces.mentions.MentionKind.TheVariants.{Use}
 use Rattle.abnfread.specs.CoreRules.{core_names}
 use Rattle.abnfread.specs.MarkedTokens.{AreTokens}
 use Rattle.abnfread.specs.declared.kind.AbnfKind.{AbnfKind}
 use Rattle.abnfexplain.specs.AbnfNoteLines.{sign_of}
 use Rattle.abnfblocks.specs.TextBlocks.{block_text}
-use Rattle.abnfjoin.specs.GivenRules.{RuleGiven}
+use Rattle.abnftexts.specs.GivenRules.{RuleGiven}
 use Rattle.abnftexts.specs.RulesGathered.{RuleLines}
 use Rattle.abnftexts.specs.TextPlaces.{number_at, place_shown}
 

@@ -1,7 +1,7 @@
 //! What texts give.
 
-use abnfjoin::GivenRule;
-use rfctext::TextLine;
+use crate::join::GivenRule;
+use abnfblocks::TextLine;
 
 /// A text: what it is called where places in it are told, and its bytes.
 #[derive(Clone, Copy)]

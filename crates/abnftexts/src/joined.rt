@@ -1,18 +1,18 @@
 //! The grammar of several texts.
 ghost use Rattle.std.specs.Prelude.{map, IfOk};
-ghost use Rattle.abnfjoin.specs.GivenRules.{text_rule};
+ghost use Rattle.abnftexts.specs.GivenRules.{text_rule};
 ghost use Rattle.abnftexts.specs.JoinedGrammar.{AreTextsJoined};
 ghost use Rattle.abnftexts.specs.JoinedViews.{IsGatheredJoined, IsStandingJoined, grammar_joined};
 ghost use Rattle.abnftexts.specs.RulesGathered.{lines_placed, named_text, rules_gathered};
 
 use crate::gathered::{Gathered, RulePlace, SourceText};
+use crate::join::{GivenRule, find_clashes, find_fates, find_order};
 use crate::listed::listed_text;
 use crate::printed::{printed_text, push_clashes, push_none};
 use crate::stands::kept_standing;
 use crate::taken::take_texts;
 use crate::undefined::push_undefined;
 use crate::uses::uses_in;
-use abnfjoin::{GivenRule, find_clashes, find_fates, find_order};
 use ruletable::Memory;
 use std::alloc::Global;
 

@@ -11,10 +11,9 @@ ghost use Rattle.toolrun.specs.Input.{Input};
 ghost use Rattle.toolrun.specs.Reply.{Reply};
 
 use crate::run::JoinForm;
-use abnfblocks::one_finding;
+use abnfblocks::{one_finding, one_keeping};
 use abnfread::{AbnfKind, one_reading};
 use lexer::one_list;
-use rfctext::one_keeping;
 use ruletable::ReadFault;
 
 /// Says that texts make up at most one joined grammar. What is told of them and the reply of a run that joins them in a

@@ -2,6 +2,7 @@
 #![tactic(auto)]
 
 mod gathered;
+mod join;
 mod joined;
 mod laws;
 mod listed;
@@ -15,6 +16,9 @@ mod undefined;
 mod uses;
 
 pub use gathered::SourceText;
+pub use join::{
+    Clash, Fate, GivenRule, find_clashes, find_fates, find_order, is_only_prose, is_same_element,
+};
 pub use joined::{JoinedTexts, join_texts};
 pub use laws::{joined_reading, one_joining};
 pub use run::{JoinForm, run_join};

@@ -1,12 +1,12 @@
 //! The list of the rules that texts give.
 ghost use Rattle.std.specs.Prelude.{◌≡◌, ◌++◌, map, IfOk, OnOk};
-ghost use Rattle.abnfjoin.specs.GivenRules.{text_rule};
+ghost use Rattle.abnftexts.specs.GivenRules.{text_rule};
 ghost use Rattle.abnftexts.specs.JoinedGrammar.{fate_told, numbered_place, rule_listed, rules_listed};
 ghost use Rattle.abnftexts.specs.RulesGathered.{lines_placed};
 
 use crate::gathered::RulePlace;
+use crate::join::{Fate, GivenRule};
 use crate::printed::{push_rule_name, push_rule_place};
-use abnfjoin::{Fate, GivenRule};
 use ruletable::Memory;
 use std::alloc::Global;
 

@@ -1,15 +1,14 @@
 //! What lines alone are read as.
 ghost use Rattle.std.specs.Prelude.{◌≡◌, ◌<◌, length, map, IfOk};
 ghost use Rattle.abnfread.specs.AbnfViews.{rules_of};
-ghost use Rattle.abnfjoin.specs.GivenRules.{text_rule};
-ghost use Rattle.rfctext.specs.TextLines.{numbered};
+ghost use Rattle.abnftexts.specs.GivenRules.{text_rule};
+ghost use Rattle.abnfblocks.specs.TextLines.{numbered};
 ghost use Rattle.abnftexts.specs.OwnReadings.{IsOwnReading};
 ghost use Rattle.abnftexts.specs.TextRules.{IsFirstGiven, adds_first as adds_there};
 
-use abnfblocks::{adds_to_rule, joined_text};
-use abnfjoin::GivenRule;
+use crate::join::GivenRule;
+use abnfblocks::{TextLine, adds_to_rule, joined_text};
 use abnfread::{Elem, read_abnf};
-use rfctext::TextLine;
 use ruletable::{Memory, ReadFault, RuleTable};
 use std::alloc::Global;
 use std::mem;

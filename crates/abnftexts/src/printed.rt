@@ -1,16 +1,16 @@
 //! The grammar as it is printed, and what is told of it.
 ghost use Rattle.std.specs.Prelude.{◌≡◌, ◌++◌, None, map, option_map, IfOk, OnOk};
 ghost use Rattle.std.specs.List.{flat_map};
-ghost use Rattle.abnfjoin.specs.GivenRules.{text_rule};
+ghost use Rattle.abnftexts.specs.GivenRules.{text_rule};
 ghost use Rattle.abnftexts.specs.JoinedGrammar.{clash_told, comment_before, first_number as first_in, goes_behind_it};
 ghost use Rattle.abnftexts.specs.JoinedGrammar.{last_number as last_in, none_told, numbered_name, numbered_place};
 ghost use Rattle.abnftexts.specs.JoinedGrammar.{ordered_rules, printed_behind, rule_printed};
 ghost use Rattle.abnftexts.specs.RulesGathered.{lines_placed};
 
 use crate::gathered::RulePlace;
+use crate::join::{Clash, GivenRule};
 use crate::told::{number_at, push_place};
 use abnfblocks::joined_text;
-use abnfjoin::{Clash, GivenRule};
 use ruletable::Memory;
 use std::alloc::Global;
 

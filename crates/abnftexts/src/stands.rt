@@ -2,7 +2,7 @@
 ghost use Rattle.std.specs.Prelude.{◌≡◌, IfOk};
 ghost use Rattle.abnftexts.specs.JoinedGrammar.{has_stayed, standing};
 
-use abnfjoin::Fate;
+use crate::join::Fate;
 use ruletable::Memory;
 use std::alloc::Global;
 

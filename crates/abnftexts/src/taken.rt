@@ -1,18 +1,17 @@
 //! The rules that texts give.
 ghost use Rattle.std.specs.Prelude.{◌≡◌, take, drop, map, IfOk, OnOk};
 ghost use Rattle.abnfblocks.specs.TextBlocks.{margin_at};
-ghost use Rattle.abnfjoin.specs.GivenRules.{text_rule};
-ghost use Rattle.rfctext.specs.TextLines.{numbered};
+ghost use Rattle.abnftexts.specs.GivenRules.{text_rule};
+ghost use Rattle.abnfblocks.specs.TextLines.{numbered};
 ghost use Rattle.abnftexts.specs.RulesGathered.{both_given, lines_placed, named_text, one_rule, rules_gathered};
 ghost use Rattle.abnftexts.specs.TakenRules.{TakesMore};
 ghost use Rattle.abnftexts.specs.TextRules.{GivesFound, GivesPiece, GivesRule, GivesText, GiveTexts};
 
 use crate::gathered::{Gathered, RulePlace, SourceText};
+use crate::join::GivenRule;
 use crate::own::{OwnReading, own_reading};
 use crate::told::push_not_abnf;
-use abnfblocks::{Found, find_blocks, margin, rule_size};
-use abnfjoin::GivenRule;
-use rfctext::{TextLine, kept_lines};
+use abnfblocks::{Found, TextLine, find_blocks, kept_lines, margin, rule_size};
 use ruletable::Memory;
 use std::alloc::Global;
 

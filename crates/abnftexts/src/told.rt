@@ -1,12 +1,12 @@
 //! What is told of places in texts.
 ghost use Rattle.std.specs.Prelude.{◌≡◌, ◌++◌, ◌-◌, codes, decimal, map, OnOk};
-ghost use Rattle.rfctext.specs.TextLines.{numbered};
+ghost use Rattle.abnfblocks.specs.TextLines.{numbered};
 ghost use Rattle.ruletable.specs.Faults.{at_line, fault_text};
 ghost use Rattle.abnftexts.specs.TextPlaces.{number_at as number_there, fault_in as fault_there, place_shown};
 ghost use Rattle.abnftexts.specs.TextPlaces.{not_abnf_told};
 
-use picture::{push_number, push_shown};
-use rfctext::TextLine;
+use abnfblocks::TextLine;
+use diagnostics::{push_number, push_shown};
 use ruletable::{Memory, ReadFault};
 
 /// Returns the number in its text of the n-th of these lines, from 1, or of the last one if there are fewer.

@@ -5,14 +5,14 @@ ghost use Rattle.ruletable.specs.Rules.{same_name};
 ghost use Rattle.ruletable.specs.declared.table.NameCase.TheVariants.{Fold};
 ghost use Rattle.abnfread.specs.AbnfTable.{IsCoreTable};
 ghost use Rattle.abnfread.specs.CoreRules.{core_names};
-ghost use Rattle.abnfjoin.specs.GivenRules.{text_rule};
+ghost use Rattle.abnftexts.specs.GivenRules.{text_rule};
 ghost use Rattle.abnftexts.specs.CodeUses.{name_used};
 ghost use Rattle.abnftexts.specs.UsedNames.{is_known_name, tells_undefined, undefined_line, undefined_told};
 ghost use Rattle.abnftexts.specs.UsedNames.{use_told};
 
+use crate::join::GivenRule;
 use crate::told::push_place;
 use crate::uses::NameUse;
-use abnfjoin::GivenRule;
 use abnfread::{Elem, core_rules};
 use ruletable::{Memory, RuleTable};
 use std::alloc::Global;

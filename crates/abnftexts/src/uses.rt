@@ -1,7 +1,7 @@
 //! The names that rules use.
 ghost use Rattle.std.specs.Prelude.{◌≡◌, ◌++◌, map, IfOk, OnOk};
 ghost use Rattle.std.specs.List.{flat_map};
-ghost use Rattle.noteplaces.specs.BodyMentions.{mentioned_at};
+ghost use Rattle.diagnostics.specs.BodyMentions.{mentioned_at};
 ghost use Rattle.abnftexts.specs.JoinedGrammar.{ordered_rules};
 ghost use Rattle.abnftexts.specs.CodeUses.{AddsUses, name_used};
 ghost use Rattle.abnftexts.specs.RulesGathered.{lines_placed};
@@ -11,7 +11,7 @@ use crate::gathered::RulePlace;
 use crate::told::number_at;
 use abnfblocks::joined_text;
 use abnfexplain::abnf_places;
-use noteplaces::{Mention, MentionKind};
+use diagnostics::{Mention, MentionKind};
 use ruletable::Memory;
 use std::alloc::Global;
 

@@ -7,7 +7,7 @@ use Rattle.abnftexts.specs.JoinRun.{no_input}
 use Rattle.clap.specs.Words.{HasKind, Kinds, kind_of}
 use Rattle.clap.specs.declared.error.Error.{Error}
 use Rattle.clap.specs.declared.error.kind.ErrorKind.TheVariants.{OutOfMemory}
-use Rattle.commands.specs.Jobs.{TellsOf}
+use Rattle.cli.specs.Jobs.{TellsOf}
 use Rattle.toolrun.specs.Input.{Input}
 use Rattle.toolrun.specs.Plan.{IsPlan, stopped}
 use Rattle.toolrun.specs.Reply.{Reply}

@@ -8,9 +8,9 @@ use Rattle.clap.specs.Words.{found_of, one_text, rows_of}
 use Rattle.clap.specs.declared.builder.command.Command.{Command}
 use Rattle.clap.specs.declared.parser.matches.ArgMatches.{ArgMatches}
 use Rattle.clap.specs.declared.parser.matches.Found.{Found}
-use Rattle.commands.proofs.AreWholeLemmas.{first_arg, flag_is, is_command}
-use Rattle.commands.proofs.AskLemmas.{flag_found}
-use Rattle.commands.specs.Asked.{IsFlagOf}
+use Rattle.cli.proofs.AreWholeLemmas.{first_arg, flag_is, is_command}
+use Rattle.cli.proofs.AskLemmas.{flag_found}
+use Rattle.cli.specs.Asked.{IsFlagOf}
 use Rattle.abnfx.specs.JoinWords.{AreFlagTexts, abnfx_app, form_asked, form_flagged}
 
 pub flags_are : (c : Command) → app_of c ≡ abnfx_app → (m : ArgMatches) → IsParsedFrom c m

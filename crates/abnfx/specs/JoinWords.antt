@@ -7,8 +7,8 @@ use Rattle.clap.specs.declared.builder.action.ArgAction.TheVariants.{Append}
 use Rattle.clap.specs.declared.parser.matches.Found.{Found}
 use Rattle.abnftexts.specs.declared.run.JoinForm.{JoinForm}
 use Rattle.abnftexts.specs.declared.run.JoinForm.TheVariants.{Plain, Canonical, Listed}
-use Rattle.commands.specs.Asked.{IsFlagText, is_flagged}
-use Rattle.commands.specs.Command.{flag_rule}
+use Rattle.cli.specs.Asked.{IsFlagText, is_flagged}
+use Rattle.cli.specs.Command.{flag_rule}
 
 -- `-c`
 abbrev pub canonical_rule : Rule

@@ -2,11 +2,11 @@
 ghost use Rattle.std.specs.Prelude.{◌≡◌, IfOk, false, map, string_bytes};
 ghost use Rattle.abnfx.specs.JoinWords.{AreFlagTexts, abnfx_app, form_asked, texts_rule};
 ghost use Rattle.clap.specs.Words.{app_of, found_of, rows_of, rule_of};
-ghost use Rattle.commands.specs.Parsing.{Parses};
+ghost use Rattle.cli.specs.Parsing.{Parses};
 
 use abnftexts::JoinForm;
 use clap::{Arg, ArgAction, ArgMatches, Command, Error};
-use commands::flag_arg;
+use cli::flag_arg;
 use std::alloc::{AllocError, Global};
 
 /// The end of the help.

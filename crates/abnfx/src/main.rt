@@ -5,8 +5,7 @@ mod command;
 mod run;
 mod texts;
 
-use commands::refuse_invalid_utf8;
-use mains::{end_without_memory, words_of};
+use cli::{end_without_memory, refuse_invalid_utf8, words_of};
 use ruletable::SinkOf;
 use std::io::{BufWriter, ErrorKind};
 use std::process::ExitCode;

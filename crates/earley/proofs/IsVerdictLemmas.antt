@@ -7,7 +7,7 @@ use Rattle.flatgrammar.specs.Flat.{Flat, Place, at}
 use Rattle.flatgrammar.specs.Holds.{Holds}
 use Rattle.flatgrammar.specs.Places.{In, now}
 use Rattle.flatgrammar.specs.ToldBeginnings.{HasItem, TellsBeginnings}
-use Rattle.itemsets.specs.ChartSets.{set_at, IsSet}
+use Rattle.earleyitems.specs.ChartSets.{set_at, IsSet}
 use Rattle.flatgrammar.specs.Verdicts.{IsVerdict}
 use Rattle.flatgrammar.specs.declared.verdict.Verdict.TheVariants.{No}
 

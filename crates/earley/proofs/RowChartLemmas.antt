@@ -3,10 +3,10 @@
 use Rattle.std.proofs.Common.{◌≡◌, ◌↔◌, ℕ, ◌≤◌, Some, None, List, [], length, map, slice_get, sym, ◌∙◌}
 use Rattle.std.proofs.Common.{ap, arith}
 use Rattle.std.proofs.lemmas.List.{length-map}
-use Rattle.itemsets.proofs.ChartSetsLemmas.{index_map, index_past}
-use Rattle.itemsets.proofs.IsBuiltLemmas.{built_exact}
-use Rattle.itemsets.specs.ChartSets.{pair, set_at}
-use Rattle.itemsets.specs.Charts.{IsBuilt}
+use Rattle.earleyitems.proofs.ChartSetsLemmas.{index_map, index_past}
+use Rattle.earleyitems.proofs.IsBuiltLemmas.{built_exact}
+use Rattle.earleyitems.specs.ChartSets.{pair, set_at}
+use Rattle.earleyitems.specs.Charts.{IsBuilt}
 use Rattle.flatgrammar.proofs.CallOfLemmas.{get_map}
 use Rattle.flatgrammar.specs.Flat.{at}
 use Rattle.flatgrammar.specs.Holds.{Holds}

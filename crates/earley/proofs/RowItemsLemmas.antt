@@ -11,7 +11,7 @@ use Rattle.std.specs.List.{sum_by, AllPairs}
 use Rattle.std.specs.List.Sorted.{IsStrictlyIncreasing}
 use Rattle.std.specs.Prelude.{replicate}
 use Rattle.bitrows.specs.RowSets.{HasAt}
-use Rattle.itemsets.proofs.BlockLemmas.{in_right, in_either, different_both}
+use Rattle.earleyitems.proofs.BlockLemmas.{in_right, in_either, different_both}
 use Rattle.flatgrammar.proofs.CallOfLemmas.{some_same, equal_or}
 use Rattle.flatgrammar.proofs.InLemmas.{in_left}
 use Rattle.flatgrammar.specs.Blocks.{item_at, spot}

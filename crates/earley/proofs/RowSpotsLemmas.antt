@@ -13,9 +13,9 @@ use Rattle.flatgrammar.specs.Flat.{Place, at}
 use Rattle.flatgrammar.specs.Places.{In}
 use Rattle.flatgrammar.specs.declared.block.Spot.{Spot}
 use Rattle.flatgrammar.specs.declared.flat_item.Item.{Item}
-use Rattle.itemsets.proofs.ChartSetsLemmas.{index_map, index_past}
-use Rattle.itemsets.proofs.SetSpotsLemmas.{in_pairs, pair_in}
-use Rattle.itemsets.specs.ChartSets.{pair, set_at, AreSpotsOf, HasSpot}
+use Rattle.earleyitems.proofs.ChartSetsLemmas.{index_map, index_past}
+use Rattle.earleyitems.proofs.SetSpotsLemmas.{in_pairs, pair_in}
+use Rattle.earleyitems.specs.ChartSets.{pair, set_at, AreSpotsOf, HasSpot}
 use Rattle.earley.proofs.RowItemsLemmas.{in_row_item, row_item_in}
 use Rattle.earley.specs.RowCharts.{row_views, rows_chart}
 use Rattle.earley.specs.RowItems.{AreSpotsBelow, HasSpotBelow, row_items}

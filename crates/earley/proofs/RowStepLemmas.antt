@@ -9,11 +9,11 @@ use Rattle.std.proofs.Common.{ltb}
 use Rattle.std.proofs.lemmas.Bool.{cases_lt, ltb-true}
 use Rattle.std.proofs.lemmas.Option.{slice_get-get_or}
 use Rattle.bitrows.specs.RowSets.{Rows, HasAt, AddsAt}
-use Rattle.itemsets.proofs.ExpandLemmas.{take_one}
-use Rattle.itemsets.specs.ItemSets.{IsPredicted, IsAdvanced, IsCompleted, waiting_in, waiting_or}
-use Rattle.itemsets.specs.Charts.{IsWhole, IsFirst, IsAfter}
-use Rattle.itemsets.specs.ScannedItems.{IsScannedItem}
-use Rattle.itemsets.specs.Worklist.{AdvancesNullable, IsWork}
+use Rattle.earleyitems.proofs.ExpandLemmas.{take_one}
+use Rattle.earleyitems.specs.ItemSets.{IsPredicted, IsAdvanced, IsCompleted, waiting_in, waiting_or}
+use Rattle.earleyitems.specs.Charts.{IsWhole, IsFirst, IsAfter}
+use Rattle.earleyitems.specs.ScannedItems.{IsScannedItem}
+use Rattle.earleyitems.specs.Worklist.{AdvancesNullable, IsWork}
 use Rattle.flatgrammar.proofs.CallOfLemmas.{some_same, get_below, get_map, past_get}
 use Rattle.flatgrammar.proofs.InLemmas.{in_left, at_end, before_end, at_index_in}
 use Rattle.flatgrammar.specs.Blocks.{item_at, spot, call_at, begin_count}

@@ -7,13 +7,13 @@ use Rattle.std.proofs.Common.{subst}
 use Rattle.std.specs.List.Sorted.{IsStrictlyIncreasing}
 use Rattle.std.specs.Prelude.{replicate}
 use Rattle.bitrows.specs.RowSets.{Rows, HasAt, TakesAt, no_items}
-use Rattle.itemsets.proofs.IsBuiltLemmas.{built_more, after_holds, whole_holds}
-use Rattle.itemsets.proofs.IsWorkedLemmas.{passed_holds, none_hold, worked_closed}
-use Rattle.itemsets.proofs.ScanLastLemmas.{predicted_holds, completed_holds}
-use Rattle.itemsets.specs.Charts.{IsFirst, IsBuilt}
-use Rattle.itemsets.specs.Closed.{Hold, HoldAll}
-use Rattle.itemsets.specs.ItemSets.{waiting_or}
-use Rattle.itemsets.specs.Worklist.{IsWork, IsWorked}
+use Rattle.earleyitems.proofs.IsBuiltLemmas.{built_more, after_holds, whole_holds}
+use Rattle.earleyitems.proofs.IsWorkedLemmas.{passed_holds, none_hold, worked_closed}
+use Rattle.earleyitems.proofs.ScanLastLemmas.{predicted_holds, completed_holds}
+use Rattle.earleyitems.specs.Charts.{IsFirst, IsBuilt}
+use Rattle.earleyitems.specs.Closed.{Hold, HoldAll}
+use Rattle.earleyitems.specs.ItemSets.{waiting_or}
+use Rattle.earleyitems.specs.Worklist.{IsWork, IsWorked}
 use Rattle.flatgrammar.proofs.CallOfLemmas.{equal_or, get_below}
 use Rattle.flatgrammar.proofs.FlatCutLemmas.{push_cases}
 use Rattle.flatgrammar.specs.Blocks.{spot}

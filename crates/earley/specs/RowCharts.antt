@@ -1,8 +1,8 @@
 -- Charts of rows.
 use Rattle.std.specs.Prelude.{◌≡◌, ◌⊎◌, ℕ, List, map, length, Option, Some, None, slice_get}
 use Rattle.bitrows.specs.RowSets.{Rows}
-use Rattle.itemsets.specs.ChartSets.{pair}
-use Rattle.itemsets.specs.Worklist.{IsWork}
+use Rattle.earleyitems.specs.ChartSets.{pair}
+use Rattle.earleyitems.specs.Worklist.{IsWork}
 use Rattle.flatgrammar.specs.Flat.{Place, at}
 use Rattle.flatgrammar.specs.Holds.{Holds}
 use Rattle.flatgrammar.specs.NodeSteps.{flat_of}

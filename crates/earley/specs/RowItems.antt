@@ -1,7 +1,7 @@
 -- Item sets as rows: of each place, by number, its origins.
 use Rattle.std.specs.Prelude.{◌≡◌, ◌↔◌, ◌⊎◌, ℕ, ◌+◌, ◌<◌, List, [], ◌∷◌, ◌++◌, length, map, Some, slice_get, Contains}
 use Rattle.bitrows.specs.RowSets.{Rows, HasAt, HasSome}
-use Rattle.itemsets.specs.ItemSets.{IsAdvanced, waiting_in}
+use Rattle.earleyitems.specs.ItemSets.{IsAdvanced, waiting_in}
 use Rattle.flatgrammar.specs.Blocks.{item_at, spot}
 use Rattle.flatgrammar.specs.NodeSteps.{IfSomeSet}
 use Rattle.flatgrammar.specs.TableViews.{read_of}

@@ -2,7 +2,7 @@
 ghost use Rattle.std.specs.Prelude.{◌≡◌, ◌↔◌, ◌*◌, ◌+◌, ◌≤◌, ℕ, List, [], IsTrue, IfOk, OnErr, length, map};
 ghost use Rattle.abnfcheck.specs.Derivable.{RuleDerives};
 ghost use Rattle.abnfread.specs.Element.{Rule};
-ghost use Rattle.itemsets.specs.ChartSets.{set_at, AreSpotsOf, IsSet};
+ghost use Rattle.earleyitems.specs.ChartSets.{set_at, AreSpotsOf, IsSet};
 ghost use Rattle.flatgrammar.specs.Flat.{Place};
 ghost use Rattle.flatgrammar.specs.Holds.{Holds};
 ghost use Rattle.flatgrammar.specs.Lowered.{IsLowered};
@@ -12,8 +12,8 @@ ghost use Rattle.letters.specs.Letters.{has};
 use crate::row_chart::judge_rows;
 use crate::row_sets::RowChart;
 use crate::row_spots::row_spots;
+use earleyitems::judge_within;
 use flatgrammar::{Flat, Spot, items_tell, values_are_letters};
-use itemsets::judge_within;
 use letters::Letter;
 use ruletable::Memory;
 use std::alloc::Global;
@@ -31,7 +31,7 @@ const FEW_FOR_EACH_LETTER: usize = 32;
 #[derive(Drop)]
 pub struct Chart {
     alloc: Global,
-    items: itemsets::Chart,
+    items: earleyitems::Chart,
     rows: Option<RowChart>,
 }
 
@@ -54,7 +54,7 @@ impl Chart {
     {
         Chart {
             alloc,
-            items: itemsets::Chart::new(alloc),
+            items: earleyitems::Chart::new(alloc),
             rows: None,
         }
     }
@@ -112,7 +112,7 @@ fn judge_by<L: Letter>(chart: &mut Chart, flat: &Flat, line: &[L]) -> Result<boo
         return Ok(yes);
     }
     // gives back what the items so far took
-    chart.items = itemsets::Chart::new(chart.alloc);
+    chart.items = earleyitems::Chart::new(chart.alloc);
     let tables = flat.share()?;
     if let Some(judged) = judge_rows(chart.alloc, tables, line)? {
         chart.rows = Some(judged.chart);

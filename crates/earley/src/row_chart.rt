@@ -2,9 +2,9 @@
 ghost use Rattle.std.specs.Prelude.{◌≡◌, ◌↔◌, ◌+◌, ◌<◌, ◌≤◌, ◌^◌, ◌++◌, ◌∷◌, ℕ, [], IsTrue, IfOk, IfSome, length, map};
 ghost use Rattle.std.specs.Prelude.{slice_get, slice_index_or, Contains, Some};
 ghost use Rattle.bitrows.specs.RowSets.{HasAt};
-ghost use Rattle.itemsets.specs.ChartSets.{set_at, IsSet};
-ghost use Rattle.itemsets.specs.Charts.{IsWhole, IsFirst, IsBuilt};
-ghost use Rattle.itemsets.specs.ScannedItems.{IsScannedItem};
+ghost use Rattle.earleyitems.specs.ChartSets.{set_at, IsSet};
+ghost use Rattle.earleyitems.specs.Charts.{IsWhole, IsFirst, IsBuilt};
+ghost use Rattle.earleyitems.specs.ScannedItems.{IsScannedItem};
 ghost use Rattle.flatgrammar.specs.Blocks.{AreExact, spot};
 ghost use Rattle.flatgrammar.specs.Flat.{Place};
 ghost use Rattle.flatgrammar.specs.Holds.{Holds};

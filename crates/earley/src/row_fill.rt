@@ -1,7 +1,7 @@
 //! Fills a set of rows.
 ghost use Rattle.std.specs.Prelude.{◌≡◌, ◌↔◌, ◌<◌, ◌^◌, ℕ, List, true, IfOk, length, Contains};
 ghost use Rattle.bitrows.specs.RowSets.{HasAt};
-ghost use Rattle.itemsets.specs.Closed.{HoldAll};
+ghost use Rattle.earleyitems.specs.Closed.{HoldAll};
 ghost use Rattle.flatgrammar.specs.Blocks.{AreExact};
 ghost use Rattle.flatgrammar.specs.NodeSteps.{flat_of};
 ghost use Rattle.flatgrammar.specs.declared.flat_item.Item as code_item;

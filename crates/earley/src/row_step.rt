@@ -1,8 +1,8 @@
 //! What the items of a row predict, advance and complete.
 ghost use Rattle.std.specs.Prelude.{◌≡◌, ◌↔◌, ◌<◌, ℕ, List, [], IsTrue, IfOk, length, Contains};
 ghost use Rattle.bitrows.specs.RowSets.{HasAt};
-ghost use Rattle.itemsets.specs.ItemSets.{IsPredicted, IsCompleted};
-ghost use Rattle.itemsets.specs.Worklist.{AdvancesNullable, IsWork};
+ghost use Rattle.earleyitems.specs.ItemSets.{IsPredicted, IsCompleted};
+ghost use Rattle.earleyitems.specs.Worklist.{AdvancesNullable, IsWork};
 ghost use Rattle.flatgrammar.specs.Blocks.{begin_count};
 ghost use Rattle.flatgrammar.specs.declared.block.Spot.{Spot as code_spot};
 ghost use Rattle.flatgrammar.specs.declared.flat_item.Item as code_item;

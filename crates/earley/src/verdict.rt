@@ -1,7 +1,7 @@
 //! How far a line begins something that the judged rule derives.
 ghost use Rattle.std.specs.Prelude.{◌≡◌, ◌+◌, ◌*◌, ◌<◌, ◌≤◌, ℕ, List, [], IfOk, OnErr, length, map};
 ghost use Rattle.abnfread.specs.Element.{Rule};
-ghost use Rattle.itemsets.specs.ChartSets.{set_at, IsSet};
+ghost use Rattle.earleyitems.specs.ChartSets.{set_at, IsSet};
 ghost use Rattle.flatgrammar.specs.Places.{places};
 ghost use Rattle.flatgrammar.specs.ToldBeginnings.{TellsBeginnings};
 ghost use Rattle.flatgrammar.specs.Verdicts.{IsVerdict};

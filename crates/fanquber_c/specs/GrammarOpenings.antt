@@ -10,7 +10,7 @@ use Rattle.fanquber_c.specs.OpenCall.{IsOpening}
 use Rattle.fanquber_c.specs.declared.runner.Runner.{Runner}
 use Rattle.pegexplain.specs.PegExplained.{Explains as ExplainsPeg}
 use Rattle.pegexplain.specs.PegNotes.{ExplainsNote}
-use Rattle.peghints.specs.PegHints.{ArePegHints}
+use Rattle.pegexplain.specs.PegHints.{ArePegHints}
 use Rattle.pegread.specs.Reading.{IsFaultOf as IsPegFault}
 use Rattle.pegrun.specs.OpenPeg.{IsPegOpened}
 use Rattle.ruletable.specs.Notes.{Said}

@@ -5,8 +5,8 @@ use Rattle.abnfrun.specs.AbnfReply.{IsAnswerTo}
 use Rattle.abnfrun.specs.OpenJudge.{OpenJudge}
 use Rattle.fanquber_c.specs.declared.answer.CAnswer.{CAnswer}
 use Rattle.fanquber_c.specs.declared.asked.TheConstants.{BAD_SETTINGS}
-use Rattle.lines.specs.declared.answers.Answer.{Answer}
-use Rattle.lines.specs.declared.answers.Answer.TheVariants.{Yes, No, NoAfter}
+use Rattle.linejudge.specs.declared.answers.Answer.{Answer}
+use Rattle.linejudge.specs.declared.answers.Answer.TheVariants.{Yes, No, NoAfter}
 
 -- what C is told of an answer: status 0 for yes, 1 for no, and the length of the longest viable beginning
 abbrev pub c_answer : Answer → CAnswer

@@ -6,16 +6,16 @@ use Rattle.std.specs.Prelude.{slice_get}
 use Rattle.std.proofs.lemmas.List.{length-map, length-replicate}
 use Rattle.std.proofs.lemmas.Option.{slice_get_within}
 use Rattle.pegnodes.specs.Bodies.{IsBuilt, IsOperand}
-use Rattle.leastset.specs.NumberMarks.{IsMarked, AreBelow}
+use Rattle.fixpoint.specs.NumberMarks.{IsMarked, AreBelow}
 use Rattle.pegnodes.specs.Nodes as node
 use Rattle.pegnodes.specs.Nodes.{Shape}
 use Rattle.gramcheck.specs.NodeRows.{front, steps_of, step_rows, AreNameSteps, ComesBack, AreComingBack, MarksNames}
-use Rattle.leastset.specs.Leads.{Leads, one, more, AreCycleMarks}
-use Rattle.leastset.specs.StepRows.{Step, AreStepsWithin}
-use Rattle.leastset.proofs.IsMarkedLemmas.{none_set}
-use Rattle.leastset.proofs.LeadsLemmas.{leads_joined}
-use Rattle.leastset.proofs.TurnsLemmas.{row_within}
-use Rattle.leastset.proofs.ContainsLemmas.{none_of, only_one, in_first, in_later, cons_cases, in_get}
+use Rattle.fixpoint.specs.Leads.{Leads, one, more, AreCycleMarks}
+use Rattle.fixpoint.specs.StepRows.{Step, AreStepsWithin}
+use Rattle.fixpoint.proofs.IsMarkedLemmas.{none_set}
+use Rattle.fixpoint.proofs.LeadsLemmas.{leads_joined}
+use Rattle.fixpoint.proofs.TurnsLemmas.{row_within}
+use Rattle.fixpoint.proofs.ContainsLemmas.{none_of, only_one, in_first, in_later, cons_cases, in_get}
 use Rattle.pegnodes.proofs.BodyOfLemmas.{name_body}
 use Rattle.gramcheck.proofs.LeftStepLemmas.{step_at, step_from, step_node}
 

@@ -7,7 +7,7 @@ use Rattle.std.proofs.lemmas.Option.{slice_get_within, slice_get-get_or, slice_g
 use Rattle.std.proofs.lemmas.Slice.Eq.{bytes_eq-Decides}
 use Rattle.pegread.specs.Pattern.{Pattern, Rule}
 use Rattle.pegnodes.specs.Bodies.{AreBodies, IsBuilt}
-use Rattle.leastset.specs.Leads.{AreCycleMarks, AreRanksBut}
+use Rattle.fixpoint.specs.Leads.{AreCycleMarks, AreRanksBut}
 use Rattle.gramcheck.specs.Left.{LeftChain, IsLeftRecursive}
 use Rattle.pegnodes.specs.Nodes.{Shape, id_of, Spells, spells_any, spells_bytes, spells_set, spells_name, spells_seq}
 use Rattle.pegnodes.specs.Nodes.{spells_choice, spells_star, spells_plus, spells_opt, spells_and, spells_not}
@@ -17,9 +17,9 @@ use Rattle.gramcheck.specs.NodeRows.{step_rows, ComesBack, AreComingBack, IsLeft
 use Rattle.gramcheck.proofs.LeftStepLemmas.{chain_leads, leads_chain, step_at}
 use Rattle.gramcheck.proofs.ComesBackLemmas.{chain_turns}
 use Rattle.std.proofs.lemmas.List.{length-map}
-use Rattle.leastset.specs.NumberMarks.{IsMarked}
-use Rattle.leastset.specs.StepRows.{Step}
-use Rattle.leastset.proofs.ContainsLemmas.{in_first, in_later}
+use Rattle.fixpoint.specs.NumberMarks.{IsMarked}
+use Rattle.fixpoint.specs.StepRows.{Step}
+use Rattle.fixpoint.proofs.ContainsLemmas.{in_first, in_later}
 use Rattle.gramcheck.specs.Ranks.{FrontNode, front_first, front_later, NodeStep, AreRanks}
 use Rattle.pegread.specs.Pattern as e
 use Rattle.pegnodes.specs.Nodes as node

@@ -27,7 +27,7 @@ use Rattle.gramcheck.specs.Left.{an_opt, a_star, a_plus, a_seq, a_choice, a_name
 use Rattle.gramcheck.specs.Left.{SomeNullable, some_first, some_later, RepeatsNullable, loop_star, loop_plus, in_star}
 use Rattle.gramcheck.specs.Left.{in_plus, in_opt, in_and, in_not, in_seq, in_choice, SomeRepeats, repeats_first}
 use Rattle.gramcheck.specs.Left.{repeats_later}
-use Rattle.leastset.specs.NumberMarks.{IsMarked}
+use Rattle.fixpoint.specs.NumberMarks.{IsMarked}
 use Rattle.pegnodes.specs.NodeCounts.{node_counts}
 use Rattle.pegnodes.specs.Nodes.{Shape, id_of, Spells, spells_any, spells_bytes, spells_set, spells_name, spells_seq}
 use Rattle.pegnodes.specs.Nodes.{spells_choice, spells_star, spells_plus, spells_opt, spells_and, spells_not}
@@ -39,7 +39,7 @@ use Rattle.gramcheck.specs.Uses.{names_in, names_in_all, names_used, rule_names}
 use Rattle.pegnodes.specs.Within.{Within, WithinSome, StandsIn, itself, of_seq, of_choice, of_star, of_plus, of_opt}
 use Rattle.pegnodes.specs.Within.{of_and, of_not, of_first, of_later}
 use Rattle.pegnodes.proofs.OwnIdLemmas.{id_found, own_id, body_at_id}
-use Rattle.leastset.proofs.IsMarkedLemmas.{marked_lt}
+use Rattle.fixpoint.proofs.IsMarkedLemmas.{marked_lt}
 use Rattle.gramcheck.proofs.RuleNameLemmas.{same-name, own-name, names-same}
 use Rattle.gramcheck.proofs.AreNotesLemmas.{among-contains}
 use Rattle.gramcheck.specs.Ranks.{AreRanks, RepeatsNoNull}

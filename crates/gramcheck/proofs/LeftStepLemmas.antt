@@ -17,10 +17,10 @@ use Rattle.pegnodes.specs.Nodes.{spells_choice, spells_star, spells_plus, spells
 use Rattle.pegnodes.specs.Nodes.{spells_act, spells_open, spells_close, SpellAll, spell_none, spell_more}
 use Rattle.gramcheck.specs.Nulls.{AreNullMarks}
 use Rattle.gramcheck.specs.NodeRows.{front, steps_of, step_rows}
-use Rattle.leastset.specs.Leads.{Leads, one, more}
-use Rattle.leastset.specs.StepRows.{row_at, Step}
-use Rattle.leastset.proofs.TurnsLemmas.{row_within}
-use Rattle.leastset.proofs.ContainsLemmas.{none_of, only_one, in_first, in_later, cons_cases}
+use Rattle.fixpoint.specs.Leads.{Leads, one, more}
+use Rattle.fixpoint.specs.StepRows.{row_at, Step}
+use Rattle.fixpoint.proofs.TurnsLemmas.{row_within}
+use Rattle.fixpoint.proofs.ContainsLemmas.{none_of, only_one, in_first, in_later, cons_cases}
 use Rattle.pegnodes.proofs.BodyOfLemmas.{said_here, name_body, body_node, node_body}
 
 module _ (bodies : List ℕ) (nulls : List Bool) (nodes : List Shape) where

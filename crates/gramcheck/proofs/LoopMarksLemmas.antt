@@ -11,13 +11,13 @@ use Rattle.pegnodes.specs.Bodies.{IsBuilt, IsOperand}
 use Rattle.gramcheck.specs.Left.{RepeatsNullable, loop_star, loop_plus, in_star, in_plus, in_opt, in_and, in_not}
 use Rattle.gramcheck.specs.Left.{in_seq, in_choice, SomeRepeats, repeats_first, repeats_later}
 use Rattle.gramcheck.specs.Loops.{LoopsNow, LoopsTo, AreLoopMarks}
-use Rattle.leastset.specs.NumberMarks.{IsMarked}
+use Rattle.fixpoint.specs.NumberMarks.{IsMarked}
 use Rattle.pegnodes.specs.Nodes as node
 use Rattle.pegnodes.specs.Nodes.{Shape, Spells, spells_any, spells_bytes, spells_set, spells_name, spells_seq}
 use Rattle.pegnodes.specs.Nodes.{spells_choice, spells_star, spells_plus, spells_opt, spells_and, spells_not}
 use Rattle.pegnodes.specs.Nodes.{spells_act, spells_open, spells_close, SpellAll, spell_none, spell_more}
 use Rattle.gramcheck.specs.Nulls.{AreNullMarks}
-use Rattle.leastset.proofs.ContainsLemmas.{none_of, in_first, in_later, cons_cases}
+use Rattle.fixpoint.proofs.ContainsLemmas.{none_of, in_first, in_later, cons_cases}
 
 -- what marks say of a node is said by marks that agree on its operands
 marks_moved : (nulls a b : List Bool) (v : Shape) → ((m : ℕ) → IsOperand v m → IsMarked a m → IsMarked b m)

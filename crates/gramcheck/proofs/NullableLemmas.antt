@@ -7,18 +7,18 @@ use Rattle.std.proofs.lemmas.List.{length-map}
 use Rattle.std.proofs.lemmas.Option.{slice_get_within}
 use Rattle.pegread.specs.Pattern.{Pattern, Patterns, Rule}
 use Rattle.pegnodes.specs.Bodies.{AreBodies, IsBuilt, IsOperand}
-use Rattle.leastset.specs.Demands.{Demand, All, One, row_of, AreNeedsWithin}
-use Rattle.leastset.specs.Least.{Comes, by_all, by_one, AreMarksOfThose}
+use Rattle.fixpoint.specs.Demands.{Demand, All, One, row_of, AreNeedsWithin}
+use Rattle.fixpoint.specs.Least.{Comes, by_all, by_one, AreMarksOfThose}
 use Rattle.gramcheck.specs.Left.{Nullable, no_bytes, an_act, an_open, a_close, an_and, a_not, an_opt, a_star, a_plus}
 use Rattle.gramcheck.specs.Left.{a_seq, a_choice, a_name, AllNullable, all_none, all_more, SomeNullable, some_first}
 use Rattle.gramcheck.specs.Left.{some_later}
-use Rattle.leastset.specs.NumberMarks.{AreBelow}
+use Rattle.fixpoint.specs.NumberMarks.{AreBelow}
 use Rattle.pegnodes.specs.Nodes as node
 use Rattle.pegnodes.specs.Nodes.{Shape, id_of, Spells, spells_any, spells_bytes, spells_set, spells_name, spells_seq}
 use Rattle.pegnodes.specs.Nodes.{spells_choice, spells_star, spells_plus, spells_opt, spells_and, spells_not}
 use Rattle.pegnodes.specs.Nodes.{spells_act, spells_open, spells_close, SpellAll, spell_none, spell_more}
 use Rattle.gramcheck.specs.Nulls.{null_demand, null_demands, AreNullMarks}
-use Rattle.leastset.proofs.ContainsLemmas.{none_of, only_one, in_first, in_later, cons_cases, in_get}
+use Rattle.fixpoint.proofs.ContainsLemmas.{none_of, only_one, in_first, in_later, cons_cases, in_get}
 use Rattle.pegnodes.proofs.BodyOfLemmas.{said_here, said_there, name_body, body_node, node_body}
 
 -- a node needs operands and bodies

@@ -9,9 +9,9 @@ use Rattle.std.proofs.lemmas.Option.{slice_get_within}
 use Rattle.pegread.specs.Pattern as pattern
 use Rattle.pegread.specs.Pattern.{Pattern, Patterns, Rule}
 use Rattle.pegnodes.specs.Bodies.{AreBodies, IsBuilt, IsOperand}
-use Rattle.leastset.specs.Demands.{Demand, All, One, row_of, AreNeedsWithin}
-use Rattle.leastset.specs.Least.{Comes, by_all, by_one, AreMarksOfThose}
-use Rattle.leastset.specs.NumberMarks.{AreBelow}
+use Rattle.fixpoint.specs.Demands.{Demand, All, One, row_of, AreNeedsWithin}
+use Rattle.fixpoint.specs.Least.{Comes, by_all, by_one, AreMarksOfThose}
+use Rattle.fixpoint.specs.NumberMarks.{AreBelow}
 use Rattle.pegnodes.specs.Nodes as node
 use Rattle.pegnodes.specs.Nodes.{Shape, id_of, Spells, spells_any, spells_bytes, spells_set, spells_name, spells_seq}
 use Rattle.pegnodes.specs.Nodes.{spells_choice, spells_star, spells_plus, spells_opt, spells_and, spells_not}
@@ -21,7 +21,7 @@ use Rattle.gramcheck.specs.Outcome.{Outcome, Fails, Takes, Event, Gives, GivesAl
 use Rattle.gramcheck.specs.Printing.{Prints, SomePrint, by_act, by_open, by_close, by_name, by_member, by_alternative}
 use Rattle.gramcheck.specs.Printing.{by_starred, by_repeated, by_optional, first_prints, later_prints}
 use Rattle.gramcheck.specs.Printing.{print_demand, print_demands, ArePrintMarks}
-use Rattle.leastset.proofs.ContainsLemmas.{none_of, only_one, in_first, in_later, cons_cases, in_get, get_in}
+use Rattle.fixpoint.proofs.ContainsLemmas.{none_of, only_one, in_first, in_later, cons_cases, in_get, get_in}
 use Rattle.pegnodes.proofs.NodeSpellsLemmas.{is_there}
 use Rattle.pegnodes.proofs.BodyOfLemmas.{said_here, said_there, name_body, body_node, node_body}
 

@@ -22,7 +22,7 @@ use Rattle.pegnodes.specs.Within.{Within, itself, StandsIn}
 use Rattle.std.proofs.lemmas.List.{length-map}
 use Rattle.gramcheck.proofs.OneOutcomeLemmas.{gives_same}
 use Rattle.gramcheck.proofs.StartRuleLemmas.{same_of_start}
-use Rattle.leastset.proofs.ContainsLemmas.{in_first, in_later}
+use Rattle.fixpoint.proofs.ContainsLemmas.{in_first, in_later}
 use Rattle.pegnodes.proofs.NodeSpellsLemmas.{is_there, part_spelled}
 use Rattle.gramcheck.proofs.StepsToBodyLemmas.{rank_bound, rank_lower, steps_to_body}
 use Rattle.gramcheck.proofs.NullIfLemmas.{takes_forward, null_of}

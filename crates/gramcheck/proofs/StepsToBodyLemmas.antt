@@ -10,7 +10,7 @@ use Rattle.gramcheck.specs.Ranks.{NodeStep, to_body, to_alternative, to_member, 
 use Rattle.gramcheck.specs.Ranks.{to_asserted, to_denied, FrontNode, front_first, front_later}
 use Rattle.gramcheck.specs.Sound.{IsRanked}
 use Rattle.pegnodes.proofs.OwnIdLemmas.{body_there}
-use Rattle.leastset.proofs.ContainsLemmas.{in_first, in_later}
+use Rattle.fixpoint.proofs.ContainsLemmas.{in_first, in_later}
 use Rattle.pegnodes.proofs.NodeSpellsLemmas.{is_there}
 
 module _ (rules : List Rule) (nodes : List Shape) (bodies : List ℕ) where

@@ -2,7 +2,7 @@
 use Rattle.std.specs.Prelude.{◌≡◌, ◌↔◌, ℕ, Bool, List, length, slice_get, Some}
 use Rattle.pegread.specs.Pattern.{Rule}
 use Rattle.gramcheck.specs.Left.{IsLeftRecursive, Loops}
-use Rattle.leastset.specs.NumberMarks.{IsMarked}
+use Rattle.fixpoint.specs.NumberMarks.{IsMarked}
 use Rattle.pegnodes.specs.Nodes.{Shape, id_of}
 use Rattle.gramcheck.specs.Nulls.{AreNullMarks}
 use Rattle.gramcheck.specs.Ranks.{AreRanks}

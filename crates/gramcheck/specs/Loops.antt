@@ -2,7 +2,7 @@
 use Rattle.std.specs.Prelude.{◌≡◌, ◌⊎◌, ℕ, ◌<◌, Bool, List, length, slice_get, Some, Contains}
 use Rattle.pegread.specs.Pattern.{Pattern, Rule}
 use Rattle.gramcheck.specs.Left.{RepeatsNullable}
-use Rattle.leastset.specs.NumberMarks.{IsMarked}
+use Rattle.fixpoint.specs.NumberMarks.{IsMarked}
 use Rattle.pegnodes.specs.Nodes.{Shape, Any, Bytes, Set, Name, Seq, Choice, Star, Plus, Opt, And, Not, Act, Open}
 use Rattle.pegnodes.specs.Nodes.{Close, Spells}
 

@@ -2,9 +2,9 @@
 use Rattle.std.specs.Prelude.{◌≡◌, ◌⊎◌, ◌↔◌, ℕ, ◌<◌, Bool, false, cond, List, [], ◌∷◌, length, map, slice_get}
 use Rattle.std.specs.Prelude.{slice_index_or, option_to_list, Some}
 use Rattle.pegread.specs.Pattern.{Rule}
-use Rattle.leastset.specs.Leads.{Leads}
-use Rattle.leastset.specs.NumberMarks.{IsMarked}
-use Rattle.leastset.specs.StepRows.{Step}
+use Rattle.fixpoint.specs.Leads.{Leads}
+use Rattle.fixpoint.specs.NumberMarks.{IsMarked}
+use Rattle.fixpoint.specs.StepRows.{Step}
 use Rattle.gramcheck.specs.Left.{IsLeftRecursive}
 use Rattle.pegnodes.specs.Nodes.{Shape, Any, Bytes, Set, Name, Seq, Choice, Star, Plus, Opt, And, Not, Act, Open}
 use Rattle.pegnodes.specs.Nodes.{Close, id_of}

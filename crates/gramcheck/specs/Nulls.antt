@@ -1,10 +1,10 @@
 -- Which nodes are nullable.
 use Rattle.std.specs.Prelude.{ℕ, Bool, List, [], ◌∷◌, map, slice_get, option_to_list}
 use Rattle.pegread.specs.Pattern.{Pattern, Rule}
-use Rattle.leastset.specs.Demands as d
-use Rattle.leastset.specs.Demands.{Demand}
+use Rattle.fixpoint.specs.Demands as d
+use Rattle.fixpoint.specs.Demands.{Demand}
 use Rattle.gramcheck.specs.Left.{Nullable}
-use Rattle.leastset.specs.NumberMarks.{IsMarked}
+use Rattle.fixpoint.specs.NumberMarks.{IsMarked}
 use Rattle.pegnodes.specs.Nodes.{Shape, Any, Bytes, Set, Name, Seq, Choice, Star, Plus, Opt, And, Not, Act, Open}
 use Rattle.pegnodes.specs.Nodes.{Close, Spells}
 

@@ -2,9 +2,9 @@
 use Rattle.std.specs.Prelude.{◌≡◌, ◌↔◌, ℕ, Bool, List, [], ◌∷◌, map, slice_get, Some, option_to_list}
 use Rattle.pegread.specs.Pattern.{Pattern, Patterns, Name, Seq, Choice, Star, Plus, Opt, Act, Open, Close, more, Rule}
 use Rattle.pegread.specs.Pattern.{body_of}
-use Rattle.leastset.specs.Demands as d
-use Rattle.leastset.specs.Demands.{Demand}
-use Rattle.leastset.specs.NumberMarks.{IsMarked}
+use Rattle.fixpoint.specs.Demands as d
+use Rattle.fixpoint.specs.Demands.{Demand}
+use Rattle.fixpoint.specs.NumberMarks.{IsMarked}
 use Rattle.pegnodes.specs.Nodes as node
 use Rattle.pegnodes.specs.Nodes.{Shape, Spells}
 

@@ -6,7 +6,7 @@ ghost use Rattle.gramcheck.specs.Analysis.{IsAnalysed};
 ghost use Rattle.gramcheck.specs.GrammarNotes.{AreMarks};
 ghost use Rattle.gramcheck.specs.Left.{IsLeftRecursive};
 ghost use Rattle.pegnodes.specs.Bodies.{AreBodies, IsBuilt};
-ghost use Rattle.leastset.specs.NumberMarks.{AreBelow};
+ghost use Rattle.fixpoint.specs.NumberMarks.{AreBelow};
 ghost use Rattle.pegnodes.specs.Nodes.{shapes_of};
 
 use crate::left::find_left;

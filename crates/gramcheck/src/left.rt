@@ -1,14 +1,14 @@
 //! Left steps between nodes, the left-recursive rules, and ranks that each left step lowers.
 ghost use Rattle.std.specs.Prelude.{◌≡◌, ◌⊎◌, ℕ, ◌<◌, Bool, List, length, map, replicate, IfOk};
 ghost use Rattle.pegread.specs.Pattern.{Rule};
-ghost use Rattle.leastset.specs.NumberMarks.{IsMarked, AreBelow};
-ghost use Rattle.leastset.specs.StepRows.{slices_of};
+ghost use Rattle.fixpoint.specs.NumberMarks.{IsMarked, AreBelow};
+ghost use Rattle.fixpoint.specs.StepRows.{slices_of};
 ghost use Rattle.pegnodes.specs.Bodies.{AreBodies, IsBuilt, IsOperand};
 ghost use Rattle.gramcheck.specs.NodeRows.{front, steps_of, step_rows, MarksNames, IsLeft};
 ghost use Rattle.pegnodes.specs.Nodes.{Name, shape_of, shapes_of};
 ghost use Rattle.gramcheck.specs.Nulls.{AreNullMarks};
 
-use leastset::on_cycle;
+use fixpoint::on_cycle;
 use pegnodes::{Node, body_of};
 use ruletable::Memory;
 use std::alloc::Global;

@@ -2,10 +2,10 @@
 ghost use Rattle.std.specs.Prelude.{◌≡◌, ◌↔◌, ℕ, ◌<◌, Bool, length, map, slice_index_or, IfOk};
 ghost use Rattle.pegnodes.specs.Bodies.{IsBuilt, IsOperand};
 ghost use Rattle.gramcheck.specs.Loops.{LoopsNow, LoopsTo};
-ghost use Rattle.leastset.specs.NumberMarks.{AreBelow};
+ghost use Rattle.fixpoint.specs.NumberMarks.{AreBelow};
 ghost use Rattle.pegnodes.specs.Nodes.{shape_of, shapes_of};
 
-use leastset::some_marked;
+use fixpoint::some_marked;
 use pegnodes::Node;
 use ruletable::Memory;
 use std::alloc::Global;

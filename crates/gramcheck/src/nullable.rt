@@ -2,8 +2,8 @@
 ghost use Rattle.std.specs.Prelude.{◌≡◌, List, length, IfOk};
 ghost use Rattle.pegread.specs.Pattern.{Rule};
 ghost use Rattle.pegnodes.specs.Bodies.{AreBodies, IsBuilt};
-ghost use Rattle.leastset.specs.Demands.{demand_of, demands_of};
-ghost use Rattle.leastset.specs.NumberMarks.{AreBelow};
+ghost use Rattle.fixpoint.specs.Demands.{demand_of, demands_of};
+ghost use Rattle.fixpoint.specs.NumberMarks.{AreBelow};
 ghost use Rattle.pegnodes.specs.Nodes.{shape_of, shapes_of};
 ghost use Rattle.pegread.specs.PegViews.{rules_of};
 ghost use Rattle.gramcheck.specs.GrammarNotes.{AreMarks};
@@ -11,7 +11,7 @@ ghost use Rattle.gramcheck.specs.Left.{Nullable};
 ghost use Rattle.gramcheck.specs.Nulls.{null_demand, null_demands, AreNullMarks};
 
 use crate::loops::body_marks;
-use leastset::{Need, least};
+use fixpoint::{Need, least};
 use pegnodes::{Node, body_of, cut_grammar};
 use pegread::Expr;
 use ruletable::{Memory, NameCase, RuleTable};

@@ -2,12 +2,12 @@
 ghost use Rattle.std.specs.Prelude.{◌≡◌, List, length, IfOk};
 ghost use Rattle.pegread.specs.Pattern.{Rule};
 ghost use Rattle.pegnodes.specs.Bodies.{AreBodies, IsBuilt};
-ghost use Rattle.leastset.specs.Demands.{demand_of, demands_of};
-ghost use Rattle.leastset.specs.NumberMarks.{AreBelow};
+ghost use Rattle.fixpoint.specs.Demands.{demand_of, demands_of};
+ghost use Rattle.fixpoint.specs.NumberMarks.{AreBelow};
 ghost use Rattle.pegnodes.specs.Nodes.{shape_of, shapes_of};
 ghost use Rattle.gramcheck.specs.Printing.{print_demand, print_demands, ArePrintMarks};
 
-use leastset::{Need, least};
+use fixpoint::{Need, least};
 use pegnodes::{Node, body_of};
 use ruletable::Memory;
 use std::alloc::Global;

@@ -10,7 +10,7 @@ use Rattle.flatgrammar.specs.FlatViews.{node_of, nodes_of}
 use Rattle.flatgrammar.specs.NodeSteps.{flat_of}
 use Rattle.flatgrammar.specs.declared.flat_node.Node as code_node
 use Rattle.flatgrammar.specs.declared.tables.Tables as code_flat
-use Rattle.stacks.specs.Stacks.{AreUncounted}
+use Rattle.letterclasses.specs.Stacks.{AreUncounted}
 
 abbrev pub CountsTurns : code_node.Node → Type 0
 CountsTurns node = (b : ℕ) × (m : ℕ) × (node_of node ≡ Turns (Some b) m)

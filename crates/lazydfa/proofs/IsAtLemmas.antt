@@ -14,9 +14,9 @@ use Rattle.flatgrammar.specs.declared.tables.Tables as code_flat
 use Rattle.flatgrammar.proofs.CallOfLemmas.{begun_starts}
 use Rattle.lazydfa.specs.declared.conts.Cont.{Cont}
 use Rattle.lazydfa.specs.declared.cache.State.{State}
-use Rattle.stacks.specs.Stacks as st
-use Rattle.stacks.specs.Stacks.{IsDoneAt, Moves, Led, led, moves, Reach, Accepts, ReadBy, IsReading, reading, Lifted}
-use Rattle.stacks.specs.Stacks.{IsFront, IsPlain, AreAlike, Empties}
+use Rattle.letterclasses.specs.Stacks as st
+use Rattle.letterclasses.specs.Stacks.{IsDoneAt, Moves, Led, led, moves, Reach, Accepts, ReadBy, IsReading, reading, Lifted}
+use Rattle.letterclasses.specs.Stacks.{IsFront, IsPlain, AreAlike, Empties}
 use Rattle.lazydfa.specs.Conts.{stack_of, last_of, AreKept, Adds, Begun}
 use Rattle.lazydfa.specs.Conts.{IsStackOf, TopReads, GoesOn, here, on, EndsAlone}
 use Rattle.lazydfa.specs.Conts.{IsClosure, AreReaders, ReadsFrom, IsTransition}
@@ -30,9 +30,9 @@ use Rattle.lazydfa.specs.RunVerdicts.{IsReached}
 use Rattle.std.specs.Option.{option_flatten}
 use Rattle.lazydfa.proofs.AreCachedLemmas.{cached_state, cached_conts}
 use Rattle.lazydfa.proofs.MoveLemmas.{whole_begun, from_goes, to_goes, done_told, told_done}
-use Rattle.stacks.proofs.LiftLemmas.{rests_empty}
+use Rattle.letterclasses.proofs.LiftLemmas.{rests_empty}
 use Rattle.lazydfa.proofs.TellLemmas.{transition_next, told_top, top_told, to_read, from_read}
-use Rattle.stacks.proofs.FrontLemmas.{taken_by_tops, next_front, nothing_below, not_ended, split_plain}
+use Rattle.letterclasses.proofs.FrontLemmas.{taken_by_tops, next_front, nothing_below, not_ended, split_plain}
 use Rattle.lazydfa.proofs.AreCachedLemmas.{stack_on, stack_off, goes_as, grown_at}
 
 pub begun_within : (tables : code_flat.Tables) (root : ℕ) (mid : List Cont) (ids read : List ℕ) (under : List Place)

@@ -8,8 +8,8 @@ use Rattle.flatgrammar.specs.Flat.{Place}
 use Rattle.flatgrammar.specs.NodeSteps.{flat_of}
 use Rattle.flatgrammar.specs.TableViews.{GiveRoots}
 use Rattle.flatgrammar.specs.declared.tables.Tables as code_flat
-use Rattle.stacks.specs.Stacks.{IsFront}
-use Rattle.stacks.proofs.FrontLemmas.{unfolded_front}
+use Rattle.letterclasses.specs.Stacks.{IsFront}
+use Rattle.letterclasses.proofs.FrontLemmas.{unfolded_front}
 use Rattle.lazydfa.specs.declared.conts.Cont.{Cont}
 use Rattle.lazydfa.specs.declared.cache.State.{State}
 use Rattle.lazydfa.specs.declared.memo.Unfold.{Unfold}

@@ -19,8 +19,8 @@ use Rattle.flatgrammar.specs.Roots.{Root, own, named}
 use Rattle.flatgrammar.proofs.CallOfLemmas.{done_tests, calling_callee, begin_below, get_unmap, get_map, called_of}
 use Rattle.flatgrammar.proofs.CallOfLemmas.{begun_starts}
 use Rattle.flatgrammar.proofs.NodeStepsLemmas.{done_is}
-use Rattle.stacks.specs.Stacks as st
-use Rattle.stacks.specs.Stacks.{IsDoneAt, is_done, TellsLast, Moves, call, tail_call, Led, led, moves, LedToEnd}
+use Rattle.letterclasses.specs.Stacks as st
+use Rattle.letterclasses.specs.Stacks.{IsDoneAt, is_done, TellsLast, Moves, call, tail_call, Led, led, moves, LedToEnd}
 use Rattle.lazydfa.specs.Conts.{Begun, last_by, last_of, after, Goes, GoesOn, here, on}
 
 record StartsAt (flat : Flat) (s : ℕ) (p : Place) : Type 0 where

@@ -11,7 +11,7 @@ use Rattle.lazydfa.specs.declared.cache.Cell.{Cell}
 use Rattle.lazydfa.specs.declared.cache.Cell.TheVariants.{Unknown, Over, Dead, To, Push}
 use Rattle.lazydfa.specs.declared.cache.Cache.{Cache}
 use Rattle.flatgrammar.specs.NodeSteps.{flat_of}
-use Rattle.stacks.specs.Stacks.{IsFront}
+use Rattle.letterclasses.specs.Stacks.{IsFront}
 use Rattle.lazydfa.specs.Conts.{last_of, AreOlder, AreKept, Begun, IsStackOf, TopReads, GoesOn, EndsAlone, ReadsFrom}
 use Rattle.lazydfa.specs.Conts.{IsTransition}
 use Rattle.lazydfa.specs.StackParts.{IsSplitOff}

@@ -3,7 +3,7 @@ use Rattle.std.specs.Prelude.{◌≡◌, ℕ, ◌<◌, ◌≤◌, Bool, List, []
 use Rattle.flatgrammar.specs.Flat.{Flat, Place, Concat}
 use Rattle.flatgrammar.specs.declared.verdict.Verdict.{Verdict}
 use Rattle.flatgrammar.specs.declared.verdict.Verdict.TheVariants.{Yes, No}
-use Rattle.stacks.specs.Stacks.{Reach, Accepts}
+use Rattle.letterclasses.specs.Stacks.{Reach, Accepts}
 
 -- the whole is a concatenation of one
 abbrev pub IsOne : Flat → Type 0

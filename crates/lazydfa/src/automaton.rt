@@ -10,7 +10,7 @@ ghost use Rattle.flatgrammar.specs.NodeSteps.{flat_of};
 ghost use Rattle.flatgrammar.specs.ToldBeginnings.{TellsBeginnings};
 ghost use Rattle.flatgrammar.specs.Verdicts.{IsVerdict};
 ghost use Rattle.letters.specs.Letters.{has};
-ghost use Rattle.stacks.specs.Stacks.{AreUncounted};
+ghost use Rattle.letterclasses.specs.Stacks.{AreUncounted};
 ghost use Rattle.lazydfa.specs.RunVerdicts.{IsOne};
 
 use crate::budget::{Budget, ROOM};
@@ -41,7 +41,7 @@ impl Model for Automaton {
     ghost use Rattle.flatgrammar.specs.Flat as spec;
     ghost use Rattle.flatgrammar.specs.NodeSteps.{flat_of};
     ghost use Rattle.flatgrammar.specs.TableViews.{GiveRoots};
-    ghost use Rattle.stacks.specs.Stacks.{AreUncounted};
+    ghost use Rattle.letterclasses.specs.Stacks.{AreUncounted};
     ghost use Rattle.letterclasses.specs.ClassBounds.{AreClasses};
     ghost use Rattle.lazydfa.specs.Memos.{IsMemo};
     ghost use Rattle.lazydfa.specs.RunVerdicts.{IsOne};

@@ -18,7 +18,7 @@ use Rattle.std.specs.List.Sorted.{IsNonDecreasing, IsPartitionPoint, IsPermutati
 use Rattle.std.specs.Ordering.{nat_cmp}
 use Rattle.flatgrammar.specs.Flat.{Flat, Node, Letters, Place, Set, Has, letter, Reads, reads}
 use Rattle.flatgrammar.proofs.FlatCutLemmas.{push_cases}
-use Rattle.stacks.specs.Stacks.{AreAlike}
+use Rattle.letterclasses.specs.Stacks.{AreAlike}
 use Rattle.letterclasses.specs.ClassBounds.{IsFree, AreMoreBounds, IsBoundAdded, IsSplit, IsNodeSplit, AreNodesSplit}
 use Rattle.letterclasses.specs.ClassBounds.{AreJoined, AreParted, IsClassOf, AreLow, AreClasses}
 

@@ -1,1 +1,5 @@
 pub mod AreClassesLemmas
+pub mod StacksLemmas
+pub mod LeadOnLemmas
+pub mod LiftLemmas
+pub mod FrontLemmas

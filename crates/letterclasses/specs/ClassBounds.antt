@@ -3,7 +3,7 @@ use Rattle.std.specs.Prelude.{◌≡◌, ◌↔◌, ◌⊎◌, ℕ, ◌+◌, ◌
 use Rattle.std.specs.List.Sorted.{IsNonDecreasing}
 use Rattle.abnfcheck.specs.Derivable.{small}
 use Rattle.flatgrammar.specs.Flat.{Flat, Node, Letters, Set, Has}
-use Rattle.stacks.specs.Stacks.{AreAlike}
+use Rattle.letterclasses.specs.Stacks.{AreAlike}
 
 -- no class begins at a number
 pub record IsFree (bounds : List ℕ) (i : ℕ) : Type 0 where

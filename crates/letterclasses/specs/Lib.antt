@@ -1,1 +1,2 @@
 pub mod ClassBounds
+pub mod Stacks

@@ -3,5 +3,6 @@
 
 mod bounds;
 mod classes;
+mod stacks;
 
 pub use classes::{Classes, class_of, find_classes};

@@ -10,8 +10,8 @@ use Rattle.gramcheck.specs.Sound.{IsRanked}
 use Rattle.memo.specs.declared.found.Found.{Found}
 use Rattle.memo.specs.Entries.{Entry, found_at, AreDifferent}
 use Rattle.memo.proofs.FoundAtLemmas.{is_of, is_own, is_of_own}
-use Rattle.visits.specs.CellOutcomes.{IsFound, HasCell}
-use Rattle.visits.proofs.AsksLemmas.{is_visited}
+use Rattle.pegmatch.specs.CellOutcomes.{IsFound, HasCell}
+use Rattle.pegmatch.proofs.AsksLemmas.{is_visited}
 use Rattle.pegnodes.specs.KeyMarks.{AreMarks}
 use Rattle.memo.specs.Parts.{IsIn, in_here, in_later, Distinct, distinct_more, Reach, IsForest}
 use Rattle.memo.specs.declared.spot.Spot.{Spot}

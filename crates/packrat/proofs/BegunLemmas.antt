@@ -10,8 +10,8 @@ use Rattle.memo.specs.declared.found.Found.{Found}
 use Rattle.memo.specs.Entries.{Entry, found_at, AreDifferent}
 use Rattle.memo.specs.declared.found.Found.TheVariants.{Failed}
 use Rattle.memo.proofs.FoundAtLemmas.{is_of, is_own}
-use Rattle.visits.proofs.AsksLemmas.{visited_there}
-use Rattle.visits.proofs.CodeLemmas.{cells_at_most}
+use Rattle.pegmatch.proofs.AsksLemmas.{visited_there}
+use Rattle.pegmatch.proofs.CodeLemmas.{cells_at_most}
 use Rattle.pegnodes.specs.KeyMarks.{AreMarks}
 use Rattle.memo.specs.Parts.{IsIn, in_here, in_later, Distinct, distinct_none, distinct_more}
 use Rattle.memo.specs.Run.{total}

@@ -26,10 +26,10 @@ use Rattle.pegnodes.specs.declared.by_byte.Verdict.{Verdict}
 use Rattle.pegnodes.specs.declared.by_byte.Verdict.TheVariants.{Takes, Stays, Fails}
 use Rattle.pegnodes.proofs.HasShapeLemmas.{has_shape}
 use Rattle.pegmatch.specs.KeptEvents.{quiet_outcome, SpellsSome}
-use Rattle.visits.specs.Visits.{NodeGives}
-use Rattle.visits.proofs.GivesLemmas.{name_gives, star_gives_none, not_gives_takes, not_gives_fails, plus_gives_fails}
-use Rattle.visits.proofs.GivesLemmas.{opt_gives_takes, opt_gives_none, and_gives_takes, and_gives_fails}
-use Rattle.visits.proofs.NodeGivesLemmas.{gives_as}
+use Rattle.pegmatch.specs.Visits.{NodeGives}
+use Rattle.pegmatch.proofs.GivesLemmas.{name_gives, star_gives_none, not_gives_takes, not_gives_fails, plus_gives_fails}
+use Rattle.pegmatch.proofs.GivesLemmas.{opt_gives_takes, opt_gives_none, and_gives_takes, and_gives_fails}
+use Rattle.pegmatch.proofs.NodeGivesLemmas.{gives_as}
 use Rattle.memo.specs.declared.spot.Spot.TheVariants.{Pair}
 use Rattle.packrat.specs.ByteGives.{found_by, GivesBy}
 use Rattle.packrat.specs.SpotGives.{IsQuiet, SpotGives}

@@ -15,7 +15,7 @@ use Rattle.gramcheck.specs.Sound.{IsRanked}
 use Rattle.pegnodes.specs.declared.by_byte.Verdict.{Verdict}
 use Rattle.pegnodes.specs.declared.by_byte.Verdict.TheVariants.{Takes, Stays, Fails}
 use Rattle.pegmatch.specs.KeptEvents.{SpellsSome}
-use Rattle.visits.specs.Visits.{NodeTakes, NodeFails}
+use Rattle.pegmatch.specs.Visits.{NodeTakes, NodeFails}
 use Rattle.memo.specs.Parts.{IsIn}
 use Rattle.memo.specs.Run.{Run, run_key, run_plain, RunAll, run_none, run_more}
 use Rattle.memo.specs.declared.spot.Spot.{Spot}

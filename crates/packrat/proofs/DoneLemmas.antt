@@ -15,17 +15,17 @@ use Rattle.pegmatch.specs.Answers.{StartGives, IsAnswer, HoldsSuccess}
 use Rattle.gramcheck.specs.Rising.{Rise}
 use Rattle.gramcheck.proofs.RiseLemmas.{Rise-upper}
 use Rattle.gramcheck.proofs.StartRuleLemmas.{rises_of_start, same_of_start}
-use Rattle.visits.proofs.CodeLemmas.{some_cell}
-use Rattle.visits.specs.Visits.{first}
-use Rattle.eventlog.specs.EventLog.{IsHead, kept_at}
-use Rattle.eventlog.proofs.KeptAtLemmas.{none_kept}
+use Rattle.pegmatch.proofs.CodeLemmas.{some_cell}
+use Rattle.pegmatch.specs.Visits.{first}
+use Rattle.packrat.specs.EventLog.{IsHead, kept_at}
+use Rattle.packrat.proofs.KeptAtLemmas.{none_kept}
 use Rattle.pegmatch.specs.KeptEvents.{outcome_of, StandFor}
-use Rattle.visits.specs.Visits.{NodeGives}
-use Rattle.visits.proofs.AsksLemmas.{visited_there}
-use Rattle.visits.proofs.CodeLemmas.{cells_at_most}
-use Rattle.visits.proofs.LookedLemmas.{ends_within}
-use Rattle.visits.proofs.NodeGivesLemmas.{gives_as, same_node}
-use Rattle.visits.proofs.VisitsLemmas.{visits_within}
+use Rattle.pegmatch.specs.Visits.{NodeGives}
+use Rattle.pegmatch.proofs.AsksLemmas.{visited_there}
+use Rattle.pegmatch.proofs.CodeLemmas.{cells_at_most}
+use Rattle.pegmatch.proofs.LookedLemmas.{ends_within}
+use Rattle.pegmatch.proofs.NodeGivesLemmas.{gives_as, same_node}
+use Rattle.pegmatch.proofs.VisitsLemmas.{visits_within}
 use Rattle.memo.specs.KeyLog.{spots_of}
 use Rattle.memo.specs.declared.key_log.Stored.{Stored}
 use Rattle.memo.specs.declared.spot.Spot.TheVariants.{Pair, Tail}
@@ -36,7 +36,7 @@ use Rattle.packrat.specs.Onward.{ReachesEnd}
 use Rattle.packrat.specs.SpotSteps.{NextOf}
 use Rattle.packrat.specs.Spots.{Leads, Kids, is_key}
 use Rattle.packrat.specs.Stands.{IsEnded, NeedsMore, IsEvaluated, GivenBy}
-use Rattle.eventlog.specs.declared.link.Link.{Link}
+use Rattle.packrat.specs.declared.events.link.Link.{Link}
 use Rattle.memo.specs.declared.key_log.Given.{Given}
 use Rattle.memo.specs.declared.found.Found.TheVariants as found
 use Rattle.pegmatch.specs.declared.matcher.Unit.{Unit as UnitAnswer}

@@ -7,9 +7,9 @@ use Rattle.pegread.specs.Pattern.{Rule}
 use Rattle.pegnodes.specs.Nodes as node
 use Rattle.pegnodes.specs.Nodes.{Shape}
 use Rattle.gramcheck.specs.Sound.{IsRanked}
-use Rattle.visits.specs.Visits.{AsksMember, member_here, member_later, AsksAlternative, alternative_here}
-use Rattle.visits.specs.Visits.{alternative_later, AsksBy, Asks, Visits, first, asked, NodeTakes, NodeFails}
-use Rattle.visits.proofs.AsksLemmas.{is_visited, height, height_falls}
+use Rattle.pegmatch.specs.Visits.{AsksMember, member_here, member_later, AsksAlternative, alternative_here}
+use Rattle.pegmatch.specs.Visits.{alternative_later, AsksBy, Asks, Visits, first, asked, NodeTakes, NodeFails}
+use Rattle.pegmatch.proofs.AsksLemmas.{is_visited, height, height_falls}
 use Rattle.memo.specs.Parts.{Reach, reach_root, reach_edge}
 use Rattle.memo.specs.Run.{Ends, ends}
 use Rattle.memo.specs.declared.spot.Spot.{Spot}

@@ -11,9 +11,9 @@ use Rattle.memo.specs.declared.found.Found.{Found}
 use Rattle.memo.specs.declared.found.Found.TheVariants.{Failed, Took}
 use Rattle.memo.specs.Entries.{Entry}
 use Rattle.pegmatch.specs.Answers.{WasEnough}
-use Rattle.visits.specs.CellOutcomes.{IsFound}
-use Rattle.visits.specs.Visits.{NodeGives}
-use Rattle.visits.proofs.VisitsLemmas.{visits_within}
+use Rattle.pegmatch.specs.CellOutcomes.{IsFound}
+use Rattle.pegmatch.specs.Visits.{NodeGives}
+use Rattle.pegmatch.proofs.VisitsLemmas.{visits_within}
 use Rattle.pegnodes.specs.KeyMarks.{AreMarks}
 use Rattle.memo.specs.Parts.{IsIn, in_here, in_later, distinct_none, Reach, reach_root}
 use Rattle.memo.specs.Run.{total}

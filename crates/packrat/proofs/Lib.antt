@@ -22,3 +22,6 @@ pub mod RunStepsLemmas
 pub mod RunTurnsLemmas
 pub mod TurnsGiveLemmas
 pub mod TurnedLemmas
+pub mod TakeEventLemmas
+pub mod KeptAtLemmas
+pub mod NextWrittenLemmas

@@ -6,9 +6,9 @@ use Rattle.pegread.specs.Pattern.{Rule}
 use Rattle.pegnodes.specs.Nodes as node
 use Rattle.pegnodes.specs.Nodes.{Shape}
 use Rattle.gramcheck.specs.Sound.{IsRanked}
-use Rattle.leastset.proofs.ContainsLemmas.{in_first, in_later}
-use Rattle.visits.specs.Visits.{AsksMember, member_here, member_later, AsksAlternative, alternative_here}
-use Rattle.visits.specs.Visits.{alternative_later, AsksBy, Asks, Visits, first, asked}
+use Rattle.fixpoint.proofs.ContainsLemmas.{in_first, in_later}
+use Rattle.pegmatch.specs.Visits.{AsksMember, member_here, member_later, AsksAlternative, alternative_here}
+use Rattle.pegmatch.specs.Visits.{alternative_later, AsksBy, Asks, Visits, first, asked}
 use Rattle.packrat.specs.Offset.{MemberAt, at_first, at_later, OffsetBy, NamesBy, Names}
 use Rattle.packrat.specs.Offset.{Offset, IsAskedBy}
 use Rattle.packrat.proofs.WidthLemmas.{takes_width}

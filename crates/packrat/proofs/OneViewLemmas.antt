@@ -8,9 +8,9 @@ use Rattle.gramcheck.specs.Sound.{IsRanked}
 use Rattle.memo.specs.declared.found.Found.{Found}
 use Rattle.memo.specs.declared.found.Found.TheVariants.{Failed, Took}
 use Rattle.memo.specs.Entries.{Entry}
-use Rattle.visits.specs.CellOutcomes.{IsFound}
-use Rattle.visits.specs.Visits.{NodeTakes, NodeFails}
-use Rattle.visits.proofs.NodeGivesLemmas.{same_node}
+use Rattle.pegmatch.specs.CellOutcomes.{IsFound}
+use Rattle.pegmatch.specs.Visits.{NodeTakes, NodeFails}
+use Rattle.pegmatch.proofs.NodeGivesLemmas.{same_node}
 use Rattle.memo.specs.declared.spot.Spot.{Spot}
 use Rattle.memo.specs.declared.spot.Spot.TheVariants.{Pair, Tail}
 use Rattle.memo.specs.Parts.{Part, part, Parts, parts_none, parts_key, parts_more, Whole, whole_none, whole_more}

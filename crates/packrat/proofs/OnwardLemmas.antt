@@ -18,10 +18,10 @@ use Rattle.memo.specs.declared.found.Found.{Found}
 use Rattle.memo.specs.declared.found.Found.TheVariants.{Failed, Took}
 use Rattle.pegmatch.specs.Answers.{WasEnough}
 use Rattle.gramcheck.specs.Outcome.{Event}
-use Rattle.visits.specs.Visits.{NodeTakes, NodeFails}
+use Rattle.pegmatch.specs.Visits.{NodeTakes, NodeFails}
 use Rattle.packrat.specs.SpotGives.{joined}
 use Rattle.pegmatch.specs.KeptEvents.{quiet_outcome}
-use Rattle.visits.proofs.AsksLemmas.{goes_onward}
+use Rattle.pegmatch.proofs.AsksLemmas.{goes_onward}
 use Rattle.memo.specs.declared.spot.Spot.{Spot}
 use Rattle.memo.specs.declared.spot.Spot.TheVariants.{Pair, Tail}
 use Rattle.pegnodes.specs.NodeWays.{way_of}

@@ -7,7 +7,7 @@ use Rattle.pegread.specs.Pattern.{Rule}
 use Rattle.pegnodes.specs.Nodes as node
 use Rattle.pegnodes.specs.Nodes.{Shape}
 use Rattle.gramcheck.specs.Sound.{IsRanked}
-use Rattle.visits.specs.Visits.{NodeTakes}
+use Rattle.pegmatch.specs.Visits.{NodeTakes}
 use Rattle.memo.specs.Parts.{Reach, reach_root, reach_edge}
 use Rattle.memo.specs.declared.spot.Spot.{Spot}
 use Rattle.memo.specs.declared.spot.Spot.TheVariants.{Pair, Tail}
@@ -16,7 +16,7 @@ use Rattle.packrat.specs.Spots.{LeadsBy, TailLeadsBy, Leads, is_key}
 use Rattle.pegnodes.specs.KeyMarks.{WayNames, WayNamesOnce, DoesNotRepeat, IsPlain, Single, single_root, single_below}
 use Rattle.pegnodes.specs.KeyMarks.{AreMarks, IsLoop, WayEntersOnce}
 use Rattle.std.proofs.Common.{◌<◌, ◌≤◌}
-use Rattle.visits.proofs.AsksLemmas.{goes_onward, is_visited}
+use Rattle.pegmatch.proofs.AsksLemmas.{goes_onward, is_visited}
 use Rattle.packrat.proofs.SpotReachLemmas.{reached_is_visited}
 use Rattle.packrat.proofs.WidthLemmas.{takes_width}
 use Rattle.packrat.proofs.SpotKidsLemmas.{takes_same}

@@ -18,13 +18,13 @@ use Rattle.memo.specs.declared.found.Found.{Found}
 use Rattle.memo.specs.declared.found.Found.TheVariants.{Failed, Took}
 use Rattle.pegmatch.specs.Answers.{WasEnough}
 use Rattle.pegmatch.specs.KeptEvents.{outcome_of, quiet_outcome, SpellsSome}
-use Rattle.visits.specs.Visits.{NodeGives, NodeTakes, NodeFails}
-use Rattle.visits.proofs.GivesLemmas.{name_gives, star_gives_none, star_gives_more, star_never_fails, not_gives_takes}
-use Rattle.visits.proofs.GivesLemmas.{not_gives_fails, plus_gives_fails, plus_gives_takes, plus_star, opt_gives_takes}
-use Rattle.visits.proofs.GivesLemmas.{opt_gives_none, and_gives_takes, and_gives_fails}
+use Rattle.pegmatch.specs.Visits.{NodeGives, NodeTakes, NodeFails}
+use Rattle.pegmatch.proofs.GivesLemmas.{name_gives, star_gives_none, star_gives_more, star_never_fails, not_gives_takes}
+use Rattle.pegmatch.proofs.GivesLemmas.{not_gives_fails, plus_gives_fails, plus_gives_takes, plus_star, opt_gives_takes}
+use Rattle.pegmatch.proofs.GivesLemmas.{opt_gives_none, and_gives_takes, and_gives_fails}
 use Rattle.pegnodes.specs.Nodes.{spells_act, spells_open, spells_close}
 use Rattle.gramcheck.specs.Outcome.{Acted, Opened, Closed, act, open_at, close_at}
-use Rattle.visits.proofs.NodeGivesLemmas.{gives_as}
+use Rattle.pegmatch.proofs.NodeGivesLemmas.{gives_as}
 use Rattle.memo.specs.declared.spot.Spot.{Spot}
 use Rattle.memo.specs.declared.spot.Spot.TheVariants.{Pair, Tail}
 use Rattle.packrat.specs.SpotGives.{TakesWithin, FailsWithin}

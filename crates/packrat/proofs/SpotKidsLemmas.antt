@@ -8,8 +8,8 @@ use Rattle.pegnodes.specs.Nodes.{Shape}
 use Rattle.gramcheck.specs.Sound.{IsRanked}
 use Rattle.pegnodes.proofs.HasShapeLemmas.{has_shape}
 use Rattle.pegmatch.specs.KeptEvents.{SpellsSome}
-use Rattle.visits.specs.Visits.{NodeTakes, NodeFails}
-use Rattle.visits.proofs.NodeGivesLemmas.{same_node}
+use Rattle.pegmatch.specs.Visits.{NodeTakes, NodeFails}
+use Rattle.pegmatch.proofs.NodeGivesLemmas.{same_node}
 use Rattle.memo.specs.Parts.{IsIn, in_here, in_later, Distinct, distinct_none, distinct_more}
 use Rattle.memo.specs.declared.spot.Spot.{Spot}
 use Rattle.memo.specs.declared.spot.Spot.TheVariants.{Pair, Tail}

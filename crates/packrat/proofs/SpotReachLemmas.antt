@@ -6,8 +6,8 @@ use Rattle.std.specs.Prelude.{slice_get}
 use Rattle.pegread.specs.Pattern.{Rule}
 use Rattle.pegnodes.specs.Nodes as node
 use Rattle.pegnodes.specs.Nodes.{Shape}
-use Rattle.visits.specs.Visits.{AsksMember, member_here, member_later, AsksAlternative}
-use Rattle.visits.specs.Visits.{alternative_here, alternative_later, AsksBy, Asks, Visits, first, asked}
+use Rattle.pegmatch.specs.Visits.{AsksMember, member_here, member_later, AsksAlternative}
+use Rattle.pegmatch.specs.Visits.{alternative_here, alternative_later, AsksBy, Asks, Visits, first, asked}
 use Rattle.memo.specs.Parts.{Reach, reach_root, reach_edge}
 use Rattle.memo.specs.declared.spot.Spot.{Spot}
 use Rattle.memo.specs.declared.spot.Spot.TheVariants.{Pair, Tail}

@@ -10,9 +10,9 @@ use Rattle.pegnodes.specs.Nodes.{Shape, shapes_of, shape_of}
 use Rattle.gramcheck.specs.Outcome.{Event}
 use Rattle.pegmatch.specs.KeptEvents.{StandFor, no_event, one_event}
 use Rattle.pegmatch.specs.declared.event.Kept.{Kept}
-use Rattle.eventlog.specs.EventLog.{IsHead, kept_at, AreGrown}
-use Rattle.eventlog.specs.declared.link.Link.{Link}
-use Rattle.eventlog.proofs.KeptAtLemmas.{none_kept}
+use Rattle.packrat.specs.EventLog.{IsHead, kept_at, AreGrown}
+use Rattle.packrat.specs.declared.events.link.Link.{Link}
+use Rattle.packrat.proofs.KeptAtLemmas.{none_kept}
 use Rattle.memo.specs.declared.found.Found.{Found}
 use Rattle.memo.specs.declared.found.Found.TheVariants.{Failed, Took}
 use Rattle.pegnodes.specs.KeyLists.{Marks}

@@ -4,7 +4,7 @@ use Rattle.std.proofs.Common.{◌≡◌, ◌⊎◌, inl, inr, ℕ, zero, suc, �
 use Rattle.std.proofs.Common.{◌∷◌, ◌++◌, Option, length, Some, refl, sym, subst, ap, ◌∙◌, arith}
 use Rattle.std.specs.Prelude.{slice_get}
 use Rattle.pegread.specs.PegViews.{rules_of}
-use Rattle.eventlog.specs.declared.link.Link.{Link}
+use Rattle.packrat.specs.declared.events.link.Link.{Link}
 use Rattle.pegnodes.specs.ByByte.{ByByte, AreTurns, turns_none, turns_more}
 use Rattle.gramcheck.specs.Grammar.{Grammar, IsSoundGrammar}
 use Rattle.pegnodes.specs.KeyLists.{Marks, node_marks, tail_marks}
@@ -29,8 +29,8 @@ use Rattle.memo.specs.declared.spot.Spot.{Spot}
 use Rattle.memo.specs.declared.spot.Spot.TheVariants.{Pair}
 use Rattle.memo.proofs.KeyLogLemmas.{of_spread, of_rising, rising_last}
 use Rattle.memo.proofs.PartsLemmas.{in_either}
-use Rattle.visits.proofs.GivesLemmas.{star_gives_more, star_gives_none, star_never_fails}
-use Rattle.visits.specs.Visits.{NodeGives}
+use Rattle.pegmatch.proofs.GivesLemmas.{star_gives_more, star_gives_none, star_never_fails}
+use Rattle.pegmatch.specs.Visits.{NodeGives}
 use Rattle.packrat.specs.ByteGives.{GivesBy, turns_on, operands_on, turns_closed, AreFresh}
 use Rattle.packrat.specs.MachineSteps.{Level, State, Asks, Works, start_at, store}
 use Rattle.packrat.specs.Onward.{IsWell}

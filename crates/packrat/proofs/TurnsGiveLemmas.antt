@@ -14,8 +14,8 @@ use Rattle.gramcheck.specs.Sound.{IsRanked}
 use Rattle.memo.specs.declared.found.Found.{Found}
 use Rattle.memo.specs.declared.found.Found.TheVariants.{Failed, Took}
 use Rattle.pegmatch.specs.KeptEvents.{SpellsSome}
-use Rattle.visits.specs.Visits.{NodeGives}
-use Rattle.visits.proofs.GivesLemmas.{star_gives_more, star_never_fails}
+use Rattle.pegmatch.specs.Visits.{NodeGives}
+use Rattle.pegmatch.proofs.GivesLemmas.{star_gives_more, star_never_fails}
 use Rattle.memo.specs.declared.spot.Spot.TheVariants.{Pair}
 use Rattle.pegnodes.specs.declared.by_byte.Verdict.TheVariants.{Stays}
 use Rattle.pegnodes.specs.ByByte.{ByByte, AreTurns, turns_none, turns_more}

@@ -10,9 +10,9 @@ use Rattle.gramcheck.specs.Outcome.{close_at, name, seq, choice, opt_takes, opt_
 use Rattle.gramcheck.specs.Outcome.{GivesAll, all_done, rest_takes, GivesFirst, first_takes, first_fails}
 use Rattle.gramcheck.specs.Sound.{IsRanked}
 use Rattle.pegnodes.proofs.HasShapeLemmas.{has_shape}
-use Rattle.visits.specs.Visits.{NodeTakes}
-use Rattle.visits.proofs.GivesLemmas.{is_name}
-use Rattle.visits.proofs.NodeGivesLemmas.{one_spelled}
+use Rattle.pegmatch.specs.Visits.{NodeTakes}
+use Rattle.pegmatch.proofs.GivesLemmas.{is_name}
+use Rattle.pegmatch.proofs.NodeGivesLemmas.{one_spelled}
 use Rattle.pegnodes.specs.Width.{Width, width_any, width_set, width_bytes, width_act, width_open, width_close}
 use Rattle.pegnodes.specs.Width.{width_and}
 use Rattle.pegnodes.specs.Width.{width_not, width_opt, width_name, width_seq, width_choice, WidthSum, sum_none}

@@ -9,7 +9,7 @@ use Rattle.pegnodes.specs.declared.by_byte.Verdict.TheVariants.{Takes, Stays, Fa
 use Rattle.memo.specs.declared.found.Found.{Found}
 use Rattle.memo.specs.declared.found.Found.TheVariants.{Failed, Took}
 use Rattle.pegmatch.specs.KeptEvents.{quiet_outcome}
-use Rattle.visits.specs.Visits.{NodeGives}
+use Rattle.pegmatch.specs.Visits.{NodeGives}
 use Rattle.memo.specs.Parts.{IsIn}
 use Rattle.memo.specs.Run.{RunAll, total}
 use Rattle.memo.specs.declared.spot.Spot.{Spot}

@@ -10,3 +10,5 @@ pub mod Turned
 pub mod TurnsLeft
 pub mod Stands
 pub mod Done
+pub mod EventLog
+pub mod WaitingHeads

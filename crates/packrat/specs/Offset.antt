@@ -3,7 +3,7 @@ use Rattle.std.specs.Prelude.{◌≡◌, ◌⊎◌, ℕ, ◌+◌, List, ◌∷�
 use Rattle.pegnodes.specs.Nodes.{Shape, Any, Bytes, Set, Name, Seq, Choice, Star, Plus, Opt, And, Not, Act, Open}
 use Rattle.pegnodes.specs.Nodes.{Close}
 use Rattle.pegread.specs.Pattern.{Rule}
-use Rattle.visits.specs.Visits.{Asks, Visits}
+use Rattle.pegmatch.specs.Visits.{Asks, Visits}
 use Rattle.pegnodes.specs.Width.{Width}
 
 -- m stands once in the list

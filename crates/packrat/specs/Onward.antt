@@ -7,7 +7,7 @@ use Rattle.pegnodes.specs.Nodes.{Shape, Any, Bytes, Set, Name, Seq, Choice, Star
 use Rattle.pegnodes.specs.Nodes.{Close, shapes_of}
 use Rattle.memo.specs.declared.found.Found.{Found}
 use Rattle.memo.specs.declared.found.Found.TheVariants.{Took}
-use Rattle.visits.specs.Visits.{NodeGives}
+use Rattle.pegmatch.specs.Visits.{NodeGives}
 use Rattle.gramcheck.specs.Outcome.{Event, Outcome}
 use Rattle.pegmatch.specs.declared.leaves.Tried.{Tried}
 use Rattle.pegmatch.specs.KeptEvents.{SpellsSome, StandsFor}

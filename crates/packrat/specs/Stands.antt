@@ -6,8 +6,8 @@ use Rattle.pegnodes.specs.Nodes.{Shape, shapes_of}
 use Rattle.gramcheck.specs.Outcome.{Event}
 use Rattle.pegmatch.specs.KeptEvents.{StandFor}
 use Rattle.pegmatch.specs.declared.event.Kept.{Kept}
-use Rattle.eventlog.specs.EventLog.{IsHead, kept_at}
-use Rattle.eventlog.specs.declared.link.Link.{Link}
+use Rattle.packrat.specs.EventLog.{IsHead, kept_at}
+use Rattle.packrat.specs.declared.events.link.Link.{Link}
 use Rattle.memo.specs.declared.found.Found.{Found}
 use Rattle.memo.specs.declared.found.Found.TheVariants.{Failed, Took}
 use Rattle.memo.specs.declared.key_log.Given.{Given}

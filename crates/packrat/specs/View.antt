@@ -4,8 +4,8 @@ use Rattle.pegread.specs.Pattern.{Rule}
 use Rattle.pegnodes.specs.Nodes.{Shape}
 use Rattle.memo.specs.declared.found.Found.{Found}
 use Rattle.memo.specs.Entries.{Entry, found_at, AreDifferent}
-use Rattle.visits.specs.CellOutcomes.{IsFound, HasCell}
-use Rattle.visits.specs.Visits.{Visits}
+use Rattle.pegmatch.specs.CellOutcomes.{IsFound, HasCell}
+use Rattle.pegmatch.specs.Visits.{Visits}
 use Rattle.memo.specs.Parts.{IsIn, Distinct, Reach, Whole}
 use Rattle.memo.specs.Run.{Run}
 use Rattle.memo.specs.declared.spot.Spot.{Spot}

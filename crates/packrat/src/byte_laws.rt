@@ -13,7 +13,7 @@ ghost use Rattle.pegnodes.specs.declared.by_byte.Verdict.TheVariants.{Stays};
 ghost use Rattle.memo.specs.declared.found.Found.{Found};
 ghost use Rattle.memo.specs.declared.found.Found.TheVariants.{Took};
 ghost use Rattle.pegmatch.specs.KeptEvents.{SpellsSome};
-ghost use Rattle.visits.specs.Visits.{NodeGives};
+ghost use Rattle.pegmatch.specs.Visits.{NodeGives};
 ghost use Rattle.memo.specs.KeyLog.{spots_of, row_of, place_of};
 ghost use Rattle.memo.specs.Parts.{IsIn};
 ghost use Rattle.memo.specs.declared.key_log.Stored.{Stored};

@@ -7,7 +7,7 @@ ghost use Rattle.gramcheck.specs.Outcome.{Outcome};
 ghost use Rattle.gramcheck.specs.Sound.{IsRanked};
 ghost use Rattle.memo.specs.Entries.{Entry};
 ghost use Rattle.pegmatch.specs.Answers.{WasEnough};
-ghost use Rattle.visits.specs.Visits.{NodeGives, NodeTakes, Visits};
+ghost use Rattle.pegmatch.specs.Visits.{NodeGives, NodeTakes, Visits};
 ghost use Rattle.memo.specs.Run.{total};
 ghost use Rattle.memo.specs.declared.spot.Spot.{Spot};
 ghost use Rattle.memo.specs.declared.spot.Spot.TheVariants.{Pair};

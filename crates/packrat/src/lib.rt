@@ -3,6 +3,7 @@
 #![tactic(auto)]
 
 mod byte_laws;
+mod events;
 mod frames;
 mod keys;
 mod laws;

@@ -3,8 +3,8 @@ ghost use Rattle.std.specs.Prelude.{◌≡◌, ℕ, ◌+◌, ◌-◌, ◌*◌, �
 ghost use Rattle.std.specs.Prelude.{slice_get, Some, IfOk, OnOk, IfSome, IfNone};
 ghost use Rattle.gramcheck.specs.Grammar.{HasKeys, IsSoundGrammar};
 ghost use Rattle.pegmatch.specs.Answers.{WasEnough};
-ghost use Rattle.eventlog.specs.EventLog.{IsHead, AreGrown};
-ghost use Rattle.eventlog.specs.declared.link.Link.{Link};
+ghost use Rattle.packrat.specs.EventLog.{IsHead, AreGrown};
+ghost use Rattle.packrat.specs.declared.events.link.Link.{Link};
 ghost use Rattle.memo.specs.KeyLog.{spots_of};
 ghost use Rattle.memo.specs.Parts.{IsIn};
 ghost use Rattle.memo.specs.declared.spot.Spot.{Spot};
@@ -19,11 +19,11 @@ ghost use Rattle.packrat.specs.View.{weight};
 ghost use Rattle.packrat.specs.declared.frames.Wait.{Wait};
 ghost use Rattle.packrat.specs.declared.machine.Turn.{Turn};
 
+use crate::events::EventLog;
 use crate::frames::{Frame, Frames, Wait};
 use crate::keys::is_key;
 use crate::onward::{Begun, Entering, Onward, begin, go_on};
 use crate::turns::{Turns, find_turns, is_fresh};
-use eventlog::EventLog;
 use gramcheck::SoundPeg;
 use memo::{Found, Given, KeyLog, Spot};
 use pegnodes::Node;

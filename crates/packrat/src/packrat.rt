@@ -11,9 +11,9 @@ ghost use Rattle.pegmatch.specs.Text.{text_of};
 ghost use Rattle.pegmatch.specs.declared.matcher.ReplayFault.{ReplayFault};
 ghost use Rattle.packrat.specs.Done.{empty, Holds, IsOutcome, head_of, unit_of_match};
 
+use crate::events::EventLog;
 use crate::frames::Frames;
 use crate::machine::Machine;
-use eventlog::EventLog;
 use gramcheck::SoundPeg;
 use memo::{Found, Given, KeyLog, Spot};
 use pegmatch::{Matcher, ReplayFault, Unit};
@@ -37,7 +37,7 @@ pub struct Packrat {
 }
 
 impl Model for Packrat {
-    ghost use Rattle.eventlog.specs.EventLog.{IsHead, kept_at};
+    ghost use Rattle.packrat.specs.EventLog.{IsHead, kept_at};
     ghost use Rattle.packrat.specs.Done.{Contents};
 
     ghost Value = { Contents };

@@ -4,10 +4,10 @@ use Rattle.std.proofs.Common.{◌≡◌, ℕ, List, [], ◌++◌, length, Option
 use Rattle.std.proofs.Common.{⊎_elim}
 use Rattle.std.specs.Prelude.{slice_get}
 use Rattle.std.proofs.lemmas.Bool.{cases_order}
-use Rattle.noteplaces.specs.ExplainedNotes.{IsNoteExplained}
-use Rattle.noteplaces.specs.MentionLines.{mention_lines_by}
-use Rattle.noteplaces.specs.declared.mentions.MentionKind.TheVariants as kinds
-use Rattle.noteplaces.proofs.ExplainedNoteLemmas.{places-mention}
+use Rattle.diagnostics.specs.ExplainedNotes.{IsNoteExplained}
+use Rattle.diagnostics.specs.MentionLines.{mention_lines_by}
+use Rattle.diagnostics.specs.declared.noteplaces.mentions.MentionKind.TheVariants as kinds
+use Rattle.diagnostics.proofs.ExplainedNoteLemmas.{places-mention}
 use Rattle.pegread.specs.Definitions.{firsts}
 use Rattle.pegread.specs.Kinds.{is_end}
 use Rattle.pegread.specs.Pattern.{Pattern, Rule, body_of}

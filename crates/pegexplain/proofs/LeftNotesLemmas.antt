@@ -3,15 +3,15 @@
 use Rattle.std.proofs.Common.{◌≡◌, ◌<◌, ◌+◌, ℕ, zero, suc, Bool, true, false, List, [], ◌∷◌, length, map}
 use Rattle.std.proofs.Common.{Option, Some, None, refl, sym, ap, ◌∙◌, subst, arith, bytes_eq, if◌then◌else◌, nat_lt}
 use Rattle.std.specs.Prelude.{slice_get, slice_index_or}
-use Rattle.leastset.specs.NumberMarks.{IsMarked}
-use Rattle.leastset.proofs.IsMarkedLemmas.{marked_lt}
-use Rattle.noteplaces.specs.BodyMentions.{mentioned_at, mentions_in}
-use Rattle.noteplaces.specs.DefinitionHeads.{definitions_in, sign_at}
-use Rattle.noteplaces.specs.ExplainedNotes.{told_by}
-use Rattle.noteplaces.specs.MentionLines.{mention_lines_by}
-use Rattle.noteplaces.specs.declared.mentions.MentionKind.TheVariants as kinds
-use Rattle.noteplaces.specs.UseLines.{lines_behind}
-use Rattle.noteplaces.proofs.ExplainedNoteLemmas.{places-mention}
+use Rattle.fixpoint.specs.NumberMarks.{IsMarked}
+use Rattle.fixpoint.proofs.IsMarkedLemmas.{marked_lt}
+use Rattle.diagnostics.specs.BodyMentions.{mentioned_at, mentions_in}
+use Rattle.diagnostics.specs.DefinitionHeads.{definitions_in, sign_at}
+use Rattle.diagnostics.specs.ExplainedNotes.{told_by}
+use Rattle.diagnostics.specs.MentionLines.{mention_lines_by}
+use Rattle.diagnostics.specs.declared.noteplaces.mentions.MentionKind.TheVariants as kinds
+use Rattle.diagnostics.specs.UseLines.{lines_behind}
+use Rattle.diagnostics.proofs.ExplainedNoteLemmas.{places-mention}
 use Rattle.ruletable.specs.Notes.{said}
 use Rattle.ruletable.specs.Rules.{find_in}
 use Rattle.ruletable.specs.declared.lines.LineRule.TheVariants.{Any}
@@ -29,7 +29,7 @@ use Rattle.pegread.specs.PegViews.{pattern_of, rule_of, rules_of}
 use Rattle.pegread.specs.Reading.{Reads}
 use Rattle.pegread.specs.Slices.{White, First}
 use Rattle.pegread.specs.Tokens.{Tok, AreTokens}
-use Rattle.stepchains.specs.ShortChains.{IsRoundIfAny}
+use Rattle.shortestpaths.specs.ShortChains.{IsRoundIfAny}
 use Rattle.pegexplain.specs.LeftLines.{left_steps, way_told}
 use Rattle.pegexplain.specs.LeftNotes.{AreLeftLines, IsWayOr, TellsNullable, is_early, set_before}
 use Rattle.pegexplain.specs.LeftUses.{left_row}

@@ -7,8 +7,8 @@ use Rattle.std.specs.List.{flat_map, position}
 use Rattle.std.proofs.lemmas.List.{length-map}
 use Rattle.std.proofs.lemmas.List.Elements.{Contains-append_cases}
 use Rattle.std.proofs.lemmas.List.Quantifiers.{position-Some}
-use Rattle.leastset.specs.StepRows.{AreStepsWithin}
-use Rattle.leastset.proofs.ContainsLemmas.{none_of, only_one}
+use Rattle.fixpoint.specs.StepRows.{AreStepsWithin}
+use Rattle.fixpoint.proofs.ContainsLemmas.{none_of, only_one}
 use Rattle.ruletable.specs.Rules as table
 use Rattle.ruletable.specs.Rules.{find_in, same_name}
 use Rattle.pegread.specs.Pattern.{Pattern}

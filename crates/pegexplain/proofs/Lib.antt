@@ -11,3 +11,6 @@ mod LeftStepLineLemmas
 mod LeftSameLemmas
 mod LeftWithinLemmas
 mod LeftNotesLemmas
+mod BodyHintsLemmas
+mod NeverTakenLemmas
+mod PegHintsLemmas

@@ -7,9 +7,9 @@ use Rattle.std.specs.Prelude.{codes}
 use Rattle.lexer.specs.Pieces.{LiesIn}
 use Rattle.lexer.specs.TokenLists.{start_of}
 use Rattle.lexer.specs.declared.limits.TheConstants.{MAX_GRAMMAR}
-use Rattle.picture.specs.PhraseLists.{listed}
-use Rattle.picture.specs.ToldPhrases.{AreTold}
-use Rattle.picture.proofs.PhraseLemmas.{told-same}
+use Rattle.diagnostics.specs.PhraseLists.{listed}
+use Rattle.diagnostics.specs.ToldPhrases.{AreTold}
+use Rattle.diagnostics.proofs.PhraseLemmas.{told-same}
 use Rattle.pegread.specs.declared.kind.Kind.{Kind}
 use Rattle.pegread.specs.Reading.{IsHopeless, IsTooDeep, IsDecidedAt, IsFaultOf}
 use Rattle.pegread.specs.Tokens.{Tok, AreTokens}

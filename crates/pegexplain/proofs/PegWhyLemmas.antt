@@ -4,9 +4,9 @@ use Rattle.std.proofs.Common.{◌≡◌, ℕ, ◌⊎◌, inl, inr, List, ◌++�
 use Rattle.std.proofs.Common.{length, take}
 use Rattle.lexer.proofs.ViabilityLemmas as viability
 use Rattle.lexer.specs.declared.limits.TheConstants.{MAX_OPEN}
-use Rattle.picture.specs.PhraseLists.{listed}
-use Rattle.picture.specs.ToldPhrases.{AreTold}
-use Rattle.picture.proofs.OneToldLemmas.{one-told}
+use Rattle.diagnostics.specs.PhraseLists.{listed}
+use Rattle.diagnostics.specs.ToldPhrases.{AreTold}
+use Rattle.diagnostics.proofs.OneToldLemmas.{one-told}
 use Rattle.ruletable.specs.declared.fault.ReadFault.{ReadFault}
 use Rattle.ruletable.specs.declared.fault.ReadFault.TheVariants as faults
 use Rattle.pegread.specs.Spelling.{Grammar, Viable}

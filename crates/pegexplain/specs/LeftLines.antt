@@ -1,13 +1,13 @@
 -- The lines behind a note on a left-recursive rule.
 use Rattle.std.specs.Prelude.{◌≡◌, ℕ, zero, suc, ◌&&◌, Bool, true, List, [], ◌∷◌, ◌++◌, length, map, slice_get}
 use Rattle.std.specs.Prelude.{slice_index_or, if◌then◌else◌, Option, Some, None, bytes_eq, codes, decimal}
-use Rattle.picture.specs.ShownBytes.{cut}
-use Rattle.noteplaces.specs.NoteLines.{more_told}
+use Rattle.diagnostics.specs.ShownBytes.{cut}
+use Rattle.diagnostics.specs.NoteLines.{more_told}
 use Rattle.pegread.specs.CanonMembers.{members_text}
 use Rattle.pegread.specs.Definitions.{id_in}
 use Rattle.pegread.specs.Pattern.{Pattern, Rule}
 use Rattle.pegread.specs.PegViews.{patterns}
-use Rattle.stepchains.specs.ShortChains.{IsRoundIfAny}
+use Rattle.shortestpaths.specs.ShortChains.{IsRoundIfAny}
 use Rattle.pegexplain.specs.LeftUses.{NameUse, left_row, skipped_in, uses_in}
 use Rattle.pegexplain.specs.declared.left_lines.TheConstants.{MAX_STEPS}
 

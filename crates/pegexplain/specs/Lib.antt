@@ -11,3 +11,7 @@ pub mod PegStands
 pub mod PhraseRows
 pub mod PegLoops
 pub mod PegNotes
+pub mod CodeHints
+pub mod HiddenLiterals
+pub mod NeverTaken
+pub mod PegHints

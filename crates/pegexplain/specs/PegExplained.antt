@@ -2,10 +2,10 @@
 use Rattle.std.specs.Prelude.{◌≡◌, ℕ, ◌<◌, ◌≤◌, length, slice_get, List, [], ◌∷◌, ◌++◌, Some, codes}
 use Rattle.lexer.specs.TokenLists.{tok}
 use Rattle.lexer.specs.declared.limits.TheConstants.{MAX_GRAMMAR}
-use Rattle.picture.specs.FirstBytes.{Row, first_told}
-use Rattle.picture.specs.PhraseLists.{listed}
-use Rattle.picture.specs.Pictures.{place_told}
-use Rattle.picture.specs.ToldPhrases.{AreTold}
+use Rattle.diagnostics.specs.FirstBytes.{Row, first_told}
+use Rattle.diagnostics.specs.PhraseLists.{listed}
+use Rattle.diagnostics.specs.Pictures.{place_told}
+use Rattle.diagnostics.specs.ToldPhrases.{AreTold}
 use Rattle.pegread.specs.declared.kind.Kind.TheVariants.{Bad, End}
 use Rattle.pegread.specs.Reading.{IsHopeless, IsTooDeep}
 use Rattle.pegread.specs.Tokens.{Tok, AreTokens}

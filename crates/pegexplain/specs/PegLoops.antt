@@ -1,7 +1,7 @@
 -- The line behind a note on a rule that repeats what may take nothing.
 use Rattle.std.specs.Prelude.{◌≡◌, ℕ, ◌<◌, List, [], ◌∷◌, ◌++◌, slice_get, Option, Some, None, MatchOption, codes}
 use Rattle.std.specs.Prelude.{decimal}
-use Rattle.picture.specs.ShownBytes.{cut}
+use Rattle.diagnostics.specs.ShownBytes.{cut}
 use Rattle.pegread.specs.Canon.{text_of}
 use Rattle.pegread.specs.Pattern.{Pattern, Patterns, Any, Bytes, Set, Name, Seq, Choice, Star, Plus, Opt, And, Not, Act}
 use Rattle.pegread.specs.Pattern.{Open, Close, none, more, Rule}

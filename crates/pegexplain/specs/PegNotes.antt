@@ -1,12 +1,12 @@
 -- What explains a note on the grammar of a text.
 use Rattle.std.specs.Prelude.{◌≡◌, ℕ, Bool, List, [], ◌++◌, Option, None, length, map}
-use Rattle.noteplaces.specs.DefinitionHeads.{sign_at}
-use Rattle.noteplaces.specs.ExplainedNotes.{ArePlaces, IsNoteExplained, note_lines}
-use Rattle.noteplaces.specs.MentionLines.{lines_mentioned}
-use Rattle.noteplaces.specs.declared.mentions.MentionKind.TheVariants.{Repeat, Use}
-use Rattle.noteplaces.specs.declared.sign.Sign.{Sign}
-use Rattle.noteplaces.specs.declared.sign.Sign.TheVariants.{Name, Defines, Repeats, Other}
-use Rattle.noteplaces.specs.declared.sign.Sign.TheVariants as signs
+use Rattle.diagnostics.specs.DefinitionHeads.{sign_at}
+use Rattle.diagnostics.specs.ExplainedNotes.{ArePlaces, IsNoteExplained, note_lines}
+use Rattle.diagnostics.specs.MentionLines.{lines_mentioned}
+use Rattle.diagnostics.specs.declared.noteplaces.mentions.MentionKind.TheVariants.{Repeat, Use}
+use Rattle.diagnostics.specs.declared.noteplaces.sign.Sign.{Sign}
+use Rattle.diagnostics.specs.declared.noteplaces.sign.Sign.TheVariants.{Name, Defines, Repeats, Other}
+use Rattle.diagnostics.specs.declared.noteplaces.sign.Sign.TheVariants as signs
 use Rattle.pegread.specs.Definitions.{firsts, id_in}
 use Rattle.pegread.specs.Kinds.{is_end}
 use Rattle.pegread.specs.Pattern.{Pattern, Rule, body_of}

@@ -1,6 +1,6 @@
 -- The phrases of the code.
 use Rattle.pegread.specs.declared.kind.Kind.{Kind}
-use Rattle.picture.specs.ToldPhrases as told
+use Rattle.diagnostics.specs.ToldPhrases as told
 use Rattle.pegexplain.specs.declared.phrases.Phrase.{Phrase}
 
 -- what the code's phrase stands for

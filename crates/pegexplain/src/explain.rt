@@ -2,9 +2,9 @@
 ghost use Rattle.std.specs.Prelude.{◌≡◌, ℕ, ◌≤◌, ◌++◌, List, true, length, map, codes, OnOk, IfOk};
 ghost use Rattle.lexer.specs.TokenLists.{tok_of};
 ghost use Rattle.lexer.specs.declared.limits.TheConstants.{MAX_GRAMMAR, MAX_OPEN};
-ghost use Rattle.picture.specs.FactRows.{row_of};
-ghost use Rattle.picture.specs.PhraseLists.{listed};
-ghost use Rattle.picture.specs.ToldPhrases.{AreTold};
+ghost use Rattle.diagnostics.specs.FactRows.{row_of};
+ghost use Rattle.diagnostics.specs.PhraseLists.{listed};
+ghost use Rattle.diagnostics.specs.ToldPhrases.{AreTold};
 ghost use Rattle.pegread.specs.Reading.{IsFaultOf};
 ghost use Rattle.pegexplain.specs.PegDecisions.{NoneDecides};
 ghost use Rattle.pegexplain.specs.PegExpected.{phrases};
@@ -14,9 +14,9 @@ ghost use Rattle.pegexplain.specs.PegStands.{allows};
 use crate::deciding_token::{Decision, deciding_token};
 use crate::phrases::told_phrases;
 use crate::stand::Place;
+use diagnostics::{Fact, push_fact, push_phrases, push_place};
 use lexer::{Token, tokens_make_up};
 use pegread::Kind;
-use picture::{Fact, push_fact, push_phrases, push_place};
 use ruletable::{LineRule, Memory, ReadFault};
 use std::alloc::Global;
 

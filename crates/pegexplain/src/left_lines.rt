@@ -2,7 +2,7 @@
 ghost use Rattle.std.specs.Prelude.{◌≡◌, ◌++◌, ◌∷◌, map, IfOk, OnOk, option_map, slice_get, slice_index_or, true};
 ghost use Rattle.pegread.specs.CanonMembers.{member_text as member, members_text as all_members};
 ghost use Rattle.pegread.specs.PegViews.{pattern_of, patterns, rules_of};
-ghost use Rattle.noteplaces.specs.MentionLines.{mention_lines_by};
+ghost use Rattle.diagnostics.specs.MentionLines.{mention_lines_by};
 ghost use Rattle.pegexplain.specs.FoundUses.{use_found};
 ghost use Rattle.pegexplain.specs.LeftLines.{is_left_use, line_of_first, skipped_if, skipped_told, step_between};
 ghost use Rattle.pegexplain.specs.LeftLines.{step_line, steps_told};
@@ -12,9 +12,8 @@ ghost use Rattle.pegexplain.specs.NullTests.{null_mark_of, nullable_by};
 use crate::left_uses::{Use, add_uses};
 use crate::places::PegPlaces;
 use crate::skipped::skipped_before;
-use noteplaces::{MentionKind, mention_lines, push_more};
+use diagnostics::{MentionKind, mention_lines, push_cut, push_more, push_number};
 use pegread::{Expr, print_member};
-use picture::{push_cut, push_number};
 use ruletable::{Memory, SinkOf};
 use std::alloc::Global;
 

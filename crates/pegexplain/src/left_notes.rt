@@ -1,13 +1,13 @@
 //! What stands behind a note on a left-recursive rule.
 ghost use Rattle.std.specs.Prelude.{◌≡◌, ◌<◌, ◌++◌, ℕ, List, Option, None, map, length, OnOk, option_map};
-ghost use Rattle.noteplaces.specs.ExplainedNotes.{told_by};
-ghost use Rattle.noteplaces.specs.MentionLines.{mention_lines_by};
-ghost use Rattle.noteplaces.specs.declared.mentions.MentionKind.TheVariants.{Use};
+ghost use Rattle.diagnostics.specs.ExplainedNotes.{told_by};
+ghost use Rattle.diagnostics.specs.MentionLines.{mention_lines_by};
+ghost use Rattle.diagnostics.specs.declared.noteplaces.mentions.MentionKind.TheVariants.{Use};
 ghost use Rattle.pegread.specs.PegViews.{pattern_of, rules_of};
 ghost use Rattle.ruletable.specs.Notes.{said};
 ghost use Rattle.ruletable.specs.Rules.{find_in};
 ghost use Rattle.ruletable.specs.declared.note.NoteKind.TheVariants.{Unused};
-ghost use Rattle.stepchains.specs.ShortChains.{IsRoundIfAny};
+ghost use Rattle.shortestpaths.specs.ShortChains.{IsRoundIfAny};
 ghost use Rattle.pegexplain.specs.LeftLines.{way_told};
 ghost use Rattle.pegexplain.specs.LeftNotes.{is_early as among_the_first, set_before};
 ghost use Rattle.pegexplain.specs.LeftUses.{left_row};
@@ -19,7 +19,7 @@ use crate::left_uses::left_rows;
 use crate::nulls::mark_at;
 use crate::places::PegPlaces;
 use crate::ways::left_way;
-use noteplaces::explain_note;
+use diagnostics::explain_note;
 use ruletable::{Memory, Note, NoteKind};
 use std::alloc::Global;
 

@@ -1,6 +1,6 @@
 //! To which rules left steps lead from each rule.
 ghost use Rattle.std.specs.Prelude.{◌≡◌, ◌++◌, ◌&&◌, true, map, IfOk, OnOk};
-ghost use Rattle.leastset.specs.StepRows.{rows_of};
+ghost use Rattle.fixpoint.specs.StepRows.{rows_of};
 ghost use Rattle.pegread.specs.PegViews.{pattern_of, patterns_of};
 ghost use Rattle.ruletable.specs.Rules.{find_in};
 ghost use Rattle.pegexplain.specs.FoundUses.{use_found};

@@ -7,8 +7,8 @@ ghost use Rattle.pegexplain.specs.PegLoops.{RepeatAt, repeat_line, repeat_told, 
 ghost use Rattle.pegexplain.specs.FoundRepeats.{repeat_found};
 
 use crate::nulls::is_loop;
+use diagnostics::{push_cut, push_number};
 use pegread::{Expr, print_expr};
-use picture::{push_cut, push_number};
 use ruletable::{Memory, RuleTable, SinkOf};
 use std::alloc::Global;
 

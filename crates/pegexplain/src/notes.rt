@@ -6,12 +6,12 @@ ghost use Rattle.pegexplain.specs.PegNotes.{ArePegPlaces, ExplainsNote, IsLineBe
 use crate::left_notes::push_left;
 use crate::loops::push_first_loop;
 use crate::places::PegPlaces;
+use diagnostics::{MentionKind, explain_note, mention_lines};
 use lexer::one_list;
-use noteplaces::{MentionKind, explain_note, mention_lines};
 use pegread::{Kind, one_reading};
 use ruletable::{Memory, Note, NoteKind};
+use shortestpaths::one_way_back;
 use std::alloc::Global;
-use stepchains::one_way_back;
 
 // Adds the line of the first repetition of what may take nothing in the rule of a name.
 fn push_loop(

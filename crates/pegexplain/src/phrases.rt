@@ -2,7 +2,7 @@
 ghost use Rattle.std.specs.Prelude.{◌≡◌, ◌≤◌, true, map, IfOk};
 ghost use Rattle.std.specs.List.{list_all, list_any};
 ghost use Rattle.lexer.specs.declared.limits.TheConstants.{MAX_OPEN};
-ghost use Rattle.picture.specs.ToldPhrases.{AreTold, tells};
+ghost use Rattle.diagnostics.specs.ToldPhrases.{AreTold, tells};
 ghost use Rattle.pegexplain.specs.PegExpected.{phrases};
 ghost use Rattle.pegexplain.specs.PegStands.{allows};
 ghost use Rattle.pegexplain.specs.PhraseRows.{phrase_of};

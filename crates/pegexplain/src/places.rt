@@ -2,8 +2,8 @@
 ghost use Rattle.std.specs.Prelude.{◌≡◌, IfOk};
 ghost use Rattle.pegexplain.specs.PegNotes.{ArePegPlaces, IsPegRead, sign_of as the_sign};
 
+use diagnostics::{Places, Sign, Signs, places_of};
 use gramcheck::{left_recursive_rules, nullable_rules};
-use noteplaces::{Places, Sign, Signs, places_of};
 use pegread::{Expr, Kind, read_peg};
 use ruletable::{LineRule, Memory, NameCase, RuleTable};
 use std::alloc::Global;

@@ -1,12 +1,12 @@
 //! The way by which a left-recursive rule comes back to itself.
 ghost use Rattle.std.specs.Prelude.{◌≡◌, ◌<◌, length, IfOk, option_map};
-ghost use Rattle.leastset.specs.StepRows.{rows_of, AreStepsWithin};
-ghost use Rattle.stepchains.specs.ShortChains.{IsRoundIfAny};
+ghost use Rattle.fixpoint.specs.StepRows.{rows_of, AreStepsWithin};
+ghost use Rattle.shortestpaths.specs.ShortChains.{IsRoundIfAny};
 
-use leastset::slices;
+use fixpoint::slices;
 use ruletable::Memory;
+use shortestpaths::chains_from;
 use std::alloc::Global;
-use stepchains::chains_from;
 
 /// Returns the rules on the shortest way from one back to itself by left steps, the first at its beginning alone, if
 /// they lead back.

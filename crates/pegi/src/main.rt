@@ -1,9 +1,11 @@
 //! Runs a grammar in the syntax of peg(1) on its standard input.
 #![tactic(auto)]
 
-use commands::{pegi_command, refuse_invalid_utf8};
+mod run;
+
+use crate::run::pegi_main;
+use cli::{end_without_memory, pegi_command, refuse_invalid_utf8, words_of};
 use feed::SourceOf;
-use mains::{end_without_memory, pegi_main, words_of};
 use ruletable::SinkOf;
 use std::io::{BufReader, BufWriter, ErrorKind};
 use std::process::ExitCode;

@@ -7,3 +7,9 @@ mod PrintedTextExamples
 pub mod RuleGivesLemmas
 pub mod TurnsOnLemmas
 pub mod WrittenTextLemmas
+pub mod NodeGivesLemmas
+pub mod GivesLemmas
+pub mod AsksLemmas
+pub mod VisitsLemmas
+pub mod LookedLemmas
+pub mod CodeLemmas

@@ -2,3 +2,5 @@ pub mod Answers
 pub mod KeptEvents
 pub mod Text
 pub mod EventPrinting
+pub mod Visits
+pub mod CellOutcomes

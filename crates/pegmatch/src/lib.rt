@@ -9,6 +9,7 @@ mod matcher;
 mod matching;
 mod plain;
 mod replay;
+mod visits;
 mod writing;
 
 pub use event::Kept;

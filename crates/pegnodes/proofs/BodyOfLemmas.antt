@@ -8,7 +8,7 @@ use Rattle.std.proofs.lemmas.Option.{slice_get_within, slice_get-get_or, slice_g
 use Rattle.pegread.specs.Pattern.{Pattern, Rule, body_of}
 use Rattle.pegnodes.specs.Bodies.{AreBodies}
 use Rattle.pegnodes.specs.Nodes.{Shape, Spells, id_of}
-use Rattle.leastset.proofs.ContainsLemmas.{none_of, only_one}
+use Rattle.fixpoint.proofs.ContainsLemmas.{none_of, only_one}
 
 abbrev pub bodies_of : List Rule → List Pattern
 bodies_of rules = map (λ rule. rule.body) rules

@@ -6,8 +6,8 @@ use Rattle.std.specs.Prelude.{slice_get, option_to_list, option_map}
 use Rattle.std.proofs.lemmas.Option.{slice_get_within, slice_get-map, get_or_from_slice_get}
 use Rattle.std.proofs.lemmas.Bool.{ltb-true}
 use Rattle.std.proofs.lemmas.List.{length-map, get_or_default}
-use Rattle.leastset.specs.Demands.{Demand, All, One, AreNeedsWithin, row_of}
-use Rattle.leastset.specs.Least.{Comes, by_all, by_one}
+use Rattle.fixpoint.specs.Demands.{Demand, All, One, AreNeedsWithin, row_of}
+use Rattle.fixpoint.specs.Least.{Comes, by_all, by_one}
 use Rattle.pegnodes.specs.KeyLists.{marks_of, node_marks, tail_marks, tails_of}
 use Rattle.pegnodes.specs.KeyMarks.{AreMarks, IsPlain, IsLoop, Single, single_root, single_below, WayNames}
 use Rattle.pegnodes.specs.KeyMarks.{WayNamesOnce}

@@ -8,8 +8,8 @@ use Rattle.pegnodes.specs.Nodes as node
 use Rattle.pegnodes.specs.Nodes.{Shape, id_of, Spells, spells_any, spells_bytes, spells_set, spells_name, spells_seq}
 use Rattle.pegnodes.specs.Nodes.{spells_choice, spells_star, spells_plus, spells_opt, spells_and, spells_not}
 use Rattle.pegnodes.specs.Nodes.{spells_act, spells_open, spells_close, SpellAll, spell_none, spell_more}
-use Rattle.leastset.proofs.ContainsLemmas.{cons_cases}
-use Rattle.leastset.proofs.AtLemmas.{at_append_left}
+use Rattle.fixpoint.proofs.ContainsLemmas.{cons_cases}
+use Rattle.fixpoint.proofs.AtLemmas.{at_append_left}
 use Rattle.pegnodes.specs.Within.{Within, WithinSome, itself, of_seq, of_choice, of_star, of_plus, of_opt, of_and}
 use Rattle.pegnodes.specs.Within.{of_not, of_first, of_later}
 

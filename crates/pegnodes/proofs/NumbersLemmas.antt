@@ -19,7 +19,7 @@ use Rattle.pegnodes.specs.Nodes.{Shape, Star, Plus, shape_of, shapes_of, Spells,
 use Rattle.pegnodes.specs.Nodes.{spell_none, spell_more}
 use Rattle.pegnodes.specs.Numbering.{Numbers, NumbersAll, SpellsPart}
 use Rattle.pegnodes.specs.Within.{Within, WithinSome, itself, of_star, of_plus, of_first, of_later}
-use Rattle.leastset.proofs.AtLemmas.{at_push, at_append_left}
+use Rattle.fixpoint.proofs.AtLemmas.{at_push, at_append_left}
 use Rattle.pegnodes.proofs.NodeListsLemmas.{all_nodes_push, numbers_push}
 use Rattle.pegnodes.proofs.PushCasesLemmas.{push_cases}
 use Rattle.pegnodes.proofs.NodeSpellsLemmas.{still_spells, still_spell_all, is_there, are_there}

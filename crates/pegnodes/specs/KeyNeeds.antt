@@ -1,7 +1,7 @@
 -- What shows that a node needs no mark of a key.
 use Rattle.std.specs.Prelude.{◌≡◌, ◌⊎◌, ℕ, Bool, List, [], slice_get, get_or, Option, Some, None, Contains}
-use Rattle.leastset.specs.Demands.{Demand, All, One}
-use Rattle.leastset.specs.NumberMarks.{IsMarked}
+use Rattle.fixpoint.specs.Demands.{Demand, All, One}
+use Rattle.fixpoint.specs.NumberMarks.{IsMarked}
 use Rattle.pegnodes.specs.KeyMarks.{Single}
 use Rattle.pegnodes.specs.Namers.{AreNamers, name_rows}
 use Rattle.pegnodes.specs.Nodes.{Shape, Star}

@@ -1,8 +1,8 @@
 //! Which nodes, and which tails of sequences, may be asked for twice at a place.
 ghost use Rattle.std.specs.Prelude.{◌≡◌, ◌⊎◌, ◌↔◌, ◌<◌, ℕ, true, false, List, length, [], slice_get, get_or};
 ghost use Rattle.std.specs.Prelude.{Contains, Some, IfOk};
-ghost use Rattle.leastset.specs.Demands.{demand_of, demands_of, row_of, One};
-ghost use Rattle.leastset.specs.NumberMarks.{IsMarked};
+ghost use Rattle.fixpoint.specs.Demands.{demand_of, demands_of, row_of, One};
+ghost use Rattle.fixpoint.specs.NumberMarks.{IsMarked};
 ghost use Rattle.pegnodes.specs.KeyLists.{marks_of, node_marks, tail_marks, tails_of};
 ghost use Rattle.pegnodes.specs.KeyMarks.{AreMarks, IsPlain, IsLoop};
 ghost use Rattle.pegnodes.specs.KeyNeeds.{IsGoing, GoesOnce, MayBePlain, MayBeLoop, AreKnown, Justifies, AreJustified};
@@ -13,7 +13,7 @@ ghost use Rattle.pegnodes.specs.NodeWays.{way_of};
 use crate::namers::{Namer, namer_of, namers};
 use crate::node::Node;
 use crate::widths::{width_of, widths};
-use leastset::{Need, least};
+use fixpoint::{Need, least};
 use ruletable::Memory;
 use std::alloc::Global;
 use std::slice::from_ref;

@@ -30,13 +30,13 @@ use Rattle.toolrun.specs.declared.ending.Ending.TheVariants.{Plain, Explained, U
 use Rattle.toolrun.specs.declared.stop.Stop.TheVariants.{Quiet, NoMatch, LongUnit, LongLine, Broken, NoMemory, Refused}
 use Rattle.toolrun.specs.declared.stop.Stop.TheVariants.{Unreadable}
 use Rattle.toolrun.proofs.StopsAsLemmas.{run_told, did_not_tell}
-use Rattle.matchexplain.specs.NoMatchLines.{long_unit_lines}
-use Rattle.matchexplain.specs.NoMatches.{IsNoMatchTold, unit_before}
+use Rattle.matchfailure.specs.NoMatchLines.{long_unit_lines}
+use Rattle.matchfailure.specs.NoMatches.{IsNoMatchTold, unit_before}
 use Rattle.pegrun.specs.PastUnits.{EndsBehind, LinesBehind}
 use Rattle.pegrun.specs.StopsExplained.{MayLack, StopLines, TellsNothing, UnitBefore, WhyStopped, one_before}
 use Rattle.pegrun.specs.declared.past.Past.{Past}
-use Rattle.matchexplain.specs.InputPlaces.{place_behind}
-use Rattle.matchexplain.specs.declared.place.TextPlace.{TextPlace}
+use Rattle.matchfailure.specs.InputPlaces.{place_behind}
+use Rattle.matchfailure.specs.declared.explain.place.TextPlace.{TextPlace}
 use Rattle.pegrun.proofs.FollowsLemmas.{unit_at_byte}
 use Rattle.toolrun.proofs.ExplainedIfLemmas.{if_asked, if_not_asked}
 use Rattle.pegrun.proofs.WhyStoppedLemmas.{no_lines, some_told}

@@ -5,9 +5,9 @@ use Rattle.std.proofs.Common.{subst, arith, length-append, length-take, append_a
 use Rattle.std.proofs.Common.{Vec, Global}
 use Rattle.std.specs.Prelude.{Result, Ok, Err, IfOk}
 use Rattle.ruletable.specs.declared.memory.Memory.{Memory}
-use Rattle.matchexplain.specs.NoMatches.{IsNoMatchTold, unit_before}
-use Rattle.matchexplain.specs.InputPlaces.{place_behind}
-use Rattle.matchexplain.specs.declared.place.TextPlace.{TextPlace}
+use Rattle.matchfailure.specs.NoMatches.{IsNoMatchTold, unit_before}
+use Rattle.matchfailure.specs.InputPlaces.{place_behind}
+use Rattle.matchfailure.specs.declared.explain.place.TextPlace.{TextPlace}
 use Rattle.pegread.specs.Pattern.{Rule}
 use Rattle.pegrun.specs.PastUnits.{EndsBehind, Follows, IsEndingWith}
 use Rattle.pegrun.specs.StopsExplained.{UnitBefore, none_before}

@@ -6,7 +6,7 @@ use Rattle.pegread.specs.Pattern.{Rule}
 use Rattle.gramcheck.specs.Outcome.{Outcome, Fails, Takes, RuleGives}
 use Rattle.gramcheck.proofs.StartRuleLemmas.{same_of_start}
 use Rattle.toolrun.specs.Input.{Input}
-use Rattle.matchexplain.specs.NoMatches.{IsNoMatchTold}
+use Rattle.matchfailure.specs.NoMatches.{IsNoMatchTold}
 use Rattle.pegrun.specs.PegReply.{PlainReplies, Replies}
 use Rattle.pegrun.specs.StopsExplained.{StopLines, UnitBefore, WhyStopped, none_before, one_before}
 use Rattle.toolrun.specs.Reply.{Reply, explained_reply}

@@ -4,7 +4,7 @@ use Rattle.std.proofs.Common.{◌≡◌, ℕ, List}
 use Rattle.std.specs.Prelude.{Some}
 use Rattle.gramcheck.specs.Grammar.{Grammar}
 use Rattle.pegexplain.specs.PegNotes.{ExplainsNote}
-use Rattle.peghints.specs.PegHints.{ArePegHints}
+use Rattle.pegexplain.specs.PegHints.{ArePegHints}
 use Rattle.pegread.specs.PegViews.{rules_of}
 use Rattle.pegrun.specs.Answers.{States, runs}
 use Rattle.pegrun.specs.OpenPeg.{IsPegOpened}

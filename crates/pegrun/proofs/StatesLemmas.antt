@@ -16,7 +16,7 @@ use Rattle.gramcheck.specs.GrammarNotes.{names_at}
 use Rattle.gramcheck.proofs.AreNotesLemmas.{notes-one, those-one}
 use Rattle.pegexplain.specs.PegExplained.{Explains}
 use Rattle.pegexplain.specs.PegNotes.{ExplainsNote}
-use Rattle.peghints.specs.PegHints.{ArePegHints}
+use Rattle.pegexplain.specs.PegHints.{ArePegHints}
 use Rattle.pegrun.specs.Answers.{States, refused, unexplained, noted, checked, runs, cut_notes, again}
 use Rattle.pegrun.specs.Answers.{cut_again, printed, no_memory}
 use Rattle.pegrun.specs.Noted.{AreNotesOn, AreAgain, start_given}

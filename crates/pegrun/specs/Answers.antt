@@ -8,7 +8,7 @@ use Rattle.pegread.specs.Pattern.{Rule}
 use Rattle.pegread.specs.Reading.{Reads, IsFaultOf}
 use Rattle.pegexplain.specs.PegExplained.{Explains}
 use Rattle.pegexplain.specs.PegNotes.{ExplainsNote}
-use Rattle.peghints.specs.PegHints.{ArePegHints}
+use Rattle.pegexplain.specs.PegHints.{ArePegHints}
 use Rattle.gramcheck.specs.Checked.{is_refused, IsStart}
 use Rattle.toolrun.specs.Explained.{Explained}
 use Rattle.toolrun.specs.Input.{Input}

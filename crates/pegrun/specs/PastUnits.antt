@@ -2,9 +2,9 @@
 use Rattle.std.specs.Prelude.{◌≡◌, ℕ, ◌+◌, ◌≤◌, ◌++◌, false, List, [], length, Result, Ok, Err}
 use Rattle.std.proofs.Common.{Vec, Global}
 use Rattle.pegread.specs.Pattern.{Rule}
-use Rattle.matchexplain.specs.NoMatchLines.{long_unit_lines}
-use Rattle.matchexplain.specs.NoMatches.{IsNoMatchTold, unit_before}
-use Rattle.matchexplain.specs.InputPlaces.{place_behind}
+use Rattle.matchfailure.specs.NoMatchLines.{long_unit_lines}
+use Rattle.matchfailure.specs.NoMatches.{IsNoMatchTold, unit_before}
+use Rattle.matchfailure.specs.InputPlaces.{place_behind}
 use Rattle.ruletable.specs.declared.memory.Memory.{Memory}
 use Rattle.pegrun.specs.StopsExplained.{HasLines}
 use Rattle.pegrun.specs.declared.past.Past.{Past}

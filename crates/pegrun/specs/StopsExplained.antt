@@ -1,9 +1,9 @@
 -- What explains how a run ends.
 use Rattle.std.specs.Prelude.{◌≡◌, ℕ, ◌+◌, ◌<◌, ⊤, true, List, [], take, Option, Some, None}
 use Rattle.pegread.specs.Pattern.{Rule}
-use Rattle.matchexplain.specs.NoMatchLines.{long_unit_lines}
-use Rattle.matchexplain.specs.NoMatches.{IsNoMatchTold}
-use Rattle.matchexplain.specs.InputPlaces.{place_behind}
+use Rattle.matchfailure.specs.NoMatchLines.{long_unit_lines}
+use Rattle.matchfailure.specs.NoMatches.{IsNoMatchTold}
+use Rattle.matchfailure.specs.InputPlaces.{place_behind}
 use Rattle.pegrun.specs.Units.{IsUnit, Units, taken_at}
 use Rattle.toolrun.specs.Explained.{Explained}
 use Rattle.toolrun.specs.Input.{Input}

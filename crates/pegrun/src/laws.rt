@@ -11,9 +11,8 @@ ghost use Rattle.toolrun.specs.Explained.{IsLongReply};
 ghost use Rattle.toolrun.specs.Reply.{Reply};
 ghost use Rattle.toolrun.specs.declared.settings.Settings.{Settings};
 
-use matchexplain::one_no_match;
-use pegexplain::{one_explanation, one_note_explanation};
-use peghints::one_text_of_hints;
+use matchfailure::one_no_match;
+use pegexplain::{one_explanation, one_note_explanation, one_text_of_hints};
 use pegread::one_reading;
 
 /// Says that a list of rules, a start rule and settings have at most one reply to an input.

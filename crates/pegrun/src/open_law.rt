@@ -2,7 +2,7 @@
 ghost use Rattle.std.specs.Prelude.{◌≡◌, ℕ, List, Some};
 ghost use Rattle.gramcheck.specs.Grammar.{Grammar};
 ghost use Rattle.pegexplain.specs.PegNotes.{ExplainsNote};
-ghost use Rattle.peghints.specs.PegHints.{ArePegHints};
+ghost use Rattle.pegexplain.specs.PegHints.{ArePegHints};
 ghost use Rattle.pegread.specs.PegViews.{rules_of};
 ghost use Rattle.pegrun.specs.Answers.{States};
 ghost use Rattle.pegrun.specs.OpenPeg.{IsPegOpened};

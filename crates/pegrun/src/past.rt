@@ -1,14 +1,14 @@
 //! What a run that is to be explained keeps of its input, and how it is explained.
 ghost use Rattle.std.specs.Prelude.{◌≡◌, ℕ, ◌+◌, ◌^◌, ◌<◌, ◌≤◌, ◌++◌, [], List, IfOk, length, take, true, false};
 ghost use Rattle.feed.specs.Feed.{SameFeed, bytes_of};
-ghost use Rattle.matchexplain.specs.NoMatches.{IsNoMatchTold, unit_before};
-ghost use Rattle.matchexplain.specs.InputPlaces.{place_behind};
+ghost use Rattle.matchfailure.specs.NoMatches.{IsNoMatchTold, unit_before};
+ghost use Rattle.matchfailure.specs.InputPlaces.{place_behind};
 ghost use Rattle.pegread.specs.PegViews.{rules_of};
 ghost use Rattle.pegrun.specs.PastUnits.{EndsBehind, Follows, IsEndingWith};
 
 use feed::{Feed, Source};
 use gramcheck::SoundPeg;
-use matchexplain::{TextPlace, explain_long_unit, explain_no_match};
+use matchfailure::{TextPlace, explain_long_unit, explain_no_match};
 use ruletable::Memory;
 use std::alloc::Global;
 use toolrun::{Ending, Settings, Stop, ToldRefusals};

@@ -1,7 +1,7 @@
 //! The language of peg(1), whose grammars are run on units of an input.
 ghost use Rattle.pegexplain.specs.PegExplained.{Explains};
 ghost use Rattle.pegexplain.specs.PegNotes.{ArePegPlaces, ExplainsNote};
-ghost use Rattle.peghints.specs.PegHints.{ArePegHints};
+ghost use Rattle.pegexplain.specs.PegHints.{ArePegHints};
 ghost use Rattle.pegread.specs.Canon.{grammar_text};
 ghost use Rattle.pegread.specs.PegViews.{rules_of};
 ghost use Rattle.pegread.specs.Reading.{IsFaultOf};
@@ -13,8 +13,7 @@ use crate::engine::run_units;
 use feed::Source;
 use gramcheck::{SoundPeg, check_peg, redefinitions};
 use packrat::Packrat;
-use pegexplain::{PegPlaces, explain_fault, explain_peg_note, peg_places};
-use peghints::peg_hints;
+use pegexplain::{PegPlaces, explain_fault, explain_peg_note, peg_hints, peg_places};
 use pegread::{Peg, print_peg, read_peg};
 use ruletable::{Memory, Note, ReadFault, Sink, WriteFault};
 use std::alloc::Global;

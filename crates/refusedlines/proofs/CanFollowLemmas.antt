@@ -19,9 +19,9 @@ use Rattle.flatgrammar.specs.Places.{In}
 use Rattle.flatgrammar.specs.ToldBeginnings.{TellsBeginnings}
 use Rattle.flatgrammar.specs.Blocks.{spot}
 use Rattle.flatgrammar.specs.declared.block.Spot.{Spot}
-use Rattle.itemsets.specs.ChartSets.{AreSpotsOf, IsSet}
-use Rattle.letterruns.specs.LetterRuns.{AreApartFrom, RunsHave}
-use Rattle.letterruns.specs.declared.run.LetterRun.{LetterRun}
+use Rattle.earleyitems.specs.ChartSets.{AreSpotsOf, IsSet}
+use Rattle.refusedlines.specs.LetterRuns.{AreApartFrom, RunsHave}
+use Rattle.refusedlines.specs.declared.letterruns.run.LetterRun.{LetterRun}
 use Rattle.refusedlines.specs.Following.{AreFollowing}
 use Rattle.refusedlines.specs.ReadLetters.{SpotReads, SpotsRead, read_by}
 

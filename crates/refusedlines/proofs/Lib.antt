@@ -2,3 +2,5 @@ pub mod ReadLettersLemmas
 pub mod CanFollowLemmas
 pub mod RefusalLemmas
 pub mod OneRefusalLemmas
+pub mod LetterRunLemmas
+pub mod ToldTextLemmas

@@ -10,8 +10,8 @@ use Rattle.flatgrammar.specs.Places.{In}
 use Rattle.flatgrammar.specs.declared.block.Spot.{Spot}
 use Rattle.letters.specs.Letters.{has}
 use Rattle.letters.specs.declared.alphabet.Alphabet.{Alphabet}
-use Rattle.letterruns.specs.LetterRuns.{RunsHave}
-use Rattle.letterruns.specs.declared.run.LetterRun.{LetterRun}
+use Rattle.refusedlines.specs.LetterRuns.{RunsHave}
+use Rattle.refusedlines.specs.declared.letterruns.run.LetterRun.{LetterRun}
 use Rattle.refusedlines.specs.ReadLetters.{GainLetters, SpotReads, SpotsRead}
 
 module _ (alphabet : Alphabet) (flat : Flat) (spots : List Spot) where

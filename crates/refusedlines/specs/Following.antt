@@ -3,8 +3,8 @@ use Rattle.std.specs.Prelude.{◌≡◌, ℕ, ◌+◌, ◌↔◌, Bool, true, Li
 use Rattle.abnfread.specs.Element.{Rule}
 use Rattle.abnfcheck.specs.Beginnings.{BeginsMember}
 use Rattle.abnfcheck.specs.Derivable.{AreLetters, RuleDerives}
-use Rattle.letterruns.specs.LetterRuns.{AreApartFrom, RunsHave}
-use Rattle.letterruns.specs.declared.run.LetterRun.{LetterRun}
+use Rattle.refusedlines.specs.LetterRuns.{AreApartFrom, RunsHave}
+use Rattle.refusedlines.specs.declared.letterruns.run.LetterRun.{LetterRun}
 
 -- the letter c can: the first n letters of x, with c behind them, begin a list that the rule of that id derives
 pub record CanFollow (has : ℕ → Bool) (rules : List Rule) (id : ℕ) (x : List ℕ) (n c : ℕ) : Type 0 where

@@ -2,3 +2,5 @@ pub mod Following
 pub mod ReadLetters
 pub mod RefusedText
 pub mod Refusals
+pub mod LetterRuns
+pub mod ToldLetters

@@ -4,8 +4,8 @@ use Rattle.flatgrammar.specs.Flat.{Flat, Node, Set}
 use Rattle.flatgrammar.specs.NodeSteps.{IfSomeSet, read_at}
 use Rattle.flatgrammar.specs.Places.{In}
 use Rattle.flatgrammar.specs.declared.block.Spot.{Spot}
-use Rattle.letterruns.specs.LetterRuns.{RunsHave}
-use Rattle.letterruns.specs.declared.run.LetterRun.{LetterRun}
+use Rattle.refusedlines.specs.LetterRuns.{RunsHave}
+use Rattle.refusedlines.specs.declared.letterruns.run.LetterRun.{LetterRun}
 
 -- the set that a step of a node reads, if there is such a node
 abbrev pub read_by : Option Node → ℕ → Option Set

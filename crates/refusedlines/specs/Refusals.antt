@@ -7,7 +7,7 @@ use Rattle.letters.specs.Letters.{has}
 use Rattle.letters.specs.Utf8Text.{IsLongestText, Spells}
 use Rattle.letters.specs.declared.alphabet.Alphabet.{Alphabet}
 use Rattle.letters.specs.declared.alphabet.Alphabet.TheVariants.{Bytes, Utf8}
-use Rattle.letterruns.specs.declared.run.LetterRun.{LetterRun}
+use Rattle.refusedlines.specs.declared.letterruns.run.LetterRun.{LetterRun}
 use Rattle.refusedlines.specs.Following.{AreFollowing}
 use Rattle.refusedlines.specs.RefusedText.{refusal_text, refused_at}
 

@@ -1,9 +1,9 @@
 -- The lines that explain a refused line.
 use Rattle.std.specs.Prelude.{ℕ, ◌+◌, nat_lt, Bool, true, false, if◌then◌else◌, List, [], ◌∷◌, ◌++◌, codes, decimal}
-use Rattle.letterruns.specs.ToldLetters.{expected_text}
-use Rattle.letterruns.specs.declared.run.LetterRun.{LetterRun}
-use Rattle.picture.specs.Pictures.{picture}
-use Rattle.picture.specs.ShownBytes.{cut}
+use Rattle.refusedlines.specs.ToldLetters.{expected_text}
+use Rattle.refusedlines.specs.declared.letterruns.run.LetterRun.{LetterRun}
+use Rattle.diagnostics.specs.Pictures.{picture}
+use Rattle.diagnostics.specs.ShownBytes.{cut}
 use Rattle.refusedlines.specs.declared.refusal.RefusedAt.{RefusedAt}
 use Rattle.refusedlines.specs.declared.refusal.RefusedAt.TheVariants.{Letter, NoText, End}
 

@@ -4,13 +4,13 @@ ghost use Rattle.abnfread.specs.Element.{Rule};
 ghost use Rattle.abnfcheck.specs.Beginnings.{IsFurthest};
 ghost use Rattle.flatgrammar.specs.ToldBeginnings.{TellsBeginnings};
 ghost use Rattle.letters.specs.Letters.{has};
-ghost use Rattle.letterruns.specs.declared.run.LetterRun.{LetterRun as the_run};
+ghost use Rattle.refusedlines.specs.declared.letterruns.run.LetterRun.{LetterRun as the_run};
 ghost use Rattle.refusedlines.specs.Following.{AreFollowing};
 
+use crate::letterruns::{LetterRun, runs_are_one};
 use crate::read_letters::letters_read;
 use earley::{Chart, judge, viable};
 use flatgrammar::{Flat, Verdict, values_are_letters};
-use letterruns::{LetterRun, runs_are_one};
 use letters::Letter;
 use ruletable::Memory;
 use std::alloc::Global;

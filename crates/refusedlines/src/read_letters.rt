@@ -4,11 +4,11 @@ ghost use Rattle.flatgrammar.specs.Flat.{EitherCase, Has};
 ghost use Rattle.flatgrammar.specs.FlatViews.{node_of, set_of};
 ghost use Rattle.flatgrammar.specs.NodeSteps.{IfSomeSet, read_at};
 ghost use Rattle.letters.specs.Letters.{has};
-ghost use Rattle.letterruns.specs.LetterRuns.{AreApartFrom, IsSomeRun, RunsHave};
+ghost use Rattle.refusedlines.specs.LetterRuns.{AreApartFrom, IsSomeRun, RunsHave};
 ghost use Rattle.refusedlines.specs.ReadLetters.{GainLetters, SpotReads, SpotsRead};
 
+use crate::letterruns::{LetterRun, merge_runs};
 use flatgrammar::{Flat, Node, Set, Spot};
-use letterruns::{LetterRun, merge_runs};
 use letters::Alphabet;
 use ruletable::Memory;
 use std::alloc::Global;

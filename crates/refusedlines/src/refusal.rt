@@ -4,8 +4,8 @@ ghost use Rattle.refusedlines.specs.RefusedText.{at_text, told_expected, nothing
 ghost use Rattle.refusedlines.specs.RefusedText.{refusal_text};
 
 use crate::following::Following;
-use letterruns::push_expected;
-use picture::{LineAround, push_cut, push_number, push_picture};
+use crate::letterruns::push_expected;
+use diagnostics::{LineAround, push_cut, push_number, push_picture};
 use ruletable::Memory;
 use std::alloc::Global;
 

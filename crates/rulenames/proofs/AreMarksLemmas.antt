@@ -6,7 +6,7 @@ use Rattle.std.specs.Prelude.{Contains}
 use Rattle.std.specs.List.{list_any}
 use Rattle.std.proofs.lemmas.Bool.{both_ways, cases_Bool}
 use Rattle.std.proofs.lemmas.Bool.Decides.{eqb_tells}
-use Rattle.leastset.proofs.ContainsLemmas.{none_of, in_first, in_later, cons_cases}
+use Rattle.fixpoint.proofs.ContainsLemmas.{none_of, in_first, in_later, cons_cases}
 use Rattle.rulenames.specs.IdMarks.{AreMarks}
 
 -- ids in a list

@@ -1,6 +1,6 @@
 -- Marks on ids, one for each of the first ids, and what they choose of a list.
 use Rattle.std.specs.Prelude.{◌≡◌, ◌↔◌, ℕ, ◌<◌, Bool, true, false, List, [], ◌∷◌, length}
-use Rattle.leastset.specs.NumberMarks.{IsMarked}
+use Rattle.fixpoint.specs.NumberMarks.{IsMarked}
 
 -- those of a list that are marked
 abbrev pub chosen : {A : Type 0} → List Bool → List A → List A

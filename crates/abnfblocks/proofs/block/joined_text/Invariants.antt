@@ -1,5 +1,5 @@
 use Rattle.std.proofs.Common.{◌≡◌, map, take}
-use Rattle.rfctext.specs.TextLines.{numbered}
+use Rattle.abnfblocks.specs.TextLines.{numbered}
 use Rattle.abnfblocks.specs.TextBlocks.{block_text}
 use Rattle.abnfblocks.proofs.block.joined_text.Given as goal
 

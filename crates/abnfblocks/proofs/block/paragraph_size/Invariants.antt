@@ -1,6 +1,6 @@
 use Rattle.std.proofs.Common.{◌≡◌, ◌+◌, ◌-◌, ◌≤◌, length, map, drop}
 use Rattle.std.specs.List.{prefix_len}
-use Rattle.rfctext.specs.TextLines.{numbered}
+use Rattle.abnfblocks.specs.TextLines.{numbered}
 use Rattle.abnfblocks.specs.TextBlocks.{is_full_line, paragraph_size}
 use Rattle.abnfblocks.proofs.block.paragraph_size.Given as goal
 

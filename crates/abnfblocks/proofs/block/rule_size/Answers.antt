@@ -1,5 +1,5 @@
 use Rattle.std.proofs.Common.{not, arith, ap, sym, ◌∙◌}
-use Rattle.rfctext.specs.TextLines.{NumberedLine}
+use Rattle.abnfblocks.specs.TextLines.{NumberedLine}
 use Rattle.abnfblocks.specs.TextBlocks.{begins_rule_at}
 use Rattle.abnfblocks.proofs.FrontLinesLemmas.{one-passes, one-fails}
 use Rattle.abnfblocks.proofs.block.rule_size.Goals as goal

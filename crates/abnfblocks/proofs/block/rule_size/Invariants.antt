@@ -1,6 +1,6 @@
 use Rattle.std.proofs.Common.{◌≡◌, ◌+◌, ◌-◌, ◌≤◌, not, length, map, drop}
 use Rattle.std.specs.List.{prefix_len}
-use Rattle.rfctext.specs.TextLines.{numbered}
+use Rattle.abnfblocks.specs.TextLines.{numbered}
 use Rattle.abnfblocks.specs.TextBlocks.{begins_rule_at, rule_lines}
 use Rattle.abnfblocks.proofs.block.rule_size.Given as goal
 

@@ -1,5 +1,5 @@
 use Rattle.std.proofs.Common.{Bool, map, subst}
-use Rattle.rfctext.specs.TextLines.{numbered}
+use Rattle.abnfblocks.specs.TextLines.{numbered}
 use Rattle.abnfblocks.specs.FoundBlocks.{IsCutOutcome}
 use Rattle.abnfblocks.proofs.PieceLemmas.{no-cut, cut-outcome, nothing-is}
 use Rattle.abnfblocks.proofs.look.is_abnf_cut.Goals as goal

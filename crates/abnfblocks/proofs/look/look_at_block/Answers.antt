@@ -1,5 +1,5 @@
 use Rattle.std.proofs.Common.{arith, map}
-use Rattle.rfctext.specs.TextLines.{numbered}
+use Rattle.abnfblocks.specs.TextLines.{numbered}
 use Rattle.abnfblocks.proofs.PieceLemmas.{first-margin, first-paragraph, later-piece, first-piece, piece-none}
 use Rattle.abnfblocks.proofs.PieceLemmas.{none-more, none-beyond, cut-yes, cut-no}
 use Rattle.abnfblocks.proofs.look.look_at_block.Goals as goal

@@ -1,7 +1,7 @@
 -- The marks of each kind are exact.
 use Rattle.std.proofs.Common.{◌≤◌, ◌∙◌, ap, arith, length, map, not, subst, sym, take}
 use Rattle.std.proofs.lemmas.List.{length-map}
-use Rattle.leastset.proofs.RowsOfLemmas.{length-rows}
+use Rattle.fixpoint.proofs.RowsOfLemmas.{length-rows}
 use Rattle.rulenames.specs.IdMarks.{AreMarks}
 use Rattle.abnfread.specs.Element.{Rule}
 use Rattle.abnfcheck.specs.AbnfNotes.{judged_in, IsUnused}

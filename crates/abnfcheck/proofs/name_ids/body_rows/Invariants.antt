@@ -1,6 +1,6 @@
 -- The rows of the rules so far.
 use Rattle.std.proofs.Common.{◌≡◌, ℕ, List, ◌++◌, take}
-use Rattle.leastset.specs.StepRows.{rows_of}
+use Rattle.fixpoint.specs.StepRows.{rows_of}
 use Rattle.ruletable.specs.Rules.{names_of}
 use Rattle.ruletable.specs.declared.table.NameCase.TheVariants.{Fold}
 use Rattle.rulenames.specs.FirstUses.{news}

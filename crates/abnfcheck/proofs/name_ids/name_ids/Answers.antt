@@ -2,8 +2,8 @@
 use Rattle.std.proofs.Common.{◌∙◌, sym, arith}
 use Rattle.std.specs.Prelude.{option_copied, option_to_list}
 use Rattle.std.proofs.lemmas.List.{length-map}
-use Rattle.leastset.specs.StepRows.{rows_of}
-use Rattle.leastset.proofs.RowsOfLemmas.{length-rows}
+use Rattle.fixpoint.specs.StepRows.{rows_of}
+use Rattle.fixpoint.proofs.RowsOfLemmas.{length-rows}
 use Rattle.ruletable.specs.Rules.{names_of}
 use Rattle.abnfread.specs.AbnfViews.{rules_of}
 use Rattle.abnfcheck.specs.AbnfUses.{rule_names}

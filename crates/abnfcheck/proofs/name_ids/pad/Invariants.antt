@@ -1,6 +1,6 @@
 -- So many rows, those added empty.
 use Rattle.std.proofs.Common.{◌≡◌, ℕ, length}
-use Rattle.leastset.specs.StepRows.{rows_of, row_at}
+use Rattle.fixpoint.specs.StepRows.{rows_of, row_at}
 use Rattle.abnfcheck.proofs.name_ids.pad.Given as goal
 
 abbrev pub invariant-loop-n : goal.invariant-loop-n

@@ -1,7 +1,7 @@
 -- One more row.
 use Rattle.std.proofs.Common.{arith, subst, sym, ◌∙◌, Contains}
-use Rattle.leastset.specs.StepRows.{rows_of}
-use Rattle.leastset.proofs.RowsOfLemmas.{row_items, length-rows}
+use Rattle.fixpoint.specs.StepRows.{rows_of}
+use Rattle.fixpoint.proofs.RowsOfLemmas.{row_items, length-rows}
 use Rattle.abnfcheck.proofs.NameMarksLemmas.{targets_next}
 use Rattle.abnfcheck.proofs.name_marks.mark_targets.Goals as goal
 

@@ -1,7 +1,7 @@
 -- The targets of the rows so far are marked.
 use Rattle.std.proofs.Common.{◌≡◌, ◌↔◌, ◌⊎◌, ◌<◌, ℕ, length}
-use Rattle.leastset.specs.NumberMarks.{IsMarked}
-use Rattle.leastset.specs.StepRows.{Step, rows_of}
+use Rattle.fixpoint.specs.NumberMarks.{IsMarked}
+use Rattle.fixpoint.specs.StepRows.{Step, rows_of}
 use Rattle.abnfcheck.proofs.name_marks.mark_targets.Given as goal
 
 abbrev pub invariant-loop-row : goal.invariant-loop-row

@@ -1,6 +1,6 @@
 -- None of the marks so far is set.
 use Rattle.std.proofs.Common.{◌<◌, ℕ}
-use Rattle.leastset.specs.NumberMarks.{IsMarked}
+use Rattle.fixpoint.specs.NumberMarks.{IsMarked}
 use Rattle.abnfcheck.proofs.name_marks.some_set.Given as goal
 
 abbrev pub invariant-loop-mark : goal.invariant-loop-mark

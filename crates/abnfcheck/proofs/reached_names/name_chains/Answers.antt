@@ -1,5 +1,5 @@
 -- The rows are those of the graph of names.
-use Rattle.leastset.specs.StepRows.{rows_of}
+use Rattle.fixpoint.specs.StepRows.{rows_of}
 use Rattle.abnfread.specs.AbnfViews.{rules_of}
 use Rattle.abnfcheck.proofs.GraphLemmas.{steps_within}
 use Rattle.abnfcheck.proofs.reached_names.name_chains.Goals as goal

@@ -1,6 +1,6 @@
 -- The needs of the members so far.
 use Rattle.std.proofs.Common.{ℕ, Bool, take}
-use Rattle.leastset.specs.Demands.{owned_demands_of}
+use Rattle.fixpoint.specs.Demands.{owned_demands_of}
 use Rattle.abnfread.specs.AbnfViews.{elements_of, rules_of}
 use Rattle.abnfcheck.specs.RuleMarks.{AreNumbered, IsTestOf}
 use Rattle.abnfcheck.proofs.rule_marks.+needing.Given as goal

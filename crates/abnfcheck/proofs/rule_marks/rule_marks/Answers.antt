@@ -1,8 +1,8 @@
 -- The least set of the needs.
 use Rattle.std.proofs.Common.{◌≡◌, ◌∙◌, ap, subst, sym, arith, length}
 use Rattle.std.proofs.lemmas.List.{length-map}
-use Rattle.leastset.specs.Demands.{AreNeedsWithin, demand_of, demands_of, owned_demands_of}
-use Rattle.leastset.specs.Least.{AreMarksOfThose}
+use Rattle.fixpoint.specs.Demands.{AreNeedsWithin, demand_of, demands_of, owned_demands_of}
+use Rattle.fixpoint.specs.Least.{AreMarksOfThose}
 use Rattle.abnfread.specs.AbnfViews.{rules_of}
 use Rattle.abnfcheck.proofs.YieldsLemmas.{marks_for}
 use Rattle.abnfcheck.proofs.rule_marks.rule_marks.Goals as goal

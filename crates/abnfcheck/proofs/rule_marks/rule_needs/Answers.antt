@@ -1,7 +1,7 @@
 -- The needs of one more rule.
 use Rattle.std.proofs.Common.{arith}
 use Rattle.std.proofs.lemmas.List.{length-map, map-set}
-use Rattle.leastset.specs.Demands.{owned_demand_of, owned_demands_of}
+use Rattle.fixpoint.specs.Demands.{owned_demand_of, owned_demands_of}
 use Rattle.abnfread.specs.AbnfViews.{element_of, rule_of, rules_of}
 use Rattle.abnfcheck.proofs.NameIdsLemmas.{body_shown}
 use Rattle.abnfcheck.proofs.ElementNeedsLemmas.{next_rule, room_for_rule, some_test}

@@ -1,7 +1,7 @@
 -- The needs of the rules so far.
 use Rattle.std.proofs.Common.{ℕ, Bool}
 use Rattle.abnfcheck.specs.RuleMarks.{IsTestOf}
-use Rattle.leastset.specs.Demands.{owned_demands_of}
+use Rattle.fixpoint.specs.Demands.{owned_demands_of}
 use Rattle.abnfread.specs.AbnfViews.{rules_of}
 use Rattle.abnfcheck.proofs.ElementNeedsLemmas.{AreRuleNeeds}
 use Rattle.abnfcheck.proofs.rule_marks.rule_needs.Given as goal

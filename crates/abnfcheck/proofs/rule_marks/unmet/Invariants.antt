@@ -1,6 +1,6 @@
 -- So many needs that are never met.
 use Rattle.std.proofs.Common.{◌≡◌, [], replicate}
-use Rattle.leastset.specs.Demands.{One, owned_demands_of}
+use Rattle.fixpoint.specs.Demands.{One, owned_demands_of}
 use Rattle.abnfcheck.proofs.rule_marks.unmet.Given as goal
 
 abbrev pub invariant-loop : goal.invariant-loop

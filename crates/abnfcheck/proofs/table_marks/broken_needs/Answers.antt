@@ -1,9 +1,9 @@
 -- One more need.
 use Rattle.std.proofs.Common.{ap, sym, ◌+◌, ◌∙◌, subst}
 use Rattle.std.proofs.lemmas.List.{map-append}
-use Rattle.leastset.specs.Demands.{demand_of, demands_of}
-use Rattle.leastset.specs.StepRows.{rows_of}
-use Rattle.leastset.proofs.RowsOfLemmas.{row_items}
+use Rattle.fixpoint.specs.Demands.{demand_of, demands_of}
+use Rattle.fixpoint.specs.StepRows.{rows_of}
+use Rattle.fixpoint.proofs.RowsOfLemmas.{row_items}
 use Rattle.abnfcheck.specs.BrokenNeeds.{AreBrokenNeedsTo, broken_demand}
 use Rattle.abnfcheck.proofs.BrokenNeedsLemmas.{needs_next}
 use Rattle.abnfcheck.proofs.table_marks.broken_needs.Goals as goal

@@ -1,6 +1,6 @@
 -- The needs of the names so far.
-use Rattle.leastset.specs.Demands.{demands_of}
-use Rattle.leastset.specs.StepRows.{rows_of}
+use Rattle.fixpoint.specs.Demands.{demands_of}
+use Rattle.fixpoint.specs.StepRows.{rows_of}
 use Rattle.abnfcheck.specs.BrokenNeeds.{AreBrokenNeedsTo}
 use Rattle.abnfcheck.proofs.table_marks.broken_needs.Given as goal
 

@@ -1,9 +1,9 @@
 -- The marks on the names of the rules.
 use Rattle.std.proofs.Common.{◌≡◌, ◌∙◌, ap, length, sym}
 use Rattle.std.proofs.lemmas.List.{length-map}
-use Rattle.leastset.specs.Demands.{demands_of}
-use Rattle.leastset.specs.StepRows.{rows_of}
-use Rattle.leastset.proofs.RowsOfLemmas.{length-demands}
+use Rattle.fixpoint.specs.Demands.{demands_of}
+use Rattle.fixpoint.specs.StepRows.{rows_of}
+use Rattle.fixpoint.proofs.RowsOfLemmas.{length-demands}
 use Rattle.abnfread.specs.AbnfViews.{rule_of, rules_of}
 use Rattle.abnfcheck.proofs.BrokenNeedsLemmas.{needs_within, sound_marks}
 use Rattle.abnfcheck.proofs.GraphLemmas.{steps_within}

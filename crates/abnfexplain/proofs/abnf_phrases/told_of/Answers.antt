@@ -1,6 +1,6 @@
 use Rattle.std.proofs.Common.{sym, ◌∙◌}
 use Rattle.std.proofs.lemmas.List.{map-append}
-use Rattle.picture.proofs.PhraseLemmas.{row-told, row-barred, rest-ended}
+use Rattle.diagnostics.proofs.PhraseLemmas.{row-told, row-barred, rest-ended}
 use Rattle.abnfexplain.specs.AbnfPlaces.{place_allows}
 use Rattle.abnfexplain.specs.AbnfPhraseRows.{phrase_of}
 use Rattle.abnfexplain.proofs.abnf_phrases.told_of.Goals as goal

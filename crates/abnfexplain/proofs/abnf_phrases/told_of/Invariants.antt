@@ -1,5 +1,5 @@
 use Rattle.std.proofs.Common.{map}
-use Rattle.picture.proofs.PhraseLemmas.{TellsRest}
+use Rattle.diagnostics.proofs.PhraseLemmas.{TellsRest}
 use Rattle.abnfexplain.specs.AbnfPlaces.{place_allows}
 use Rattle.abnfexplain.specs.AbnfPhraseRows.{phrase_of}
 use Rattle.abnfexplain.proofs.abnf_phrases.told_of.Given as goal

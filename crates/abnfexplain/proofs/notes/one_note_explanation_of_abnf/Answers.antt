@@ -1,4 +1,4 @@
-use Rattle.noteplaces.proofs.ExplainedNoteLemmas.{explained-one}
+use Rattle.diagnostics.proofs.ExplainedNoteLemmas.{explained-one}
 use Rattle.abnfread.specs.AbnfKinds.{ends_list}
 use Rattle.abnfread.specs.AbnfSlices.{White, First}
 use Rattle.ruletable.specs.declared.lines.LineRule.TheVariants.{Lf}

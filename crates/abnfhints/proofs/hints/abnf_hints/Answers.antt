@@ -2,7 +2,7 @@
 use Rattle.std.proofs.Common.{map}
 use Rattle.abnfread.specs.AbnfViews.{rules_of}
 use Rattle.letters.specs.Letters.{has}
-use Rattle.noteplaces.specs.BodyMentions.{mentioned_at}
+use Rattle.diagnostics.specs.BodyMentions.{mentioned_at}
 use Rattle.abnfhints.proofs.AbnfHintsLemmas.{hints_by_places}
 use Rattle.abnfhints.proofs.ToldFirstLemmas.{three_from_nothing}
 use Rattle.abnfhints.proofs.hints.abnf_hints.Goals as goal

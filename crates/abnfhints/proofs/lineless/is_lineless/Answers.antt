@@ -1,6 +1,6 @@
 -- The marks of what is left.
 use Rattle.std.proofs.Common.{◌<◌, arith, length, refl}
-use Rattle.leastset.proofs.IsMarkedLemmas.{marked_lt}
+use Rattle.fixpoint.proofs.IsMarkedLemmas.{marked_lt}
 use Rattle.letters.specs.Letters.{has}
 use Rattle.abnfread.specs.AbnfViews.{rules_of}
 use Rattle.abnfhints.specs.LineEnds.{end_byte}

@@ -2,7 +2,7 @@
 use Rattle.std.proofs.Common.{◌≡◌, map, drop}
 use Rattle.std.specs.Prelude.{◌==◌}
 use Rattle.std.specs.List.{find}
-use Rattle.noteplaces.specs.DefinitionHeads.{defined_at}
+use Rattle.diagnostics.specs.DefinitionHeads.{defined_at}
 use Rattle.abnfhints.proofs.reversed.head_at.Given as goal
 
 abbrev pub invariant-loop-head : goal.invariant-loop-head

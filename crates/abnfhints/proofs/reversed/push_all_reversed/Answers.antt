@@ -1,7 +1,7 @@
 -- The first ones, and how many more there are.
 use Rattle.std.proofs.Common.{map}
-use Rattle.noteplaces.specs.BodyMentions.{mentioned_at}
-use Rattle.noteplaces.specs.DefinitionHeads.{defined_at}
+use Rattle.diagnostics.specs.BodyMentions.{mentioned_at}
+use Rattle.diagnostics.specs.DefinitionHeads.{defined_at}
 use Rattle.abnfhints.specs.AbnfHints.{reversed_told}
 use Rattle.abnfhints.proofs.ToldFirstLemmas.{first_join}
 use Rattle.abnfhints.proofs.reversed.push_all_reversed.Goals as goal

@@ -1,7 +1,7 @@
 -- One more range.
 use Rattle.std.proofs.Common.{map}
-use Rattle.noteplaces.specs.BodyMentions.{mentioned_at}
-use Rattle.noteplaces.specs.DefinitionHeads.{defined_at}
+use Rattle.diagnostics.specs.BodyMentions.{mentioned_at}
+use Rattle.diagnostics.specs.DefinitionHeads.{defined_at}
 use Rattle.abnfhints.specs.AbnfHints.{reversed_told}
 use Rattle.abnfhints.proofs.ToldFirstLemmas.{each_next}
 use Rattle.abnfhints.proofs.reversed.push_each_reversed.Goals as goal

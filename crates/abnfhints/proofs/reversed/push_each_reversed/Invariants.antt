@@ -2,8 +2,8 @@
 use Rattle.std.proofs.Common.{◌≡◌, ◌++◌, map, take}
 use Rattle.std.specs.List.{flat_map}
 use Rattle.abnfhints.specs.AbnfHints.{reversed_told}
-use Rattle.noteplaces.specs.BodyMentions.{mentioned_at}
-use Rattle.noteplaces.specs.DefinitionHeads.{defined_at}
+use Rattle.diagnostics.specs.BodyMentions.{mentioned_at}
+use Rattle.diagnostics.specs.DefinitionHeads.{defined_at}
 use Rattle.abnfhints.proofs.reversed.push_each_reversed.Given as goal
 
 abbrev pub invariant-loop-mention : goal.invariant-loop-mention

@@ -1,6 +1,6 @@
 -- The pieces.
 use Rattle.std.proofs.Common.{ap}
-use Rattle.picture.specs.ShownBytes.{cut}
+use Rattle.diagnostics.specs.ShownBytes.{cut}
 use Rattle.abnfhints.proofs.ToldFirstLemmas.{piece_same, seven_pieces}
 use Rattle.abnfhints.proofs.reversed.push_reversed.Goals as goal
 

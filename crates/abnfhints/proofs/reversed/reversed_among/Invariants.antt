@@ -1,7 +1,7 @@
 -- The reversed ranges so far.
 use Rattle.std.proofs.Common.{map, take}
 use Rattle.abnfhints.specs.AbnfHints.{AreReversed}
-use Rattle.noteplaces.specs.BodyMentions.{mentioned_at}
+use Rattle.diagnostics.specs.BodyMentions.{mentioned_at}
 use Rattle.abnfhints.proofs.reversed.reversed_among.Given as goal
 
 abbrev pub invariant-loop-mention : goal.invariant-loop-mention

@@ -1,7 +1,7 @@
 use Rattle.abnfrun.specs.AbnfReply.{AnswersFor, RefusalFor, form_of}
 use Rattle.abnfrun.proofs.IsAnswerToLemmas.{one_answer}
 use Rattle.abnfrun.proofs.laws.one_reply_of_abnf.Goals as goal
-use Rattle.lines.proofs.LinesReplyLemmas.{one_lines_reply}
+use Rattle.linejudge.proofs.LinesReplyLemmas.{one_lines_reply}
 
 pub returns : goal.returns
 returns c = λ rules judged settings input a b.

@@ -3,7 +3,7 @@ use Rattle.std.proofs.Common.{◌≡◌, ◌∙◌}
 use Rattle.std.specs.Prelude.{is_some}
 use Rattle.abnfread.specs.AbnfViews.{rules_of}
 use Rattle.abnfrun.specs.AbnfReply.{AnswersFor, RefusalFor, form_of}
-use Rattle.lines.proofs.LineRunLemmas.{no_line_was_run}
+use Rattle.linejudge.proofs.LineRunLemmas.{no_line_was_run}
 use Rattle.abnfrun.proofs.line_judge.judge_lines.Goals as goal
 
 pub returns-in_default : goal.returns-in_default

@@ -1,5 +1,5 @@
 use Rattle.std.proofs.Common.{map}
-use Rattle.abnfjoin.specs.GivenRules.{text_rule}
+use Rattle.abnftexts.specs.GivenRules.{text_rule}
 use Rattle.abnftexts.specs.JoinedViews.{IsGatheredJoined, IsStandingJoined, grammar_joined}
 use Rattle.abnftexts.specs.RulesGathered.{lines_placed, rules_gathered}
 use Rattle.abnftexts.proofs.JoinedGrammarLemmas.{gathered-all, ok-more}

@@ -1,6 +1,6 @@
 use Rattle.std.proofs.Common.{◌≡◌, ◌++◌, map, drop}
 use Rattle.std.specs.List.{enumerate_from, flat_map}
-use Rattle.abnfjoin.specs.GivenRules.{text_rule}
+use Rattle.abnftexts.specs.GivenRules.{text_rule}
 use Rattle.abnftexts.specs.JoinedGrammar.{rule_listed, rules_listed}
 use Rattle.abnftexts.specs.RulesGathered.{lines_placed}
 use Rattle.abnftexts.proofs.listed.listed_text.Given as goal

@@ -1,6 +1,6 @@
 use Rattle.std.proofs.Common.{◌≡◌, ◌++◌, map, take}
 use Rattle.std.specs.List.{flat_map}
-use Rattle.abnfjoin.specs.GivenRules.{text_rule}
+use Rattle.abnftexts.specs.GivenRules.{text_rule}
 use Rattle.abnftexts.specs.JoinedGrammar.{clash_told}
 use Rattle.abnftexts.specs.RulesGathered.{lines_placed}
 use Rattle.abnftexts.proofs.printed.push_clashes.Given as goal

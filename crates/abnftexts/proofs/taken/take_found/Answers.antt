@@ -1,5 +1,5 @@
 use Rattle.std.proofs.Common.{map}
-use Rattle.rfctext.specs.TextLines.{numbered}
+use Rattle.abnfblocks.specs.TextLines.{numbered}
 use Rattle.abnftexts.specs.RulesGathered.{rules_gathered}
 use Rattle.abnftexts.proofs.RulesTakenLemmas.{found-all, lines-from, no_piece-more, piece-lines, piece-more}
 use Rattle.abnftexts.proofs.taken.take_found.Goals as goal

@@ -1,5 +1,5 @@
 use Rattle.std.proofs.Common.{subst, ℕ, map}
-use Rattle.rfctext.specs.TextLines.{numbered}
+use Rattle.abnfblocks.specs.TextLines.{numbered}
 use Rattle.abnftexts.specs.RulesGathered.{rules_gathered}
 use Rattle.abnftexts.specs.TakenRules.{TakesMore}
 use Rattle.abnftexts.specs.TextRules.{GivesPiece}

@@ -1,5 +1,5 @@
 use Rattle.std.proofs.Common.{map, subst}
-use Rattle.rfctext.specs.TextLines.{numbered}
+use Rattle.abnfblocks.specs.TextLines.{numbered}
 use Rattle.abnftexts.specs.OwnReadings.{IsOwnReading}
 use Rattle.abnftexts.specs.RulesGathered.{rules_gathered}
 use Rattle.abnftexts.specs.declared.own.OwnReading.{OwnReading}

@@ -2,8 +2,8 @@ use Rattle.std.proofs.Common.{◌≡◌, ℕ, ◌-◌, ◌<◌, min, List, lengt
 use Rattle.std.proofs.Math.Dec.{ltb}
 use Rattle.std.proofs.lemmas.Bool.{ltb-true}
 use Rattle.std.proofs.lemmas.List.{get_or-map, length-map}
-use Rattle.rfctext.specs.TextLines.{NumberedLine, numbered}
-use Rattle.rfctext.specs.declared.text_line.TextLine.{TextLine}
+use Rattle.abnfblocks.specs.TextLines.{NumberedLine, numbered}
+use Rattle.abnfblocks.specs.declared.rfctext.text_line.TextLine.{TextLine}
 use Rattle.abnftexts.specs.TextPlaces.{number_at}
 use Rattle.abnftexts.proofs.told.number_at.Goals as goal
 

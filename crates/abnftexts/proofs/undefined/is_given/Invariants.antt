@@ -2,7 +2,7 @@ use Rattle.std.proofs.Common.{◌≡◌, map, drop}
 use Rattle.std.specs.List.{list_any}
 use Rattle.ruletable.specs.Rules.{same_name}
 use Rattle.ruletable.specs.declared.table.NameCase.TheVariants.{Fold}
-use Rattle.abnfjoin.specs.GivenRules.{text_rule}
+use Rattle.abnftexts.specs.GivenRules.{text_rule}
 use Rattle.abnftexts.proofs.undefined.is_given.Given as goal
 
 -- whether some rule has the name is decided by those that are left

@@ -1,5 +1,5 @@
 use Rattle.std.proofs.Common.{map}
-use Rattle.abnfjoin.specs.GivenRules.{text_rule}
+use Rattle.abnftexts.specs.GivenRules.{text_rule}
 use Rattle.abnftexts.proofs.UndefinedLemmas.{told-more}
 use Rattle.abnftexts.proofs.undefined.push_undefined.Goals as goal
 

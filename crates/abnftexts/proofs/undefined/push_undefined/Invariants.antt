@@ -1,5 +1,5 @@
 use Rattle.std.proofs.Common.{◌≡◌, ◌++◌, map, drop}
-use Rattle.abnfjoin.specs.GivenRules.{text_rule}
+use Rattle.abnftexts.specs.GivenRules.{text_rule}
 use Rattle.abnftexts.specs.CodeUses.{name_used}
 use Rattle.abnftexts.specs.UsedNames.{undefined_told}
 use Rattle.abnftexts.proofs.UndefinedLemmas.{told-from}

@@ -1,6 +1,6 @@
 use Rattle.std.proofs.Common.{◌≡◌, ◌++◌, map, take}
 use Rattle.std.specs.List.{flat_map}
-use Rattle.noteplaces.specs.BodyMentions.{mentioned_at}
+use Rattle.diagnostics.specs.BodyMentions.{mentioned_at}
 use Rattle.abnftexts.specs.CodeUses.{name_used}
 use Rattle.abnftexts.specs.RulesGathered.{lines_placed}
 use Rattle.abnftexts.specs.UsedNames.{used_at}

@@ -1,8 +1,8 @@
 use Rattle.std.proofs.Common.{◌↔◌, map, subst, arith}
 use Rattle.std.proofs.lemmas.List.{length-map}
 use Rattle.abnfcheck.specs.Derivable.{RuleDerives}
-use Rattle.itemsets.proofs.ChartSetsLemmas.{set_bound}
-use Rattle.itemsets.specs.ChartSets.{set_at}
+use Rattle.earleyitems.proofs.ChartSetsLemmas.{set_bound}
+use Rattle.earleyitems.specs.ChartSets.{set_at}
 use Rattle.flatgrammar.specs.Flat.{at}
 use Rattle.flatgrammar.specs.Holds.{Holds}
 use Rattle.letters.specs.Letters.{has}

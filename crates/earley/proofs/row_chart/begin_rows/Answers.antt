@@ -1,8 +1,8 @@
 use Rattle.std.proofs.Common.{◌≡◌, ◌+◌, ◌-◌, ◌<◌, length, map, ap, sym, subst, ◌∙◌, arith}
 use Rattle.std.proofs.lemmas.Grind.{common_steps}
 use Rattle.std.proofs.lemmas.List.{length-map}
-use Rattle.itemsets.proofs.IsBuiltLemmas.{get_is}
-use Rattle.itemsets.specs.ScannedItems.{IsScannedItem}
+use Rattle.earleyitems.proofs.IsBuiltLemmas.{get_is}
+use Rattle.earleyitems.specs.ScannedItems.{IsScannedItem}
 use Rattle.flatgrammar.proofs.CallOfLemmas.{get_map}
 use Rattle.earley.specs.RowCharts.{row_views}
 use Rattle.earley.specs.RowItems.{row_items, Gains}

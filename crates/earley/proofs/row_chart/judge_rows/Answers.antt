@@ -1,9 +1,9 @@
 use Rattle.std.proofs.Common.{◌≡◌, ◌↔◌, ◌<◌, ℕ, IsTrue, length, map, subst, sym, arith}
 use Rattle.std.proofs.lemmas.List.{length-map}
 use Rattle.std.specs.Prelude.{IfSome}
-use Rattle.itemsets.proofs.ChartSetsLemmas.{chart_sets}
-use Rattle.itemsets.proofs.IsBuiltLemmas.{built_exact}
-use Rattle.itemsets.specs.ChartSets.{set_at, IsSet}
+use Rattle.earleyitems.proofs.ChartSetsLemmas.{chart_sets}
+use Rattle.earleyitems.proofs.IsBuiltLemmas.{built_exact}
+use Rattle.earleyitems.specs.ChartSets.{set_at, IsSet}
 use Rattle.flatgrammar.specs.Blocks.{AreExact}
 use Rattle.flatgrammar.specs.Flat.{at}
 use Rattle.flatgrammar.specs.Holds.{Holds}

@@ -1,6 +1,6 @@
 use Rattle.std.proofs.Common.{◌≡◌, length, map, ap, sym, subst, ◌∙◌, arith}
 use Rattle.bitrows.specs.RowSets.{no_items}
-use Rattle.itemsets.specs.Charts.{IsFirst}
+use Rattle.earleyitems.specs.Charts.{IsFirst}
 use Rattle.earley.specs.RowCharts.{row_views}
 use Rattle.earley.specs.RowItems.{Gains}
 use Rattle.earley.proofs.RowWorklistLemmas.{begun_rows, filled_rows, length_no}

@@ -1,5 +1,5 @@
 use Rattle.std.proofs.Common.{◌+◌, ◌≤◌, ◌∷◌, [], length, map, length-append, subst, sym, ◌∙◌, arith}
-use Rattle.itemsets.specs.Charts.{IsBuilt}
+use Rattle.earleyitems.specs.Charts.{IsBuilt}
 use Rattle.earley.specs.RowCharts.{row_views, AreSizedRows}
 use Rattle.earley.specs.RowIndexes.{AreIndexed}
 use Rattle.earley.proofs.RowWorklistLemmas.{views_more, sized_more}

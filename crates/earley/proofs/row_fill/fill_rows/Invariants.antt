@@ -1,7 +1,7 @@
 use Rattle.std.proofs.Common.{ℕ, List}
 use Rattle.flatgrammar.specs.NodeSteps.{flat_of}
 use Rattle.flatgrammar.specs.declared.flat_item.Item.{Item}
-use Rattle.itemsets.specs.Closed.{HoldAll}
+use Rattle.earleyitems.specs.Closed.{HoldAll}
 use Rattle.earley.specs.RowCharts.{row_views, IsRowWorklist}
 use Rattle.earley.specs.RowItems.{IsRowItem}
 use Rattle.earley.proofs.row_fill.fill_rows.Given as goal

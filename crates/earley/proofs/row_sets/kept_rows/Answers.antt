@@ -2,7 +2,7 @@ use Rattle.std.proofs.Common.{◌+◌, ℕ, [], length, take, slice_index_or, re
 use Rattle.std.proofs.lemmas.List.Sums.{sum_by_more}
 use Rattle.std.specs.List.{sum_by}
 use Rattle.std.specs.List.Sorted.{IsStrictlyIncreasing}
-use Rattle.itemsets.proofs.ExpandLemmas.{take_past}
+use Rattle.earleyitems.proofs.ExpandLemmas.{take_past}
 use Rattle.earley.proofs.RowItemsLemmas.{length_row_items, one_more_ascends, past_ascends}
 use Rattle.earley.proofs.row_sets.kept_rows.Goals as goal
 

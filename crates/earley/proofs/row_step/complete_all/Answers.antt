@@ -1,5 +1,5 @@
 use Rattle.std.proofs.Common.{length, subst, ◌∙◌, arith}
-use Rattle.itemsets.proofs.ExpandLemmas.{take_past}
+use Rattle.earleyitems.proofs.ExpandLemmas.{take_past}
 use Rattle.earley.specs.RowIndexes.{IsAfterSome}
 use Rattle.earley.specs.RowItems.{Gains}
 use Rattle.earley.proofs.IsAfterInLemmas.{some_none, some_next, some_completed, none_completed}

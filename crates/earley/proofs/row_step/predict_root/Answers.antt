@@ -1,5 +1,5 @@
 use Rattle.std.proofs.Common.{◌<◌, slice_index_or, subst, sym, ◌∙◌, arith}
-use Rattle.itemsets.proofs.ExpandLemmas.{take_past}
+use Rattle.earleyitems.proofs.ExpandLemmas.{take_past}
 use Rattle.earley.proofs.PlaceTableLemmas.{reached_starts}
 use Rattle.earley.proofs.RowStepLemmas.{StartsIn, starts_none, starts_next, starts_all, no_starts, start_below}
 use Rattle.earley.proofs.RowStepLemmas.{found_at, missing_past}

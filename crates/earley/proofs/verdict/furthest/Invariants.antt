@@ -1,5 +1,5 @@
 use Rattle.std.proofs.Common.{◌≡◌, ◌<◌, ◌≤◌, ℕ, length}
-use Rattle.itemsets.specs.ChartSets.{set_at}
+use Rattle.earleyitems.specs.ChartSets.{set_at}
 use Rattle.earley.proofs.verdict.furthest.Given as goal
 
 -- the sets behind the one that is looked at are empty

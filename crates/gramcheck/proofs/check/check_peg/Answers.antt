@@ -1,7 +1,7 @@
 -- No note refuses the grammar, so it is sound, and its nodes are those of its rules' bodies.
 use Rattle.std.proofs.Common.{◌≡◌, ap, arith, false, length, map, sym, subst}
 use Rattle.std.proofs.lemmas.List.{length-map}
-use Rattle.leastset.specs.NumberMarks.{AreBelow}
+use Rattle.fixpoint.specs.NumberMarks.{AreBelow}
 use Rattle.ruletable.specs.Notes.{said_of}
 use Rattle.pegread.specs.PegViews.{rules_of}
 use Rattle.gramcheck.specs.Checked.{is_refused}

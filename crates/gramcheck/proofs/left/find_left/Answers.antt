@@ -1,7 +1,7 @@
 use Rattle.std.proofs.Common.{arith, length, ap, refl, subst, sym, ◌∙◌}
 use Rattle.std.proofs.lemmas.List.{length-map}
-use Rattle.leastset.specs.Leads.{AreCycleMarks, AreRanksBut}
-use Rattle.leastset.specs.StepRows.{slices_of, AreStepsWithin}
+use Rattle.fixpoint.specs.Leads.{AreCycleMarks, AreRanksBut}
+use Rattle.fixpoint.specs.StepRows.{slices_of, AreStepsWithin}
 use Rattle.gramcheck.specs.NodeRows.{steps_of, step_rows}
 use Rattle.pegnodes.specs.Nodes.{shape_of, shapes_of}
 use Rattle.gramcheck.proofs.ComesBackLemmas as b

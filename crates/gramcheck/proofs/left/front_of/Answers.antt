@@ -1,4 +1,4 @@
-use Rattle.leastset.proofs.RowsOfLemmas as t
+use Rattle.fixpoint.proofs.RowsOfLemmas as t
 use Rattle.gramcheck.proofs.left.front_of.Goals as goal
 
 pub bounds-nulls-members : goal.bounds-nulls-members

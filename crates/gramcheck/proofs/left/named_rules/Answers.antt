@@ -1,5 +1,5 @@
 use Rattle.std.proofs.Common.{◌≡◌, false, rules, arith, length, ap, replicate}
-use Rattle.leastset.proofs.IsMarkedLemmas.{take_written}
+use Rattle.fixpoint.proofs.IsMarkedLemmas.{take_written}
 use Rattle.gramcheck.proofs.left.named_rules.Goals as goal
 
 pub returns : goal.returns

@@ -1,5 +1,5 @@
 use Rattle.std.proofs.Common.{◌≡◌, take}
-use Rattle.leastset.specs.StepRows.{slices_of}
+use Rattle.fixpoint.specs.StepRows.{slices_of}
 use Rattle.gramcheck.specs.NodeRows.{step_rows}
 use Rattle.pegnodes.specs.Nodes.{shapes_of}
 use Rattle.gramcheck.proofs.left.steps.Given as goal

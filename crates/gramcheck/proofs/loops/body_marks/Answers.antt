@@ -1,4 +1,4 @@
-use Rattle.leastset.proofs.RowsOfLemmas as t
+use Rattle.fixpoint.proofs.RowsOfLemmas as t
 use Rattle.gramcheck.proofs.loops.body_marks.Goals as goal
 
 pub bounds-marks-body : goal.bounds-marks-body

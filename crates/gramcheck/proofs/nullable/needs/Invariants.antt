@@ -1,5 +1,5 @@
 use Rattle.std.proofs.Common.{◌≡◌, take}
-use Rattle.leastset.specs.Demands.{demands_of}
+use Rattle.fixpoint.specs.Demands.{demands_of}
 use Rattle.pegnodes.specs.Nodes.{shapes_of}
 use Rattle.gramcheck.specs.Nulls.{null_demands}
 use Rattle.gramcheck.proofs.nullable.needs.Given as goal

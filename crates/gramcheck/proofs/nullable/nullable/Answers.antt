@@ -1,7 +1,7 @@
 use Rattle.std.proofs.Common.{◌∙◌, ap, sym, subst}
 use Rattle.std.proofs.lemmas.List.{length-map}
-use Rattle.leastset.specs.Demands.{AreNeedsWithin, demands_of}
-use Rattle.leastset.specs.Least.{AreMarksOfThose}
+use Rattle.fixpoint.specs.Demands.{AreNeedsWithin, demands_of}
+use Rattle.fixpoint.specs.Least.{AreMarksOfThose}
 use Rattle.pegnodes.specs.Nodes.{shape_of, shapes_of}
 use Rattle.gramcheck.proofs.NullableLemmas as n
 use Rattle.gramcheck.proofs.nullable.nullable.Goals as goal

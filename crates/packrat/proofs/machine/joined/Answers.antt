@@ -1,7 +1,7 @@
 use Rattle.std.proofs.Common.{sym, ap, arith, ◌∙◌}
-use Rattle.eventlog.proofs.KeptAtLemmas.{none_kept}
+use Rattle.packrat.proofs.KeptAtLemmas.{none_kept}
 use Rattle.packrat.specs.Stands.{kept_joined}
-use Rattle.eventlog.specs.EventLog.{kept_at}
+use Rattle.packrat.specs.EventLog.{kept_at}
 use Rattle.packrat.proofs.machine.joined.Goals as goal
 
 pub returns-in-Failed-clause-joined : goal.returns-in-Failed-clause-joined

@@ -1,7 +1,7 @@
 -- One step more.
 use Rattle.std.proofs.Common.{◌≡◌, suc, ◌-◌, arith}
-use Rattle.noteplaces.specs.MentionLines.{mention_lines_by}
-use Rattle.noteplaces.specs.declared.mentions.MentionKind.TheVariants as kinds
+use Rattle.diagnostics.specs.MentionLines.{mention_lines_by}
+use Rattle.diagnostics.specs.declared.noteplaces.mentions.MentionKind.TheVariants as kinds
 use Rattle.pegread.specs.PegViews.{rules_of}
 use Rattle.pegexplain.specs.NullTests.{null_mark_of, nullable_by}
 use Rattle.pegexplain.proofs.LeftStepLineLemmas.{steps-next}

@@ -1,6 +1,6 @@
 use Rattle.std.proofs.Common.{◌++◌, ◌∙◌, ap}
-use Rattle.noteplaces.specs.MentionLines.{mention_lines_by}
-use Rattle.noteplaces.specs.declared.mentions.MentionKind.TheVariants as kinds
+use Rattle.diagnostics.specs.MentionLines.{mention_lines_by}
+use Rattle.diagnostics.specs.declared.noteplaces.mentions.MentionKind.TheVariants as kinds
 use Rattle.pegexplain.specs.NullTests.{null_mark_of, nullable_by}
 use Rattle.pegexplain.proofs.LeftStepLineLemmas.{step-known}
 use Rattle.pegexplain.proofs.left_lines.push_step_between.Goals as goal

@@ -1,7 +1,7 @@
 use Rattle.std.proofs.Common.{None, [], sym, ◌∙◌, append-nil, refl}
-use Rattle.noteplaces.specs.ExplainedNotes.{told_by}
-use Rattle.noteplaces.specs.MentionLines.{mention_lines_by}
-use Rattle.noteplaces.specs.declared.mentions.MentionKind.TheVariants as kinds
+use Rattle.diagnostics.specs.ExplainedNotes.{told_by}
+use Rattle.diagnostics.specs.MentionLines.{mention_lines_by}
+use Rattle.diagnostics.specs.declared.noteplaces.mentions.MentionKind.TheVariants as kinds
 use Rattle.pegread.specs.PegViews.{rules_of}
 use Rattle.ruletable.specs.Notes.{said}
 use Rattle.ruletable.specs.declared.note.NoteKind.TheVariants.{Unused}

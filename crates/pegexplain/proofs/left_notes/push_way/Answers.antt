@@ -1,8 +1,8 @@
 use Rattle.std.proofs.Common.{Global, Option, Some, ℕ, List, Vec, refl, sym, ap, ◌∙◌, subst}
 use Rattle.std.specs.Prelude.{option_map}
-use Rattle.leastset.specs.StepRows.{AreStepsWithin, rows_of}
+use Rattle.fixpoint.specs.StepRows.{AreStepsWithin, rows_of}
 use Rattle.ruletable.specs.Rules.{find_in}
-use Rattle.stepchains.specs.ShortChains.{IsRoundIfAny}
+use Rattle.shortestpaths.specs.ShortChains.{IsRoundIfAny}
 use Rattle.pegexplain.specs.NullTests.{null_mark_of, nullable_by}
 use Rattle.pegexplain.proofs.LeftWithinLemmas.{found-below, rows-within}
 use Rattle.pegexplain.proofs.left_notes.push_way.Goals as goal

@@ -1,6 +1,6 @@
 -- The rows of the rules so far.
 use Rattle.std.proofs.Common.{◌≡◌, map, take}
-use Rattle.leastset.specs.StepRows.{rows_of}
+use Rattle.fixpoint.specs.StepRows.{rows_of}
 use Rattle.ruletable.specs.Rules.{find_in}
 use Rattle.pegread.specs.PegViews.{pattern_of}
 use Rattle.pegexplain.specs.LeftUses.{left_row}

@@ -1,4 +1,4 @@
-use Rattle.noteplaces.proofs.AgainLinesLemmas.{five-join}
+use Rattle.diagnostics.proofs.AgainLinesLemmas.{five-join}
 use Rattle.pegexplain.proofs.loops.push_line.Goals as goal
 
 pub returns : goal.returns

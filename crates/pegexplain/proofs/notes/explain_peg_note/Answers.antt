@@ -1,5 +1,5 @@
 use Rattle.std.proofs.Common.{option_copied}
-use Rattle.noteplaces.proofs.ExplainedNoteLemmas.{places-explain}
+use Rattle.diagnostics.proofs.ExplainedNoteLemmas.{places-explain}
 use Rattle.pegread.specs.Kinds.{is_end}
 use Rattle.pegread.specs.Slices.{White, First}
 use Rattle.ruletable.specs.Notes.{said_of}

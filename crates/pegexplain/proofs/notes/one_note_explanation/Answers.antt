@@ -1,4 +1,4 @@
-use Rattle.noteplaces.proofs.ExplainedNoteLemmas.{explained-one}
+use Rattle.diagnostics.proofs.ExplainedNoteLemmas.{explained-one}
 use Rattle.pegread.specs.Kinds.{is_end}
 use Rattle.pegread.specs.Slices.{White, First}
 use Rattle.ruletable.specs.declared.lines.LineRule.TheVariants.{Any}

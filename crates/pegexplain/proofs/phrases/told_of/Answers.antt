@@ -1,6 +1,6 @@
 use Rattle.std.proofs.Common.{sym, ◌∙◌}
 use Rattle.std.proofs.lemmas.List.{map-append}
-use Rattle.picture.proofs.PhraseLemmas.{row-told, row-barred, rest-ended}
+use Rattle.diagnostics.proofs.PhraseLemmas.{row-told, row-barred, rest-ended}
 use Rattle.pegexplain.specs.PegStands.{allows}
 use Rattle.pegexplain.specs.PhraseRows.{phrase_of}
 use Rattle.pegexplain.proofs.phrases.told_of.Goals as goal

@@ -1,5 +1,5 @@
 use Rattle.std.proofs.Common.{map}
-use Rattle.picture.proofs.PhraseLemmas.{TellsRest}
+use Rattle.diagnostics.proofs.PhraseLemmas.{TellsRest}
 use Rattle.pegexplain.specs.PegStands.{allows}
 use Rattle.pegexplain.specs.PhraseRows.{phrase_of}
 use Rattle.pegexplain.proofs.phrases.told_of.Given as goal

@@ -2,7 +2,7 @@ use Rattle.std.proofs.Common.{sym, subst, arith}
 use Rattle.std.proofs.lemmas.Bool.{both_ways}
 use Rattle.std.proofs.lemmas.List.{length-map}
 use Rattle.std.proofs.lemmas.Option.{slice_get_within}
-use Rattle.leastset.proofs.ContainsLemmas.{only_one}
+use Rattle.fixpoint.proofs.ContainsLemmas.{only_one}
 use Rattle.pegnodes.specs.KeyMarks.{Single}
 use Rattle.pegnodes.specs.Nodes.{shape_of, shapes_of}
 use Rattle.pegnodes.specs.declared.namers.Namer.TheVariants.{Nobody, By}

@@ -1,5 +1,5 @@
 use Rattle.std.proofs.Common.{◌<◌, ℕ, [], length, Contains, rules}
-use Rattle.leastset.specs.Demands.{Demand, demand_of, row_of, One}
+use Rattle.fixpoint.specs.Demands.{Demand, demand_of, row_of, One}
 use Rattle.pegnodes.specs.KeyNeeds.{Justifies}
 use Rattle.pegnodes.specs.Nodes.{shapes_of}
 use Rattle.pegnodes.proofs.PushedMarksLemmas.{all_pushed_by}

@@ -1,5 +1,5 @@
 use Rattle.std.proofs.Common.{◌≡◌, ◌<◌, ℕ, List, [], length, get_or, Contains}
-use Rattle.leastset.specs.Demands.{demands_of, row_of, One}
+use Rattle.fixpoint.specs.Demands.{demands_of, row_of, One}
 use Rattle.pegnodes.specs.KeyNeeds.{AreKnown, AreJustified}
 use Rattle.pegnodes.specs.Nodes.{shapes_of}
 use Rattle.pegnodes.proofs.keys.single_needs.Given as goal

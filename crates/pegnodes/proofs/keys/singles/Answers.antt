@@ -1,7 +1,7 @@
 use Rattle.std.proofs.Common.{◌∙◌, ap, length, sym, subst}
 use Rattle.std.proofs.lemmas.List.{length-map}
-use Rattle.leastset.specs.Demands.{demand_of, demands_of, AreNeedsWithin}
-use Rattle.leastset.specs.Least.{AreMarksOfThose}
+use Rattle.fixpoint.specs.Demands.{demand_of, demands_of, AreNeedsWithin}
+use Rattle.fixpoint.specs.Least.{AreMarksOfThose}
 use Rattle.pegnodes.proofs.KeyNeedsLemmas as o
 use Rattle.pegnodes.specs.Nodes.{shapes_of}
 use Rattle.pegnodes.proofs.keys.singles.Goals as goal

@@ -1,5 +1,5 @@
 use Rattle.std.proofs.Common.{arith, length, ap}
-use Rattle.leastset.proofs.IsMarkedLemmas.{take_written}
+use Rattle.fixpoint.proofs.IsMarkedLemmas.{take_written}
 use Rattle.pegnodes.proofs.namers.namers.Goals as goal
 
 pub returns : goal.returns

@@ -4,7 +4,7 @@ use Rattle.std.proofs.Common.{◌≡◌, ◌+◌, ◌-◌, ◌++◌, length, tru
 use Rattle.std.specs.Io.KnownBytes.{Appends, Consumes}
 use Rattle.feed.specs.Feed.{IsTrueOfReader, SameLoan, allowance_of, bytes_of, capacity_of, flow_of, input_limit}
 use Rattle.feed.specs.Feed.{reader_of}
-use Rattle.matchexplain.specs.NoMatches.{unit_before}
+use Rattle.matchfailure.specs.NoMatches.{unit_before}
 use Rattle.pegread.specs.PegViews.{rules_of}
 use Rattle.toolrun.specs.Agrees.{Agrees}
 use Rattle.toolrun.specs.Input.{Input}

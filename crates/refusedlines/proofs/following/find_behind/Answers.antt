@@ -2,7 +2,7 @@ use Rattle.std.proofs.Common.{◌↔◌, IsTrue, map, length, sym, subst, arith}
 use Rattle.std.proofs.lemmas.List.{length-map}
 use Rattle.flatgrammar.specs.Flat.{at}
 use Rattle.flatgrammar.specs.Holds.{Holds}
-use Rattle.itemsets.specs.ChartSets.{set_at, AreSpotsOf}
+use Rattle.earleyitems.specs.ChartSets.{set_at, AreSpotsOf}
 use Rattle.letters.specs.Letters.{has}
 use Rattle.refusedlines.specs.Following.{AreFollowing}
 use Rattle.refusedlines.proofs.CanFollowLemmas.{are_following}

@@ -1,6 +1,6 @@
 use Rattle.std.proofs.Common.{◌≡◌, ◌↔◌, ℕ, true, take, All}
 use Rattle.letters.specs.Letters.{has}
-use Rattle.letterruns.specs.LetterRuns.{IsSomeRun, RunsHave}
+use Rattle.refusedlines.specs.LetterRuns.{IsSomeRun, RunsHave}
 use Rattle.refusedlines.specs.ReadLetters.{SpotsRead}
 use Rattle.refusedlines.proofs.read_letters.letters_read.Given as goal
 

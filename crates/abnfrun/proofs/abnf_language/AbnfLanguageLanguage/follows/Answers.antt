@@ -3,7 +3,7 @@ use Rattle.abnfread.specs.AbnfViews.{rules_of}
 use Rattle.abnfrun.specs.AbnfAnswers.{refused, unexplained, noted, checked, judges, cut_notes, again}
 use Rattle.abnfrun.specs.AbnfAnswers.{cut_again, printed, no_memory}
 use Rattle.abnfrun.specs.AbnfReply.{AnswersFor, RefusalFor, form_of}
-use Rattle.lines.proofs.LineRunLemmas.{some_states}
+use Rattle.linejudge.proofs.LineRunLemmas.{some_states}
 use Rattle.abnfrun.proofs.abnf_language.AbnfLanguageLanguage.follows.Goals as goal
 
 pub returns : goal.returns

@@ -1,5 +1,5 @@
 use Rattle.std.proofs.Common.{length, sym, ap, ◌∙◌}
-use Rattle.itemsets.specs.ChartSets.{set_at}
+use Rattle.earleyitems.specs.ChartSets.{set_at}
 use Rattle.earley.specs.RowCharts.{chart_by}
 use Rattle.earley.proofs.RowChartLemmas.{row_size}
 use Rattle.earley.proofs.RowStepLemmas.{found_at}

@@ -1,5 +1,5 @@
 use Rattle.std.proofs.Common.{◌∙◌, ap, subst, sym}
-use Rattle.itemsets.specs.ChartSets.{set_at, AreSpotsOf}
+use Rattle.earleyitems.specs.ChartSets.{set_at, AreSpotsOf}
 use Rattle.earley.specs.RowCharts.{chart_by}
 use Rattle.earley.proofs.RowSpotsLemmas.{row_chart_spots, row_past_spots}
 use Rattle.earley.proofs.RowStepLemmas.{found_at, missing_past}

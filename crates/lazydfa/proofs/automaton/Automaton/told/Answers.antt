@@ -3,7 +3,7 @@ use Rattle.std.proofs.lemmas.List.{length-map}
 use Rattle.flatgrammar.specs.NodeSteps.{flat_of}
 use Rattle.flatgrammar.specs.TableViews.{GiveRoots}
 use Rattle.letters.specs.Letters.{has}
-use Rattle.stacks.specs.Stacks.{AreUncounted}
+use Rattle.letterclasses.specs.Stacks.{AreUncounted}
 use Rattle.lazydfa.specs.RunVerdicts.{IsOne}
 use Rattle.lazydfa.proofs.IsRunVerdictLemmas.{run_derives, run_begins}
 use Rattle.lazydfa.proofs.automaton.Automaton.told.Goals as goal

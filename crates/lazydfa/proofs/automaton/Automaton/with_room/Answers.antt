@@ -1,6 +1,6 @@
 use Rattle.std.proofs.Common.{subst}
 use Rattle.flatgrammar.specs.NodeSteps.{flat_of}
-use Rattle.stacks.specs.Stacks.{AreUncounted}
+use Rattle.letterclasses.specs.Stacks.{AreUncounted}
 use Rattle.lazydfa.specs.RunVerdicts.{IsOne}
 use Rattle.letterclasses.specs.ClassBounds.{AreClasses}
 use Rattle.lazydfa.proofs.AreHopsLemmas.{memo_none}

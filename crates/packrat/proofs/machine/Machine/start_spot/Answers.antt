@@ -1,6 +1,6 @@
 use Rattle.std.proofs.Common.{◌<◌, ◌+◌, refl, sym, subst, ◌∙◌}
 use Rattle.memo.specs.declared.found.Found.TheVariants.{Took}
-use Rattle.eventlog.proofs.KeptAtLemmas.{grown_same}
+use Rattle.packrat.proofs.KeptAtLemmas.{grown_same}
 use Rattle.packrat.specs.declared.machine.Turn.TheVariants.{Ask}
 use Rattle.packrat.specs.Onward.{tail_of}
 use Rattle.packrat.specs.Stands.{NeedsMore}

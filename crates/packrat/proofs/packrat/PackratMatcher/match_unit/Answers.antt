@@ -1,5 +1,5 @@
 use Rattle.std.proofs.Common.{◌≡◌, slice_get, Some, subst, ap}
-use Rattle.eventlog.specs.EventLog.{kept_at}
+use Rattle.packrat.specs.EventLog.{kept_at}
 use Rattle.packrat.proofs.DoneLemmas.{outcome_of_match, answer_of_match, begun_bounded}
 use Rattle.packrat.proofs.packrat.PackratMatcher.match_unit.Goals as goal
 

@@ -1,0 +1,12 @@
+//! The lines of an RFC's text, and those of them that are no page furniture.
+
+mod before;
+mod kept;
+mod line_kind;
+mod line_tests;
+mod text_line;
+
+pub use kept::{kept_lines, one_keeping};
+pub use line_kind::LineKind;
+pub use line_tests::is_blank;
+pub use text_line::TextLine;

@@ -1,0 +1,48 @@
+//! What stands nearest before a line.
+ghost use Rattle.std.specs.Prelude.{◌≡◌};
+ghost use Rattle.abnfblocks.specs.KeptSteps.{goes_behind, next_behind};
+
+use crate::rfctext::line_kind::LineKind;
+
+/// What stands nearest before a line, but for blank lines.
+#[derive(Clone, Copy, PartialEq, Eq)]
+pub(crate) enum Before {
+    /// Nothing, or a line that stays.
+    Text,
+    /// A form feed or a foot.
+    Mark,
+    /// A head.
+    Head,
+}
+
+impl Before {
+    // Whether such a line goes, whatever stands behind it.
+    pub(crate) fn takes(self, kind: LineKind) -> bool
+        ensures { result ≡ goes_behind self kind }
+    {
+        match kind {
+            LineKind::Feed | LineKind::Foot => true,
+            LineKind::Dated => self == Before::Mark,
+            LineKind::Blank => self != Before::Text,
+            LineKind::Other => false,
+        }
+    }
+
+    // What stands nearest before the next line, behind such a line.
+    pub(crate) fn behind(self, kind: LineKind) -> Before
+        ensures { result ≡ next_behind self kind }
+    {
+        match kind {
+            LineKind::Feed | LineKind::Foot => Before::Mark,
+            LineKind::Blank => self,
+            LineKind::Dated => {
+                if self == Before::Mark {
+                    Before::Head
+                } else {
+                    Before::Text
+                }
+            }
+            LineKind::Other => Before::Text,
+        }
+    }
+}

@@ -1,0 +1,102 @@
+//! The lines that are no furniture.
+ghost use Rattle.std.specs.Prelude.{◌≡◌, ◌+◌, ◌<◌, [], ◌∷◌, List, map, IfOk, OnOk, length};
+ghost use Rattle.std.specs.List.{suffix_len};
+ghost use Rattle.abnfblocks.specs.Furniture.{KeepsLines};
+ghost use Rattle.abnfblocks.specs.KeptSteps.{is_blank_kind, cut_blanks, after_line};
+ghost use Rattle.abnfblocks.specs.TextLines.{NumberedLine, numbered, text_lines, line_parts};
+
+use crate::rfctext::before::Before;
+use crate::rfctext::text_line::{TextLine, part_size};
+use ruletable::Memory;
+use std::alloc::Global;
+
+// How many lines stand before the blank lines that end the list.
+fn bare_len(lines: &[TextLine<'_>]) -> usize
+    ensures { result + suffix_len (λ line. is_blank_kind line.kind) (map numbered lines.now) ≡ length lines.now }
+{
+    let mut size = lines.len();
+    while size > 0 && lines[size - 1].kind.is_blank() {
+        size -= 1;
+    }
+    size
+}
+
+// Drops the blank lines that end the list.
+fn drop_blanks(kept: &mut Vec<TextLine<'_>>)
+    ensures { map numbered kept.new.items ≡ cut_blanks (map numbered kept.old.items) }
+{
+    let size = bare_len(kept);
+    kept.truncate(size);
+}
+
+// Takes the next line of a text.
+fn take_line<'a>(
+    kept: &mut Vec<TextLine<'a>>,
+    before: Before,
+    line: TextLine<'a>,
+) -> Result<(), Memory>
+    ensures { OnOk result (map numbered kept.new.items
+        ≡ after_line before (map numbered kept.old.items) (numbered line.entry)) }
+{
+    if line.kind.is_mark() {
+        drop_blanks(kept);
+        return Ok(());
+    }
+    if !before.takes(line.kind) {
+        kept.push(line)?;
+    }
+    Ok(())
+}
+
+/// What stands before an LF, and what stands behind it.
+#[derive(Clone, Copy)]
+struct Parts<'a> {
+    first: &'a [u8],
+    rest: &'a [u8],
+}
+
+// Cuts the text at its first LF.
+fn cut_part(text: &[u8]) -> Parts<'_>
+    requires { 0 < length text.now }
+    ensures parts { line_parts text.now ≡ result.first.now ∷ line_parts result.rest.now }
+    ensures less { length result.rest.now < length text.now }
+{
+    let size = part_size(text);
+    let (first, behind) = text.split_at(size);
+    let rest = match behind.split_first() {
+        Some((_, rest)) => rest,
+        None => behind,
+    };
+    Parts { first, rest }
+}
+
+/// Returns the lines of a text without page furniture, in order. LF or CR LF ends a line; the last line may lack it.
+/// Form feeds that begin a line belong to none.
+///
+/// Furniture are form feeds, the feet of pages, which end with `[Page N]`, the heads behind a form feed or a foot,
+/// which are not indented and end with a year, and the blank lines round them. A text without pages keeps all lines.
+///
+/// # Errors
+/// `Memory` if an allocation fails.
+pub fn kept_lines(alloc: Global, text: &[u8]) -> Result<Vec<TextLine<'_>>, Memory>
+    ensures { IfOk result (λ kept. KeepsLines [] (text_lines text.now) (map numbered kept.items)) }
+{
+    let mut kept = Vec::new(alloc);
+    let mut before = Before::Text;
+    let mut rest = text;
+    let mut number = 1;
+    while !rest.is_empty() {
+        let parts = cut_part(rest);
+        let line = TextLine::new(number, parts.first);
+        take_line(&mut kept, before, line)?;
+        before = before.behind(line.kind);
+        rest = parts.rest;
+        number += 1;
+    }
+    Ok(kept)
+}
+
+/// Says that at most one list of lines is left without the furniture.
+pub fn one_keeping()
+    ensures { (lines a b : List NumberedLine) → KeepsLines [] lines a → KeepsLines [] lines b → a ≡ b }
+{}

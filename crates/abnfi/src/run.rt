@@ -1,0 +1,47 @@
+//! The run of the program.
+ghost use Rattle.std.specs.Prelude.{◌≡◌, [], false, map, string_bytes};
+ghost use Rattle.std.specs.Io.KnownBytes.{Keeps};
+ghost use Rattle.abnfrun.specs.AbnfAnswers.{AbnfStates};
+ghost use Rattle.clap.specs.Words.{fault_of, matches_of};
+ghost use Rattle.cli.specs.Command.{IsAppOf};
+ghost use Rattle.cli.specs.Jobs.{JobStates};
+ghost use Rattle.cli.specs.Parsing.{Answers, EndsAs};
+ghost use Rattle.toolrun.specs.Right.{Comes};
+ghost use Rattle.toolrun.specs.Status.{code_of};
+ghost use Rattle.toolrun.specs.Stream.{passed};
+
+use abnfrun::AbnfLanguage;
+use cli::{Program, tool_main};
+use feed::Source;
+use ruletable::Sink;
+use std::rt::Files;
+use toolrun::Status;
+
+/// Runs the program `abnfi`, whose words are its own name and `[-m MODE] [-l N] [-s RULE] [-u MODE] [-w] [-z] [-x]
+/// GRAMMAR`: it judges the lines that the reader gives by the grammar in the file GRAMMAR, as `run_abnf` says, with the
+/// settings of the words.
+///
+/// Words without a run, a grammar that cannot be read and want of memory end it as `tool_main` says.
+pub(crate) fn abnfi_main<R: Files + AllocGlobal, I: Source, O: Sink, E: Sink>(
+    rt: &R,
+    words: &[String],
+    reader: &mut I,
+    out: &mut O,
+    err: &mut E,
+) -> Status
+    requires reader_is_fresh { I.failed reader.old ≡ false }
+    requires reader_is_open { I.ended reader.old ≡ false }
+    requires out_is_fresh { O.failed out.old ≡ false }
+    requires err_is_fresh { E.failed err.old ≡ false }
+    ensures words { (app : _) × IsAppOf Program.Abnfi app × Answers (fault_of app (map string_bytes words.now))
+        (Keeps (I.remaining reader.old) (I.remaining reader.new) × Keeps (O.contents out.old) (O.contents out.new) ×
+        EndsAs (O.failed out.new) (E.failed err.new) Status.Refused result)
+        (Keeps (I.remaining reader.old) (I.remaining reader.new) ×
+        EndsAs (O.failed out.new) (E.failed err.new) Status.Done result) }
+    ensures right { (app : _) × IsAppOf Program.Abnfi app × (fault_of app (map string_bytes words.now) ≡ [] →
+        Comes (JobStates AbnfStates (matches_of app (map string_bytes words.now)))
+        (passed I.remaining I.failed reader.old reader.new) (passed O.contents O.failed out.old out.new)
+        (passed E.contents E.failed err.old err.new) (code_of result)) }
+{
+    tool_main::<AbnfLanguage, R, I, O, E>(rt, Program::Abnfi, words, reader, out, err)
+}

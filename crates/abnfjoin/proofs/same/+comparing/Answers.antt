@@ -1,6 +1,0 @@
-use Rattle.std.proofs.Common.{sym}
-use Rattle.abnfjoin.proofs.AllSameLemmas.{unlike-lengths}
-use Rattle.abnfjoin.proofs.same.+comparing.Goals as goal
-
-pub are_same-returns-then-a-b : goal.are_same-returns-then-a-b
-are_same-returns-then-a-b t c = sym (unlike-lengths c.args.a.now c.args.b.now c.if-a-b.true)

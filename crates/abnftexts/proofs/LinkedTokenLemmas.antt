@@ -1,0 +1,250 @@
+-- The tokens of texts one behind the other are those of each text.
+-- Serves: linked_reading
+use Rattle.std.proofs.Common.{◌≡◌, ℕ, ◌+◌, ◌≤◌, ◌<◌, ◌==◌, ◌&&◌, not, Bool, true, false, Option, Some, List, [], ◌∷◌}
+use Rattle.std.proofs.Common.{◌++◌, length, take, map, refl, sym, ap, ◌∙◌, arith, append_assoc, length-append}
+use Rattle.std.proofs.Math.Seq.{take-append-add}
+use Rattle.std.proofs.lemmas.Bool.Decides.{nat_tests}
+use Rattle.std.proofs.lemmas.List.{take-append-le}
+use Rattle.ruletable.specs.declared.span.Span.{Span}
+use Rattle.lexer.specs.SliceEnds.{Longest, found, bad, at_end}
+use Rattle.lexer.specs.TokenLists as lexing
+use Rattle.lexer.specs.TokenLists.{Tok, tok, Next, last_one, one_more}
+use Rattle.lexer.specs.Viability.{say_none, say_more}
+use Rattle.abnfread.specs.declared.kind.AbnfKind.{AbnfKind}
+use Rattle.abnfread.specs.AbnfKinds.{ends_list}
+use Rattle.abnfread.specs.AbnfSays.{SaysKind, says_name, says_is, says_adds, says_slash, says_lparen, says_rparen}
+use Rattle.abnfread.specs.AbnfSays.{says_lbrack, says_rbrack, says_repeat, says_text, says_cased, says_num, says_prose}
+use Rattle.abnfread.specs.AbnfSays.{says_end, Says, says, SayAll}
+use Rattle.abnfread.specs.AbnfSlices.{White, First, Stands}
+use Rattle.abnfread.specs.AbnfWords.{Said, End, Word, word}
+use Rattle.abnfread.specs.Numerals.{says_values, says_range}
+use Rattle.abnfread.specs.MarkedTokens.{marked, begins_rule, indented, indent_from, indent_at, is_first, marks}
+use Rattle.abnfread.proofs.AbnfSliceLemmas.{first-last}
+use Rattle.abnftexts.specs.LinkedTexts.{EndsLine, lf, behind_byte, moved_span}
+use Rattle.abnftexts.proofs.LineEndLemmas.{LeftLine, no_text, some_text, longest-on, stands-line, white-line, white-on}
+use Rattle.abnftexts.proofs.LineEndLemmas.{white-through}
+use Rattle.abnftexts.proofs.MovedWordLemmas.{moved_said, moved_word, with_gap, words_behind}
+
+line-indent : {a : List ℕ} → EndsLine a → (i : Option ℕ) → indent_from i a ≡ Some 0
+line-indent lf i = refl
+line-indent (behind_byte {b} l) i = line-indent l (indented i b)
+
+indent-append : (i : Option ℕ) (xs ys : List ℕ) → indent_from i (xs ++ ys) ≡ indent_from (indent_from i xs) ys
+indent-append i [] ys = refl
+indent-append i (x ∷ xs) ys = indent-append (indented i x) xs ys
+
+-- a place behind a line's end, and one before it
+indent-behind : {a : List ℕ} (b : List ℕ) (n : ℕ) → EndsLine a → indent_at (a ++ b) (length a + n) ≡ indent_at b n
+indent-behind {a} b n l = ap (indent_from (Some 0)) (take-append-add a b n) ∙ indent-append (Some 0) a (take n b)
+    ∙ ap (λ (i : Option ℕ). indent_from i (take n b)) (line-indent l (Some 0))
+
+indent-front : (a b : List ℕ) (n : ℕ) → n ≤ length a → indent_at (a ++ b) n ≡ indent_at a n
+indent-front a b n le = ap (indent_from (Some 0)) (take-append-le n a b le)
+
+-- the token, so many bytes further on
+abbrev moved_token : ℕ → Tok AbnfKind → Tok AbnfKind
+moved_token n (tok k z p) = tok k z (moved_span n p)
+
+next-moved : (n : ℕ) {total : ℕ} {t r : List ℕ} (x : Tok AbnfKind) → Next White First total t x r
+    → Next White First (n + total) t (moved_token n x) r
+next-moved n (tok k z p) h = record {
+  token = h.token;
+  white = h.white;
+  first = h.first;
+  cut = h.cut;
+  place = (let e = h.place in omega arith);
+  size = (let e = h.size in omega arith);
+}
+
+ends-moved : (n : ℕ) (x : Tok AbnfKind) (e : Bool) → ends_list (lexing.kind_of x) ≡ e
+    → ends_list (lexing.kind_of (moved_token n x)) ≡ e
+ends-moved n (tok k z p) e h = h
+
+tokens-moved : (n : ℕ) {total : ℕ} {t : List ℕ} {ts : List (Tok AbnfKind)}
+    → lexing.AreTokens White First ends_list total t ts
+    → lexing.AreTokens White First ends_list (n + total) t (map (moved_token n) ts)
+tokens-moved n (last_one {x} h e) = last_one (next-moved n x h) (ends-moved n x true e)
+tokens-moved n (one_more {x} h e more) = one_more (next-moved n x h) (ends-moved n x false e) (tokens-moved n more)
+
+kind-moved : (n : ℕ) {k : AbnfKind} {z : List ℕ} {p : Span} {s : Said} → SaysKind k z p s
+    → SaysKind k z (moved_span n p) (moved_said n s)
+kind-moved n says_name = says_name
+kind-moved n says_is = says_is
+kind-moved n says_adds = says_adds
+kind-moved n says_slash = says_slash
+kind-moved n says_lparen = says_lparen
+kind-moved n says_rparen = says_rparen
+kind-moved n says_lbrack = says_lbrack
+kind-moved n says_rbrack = says_rbrack
+kind-moved n (says_repeat h) = says_repeat h
+kind-moved n (says_text e) = says_text e
+kind-moved n (says_cased i e) = says_cased i e
+kind-moved n (says_num (says_values a h)) = says_num (says_values a h)
+kind-moved n (says_num (says_range a e b c)) = says_num (says_range a e b c)
+kind-moved n (says_prose e) = says_prose e
+kind-moved n says_end = says_end
+
+eqb-moved : (n a b : ℕ) → not (n + a == n + b) ≡ not (a == b)
+eqb-moved n a b = grind (arith, nat_tests)
+
+-- a token whose marks are those
+says-so : {k : AbnfKind} {z : List ℕ} {p : Span} {s : Said} {g h f e : Bool} → g ≡ h → f ≡ e → SaysKind k z p s
+    → Says (marked (tok k z p) g f) (word h e s)
+says-so p q k = rw (p, q) (says k)
+
+pub say-moved : {a : List ℕ} (b : List ℕ) (n : ℕ) (ts : List (Tok AbnfKind)) {ws : List Word} → EndsLine a
+    → SayAll (marks b (Some 0) n ts) ws
+    → SayAll (marks (a ++ b) (Some 0) (length a + n) (map (moved_token (length a)) ts)) (map (moved_word (length a)) ws)
+say-moved b n [] l say_none = say_none
+say-moved {a} b n (tok k z p ∷ ts) l (say_more (says h) more) =
+    say_more (says-so (eqb-moved (length a) p.start n)
+    (ap (λ (i : Option ℕ). not (ends_list k) && begins_rule (Some 0) i) (indent-behind b p.start l))
+    (kind-moved (length a) h)) (say-moved b p.end ts l more)
+
+-- the tokens of t, the end of the text, behind that place say these words
+pub record TellsBehind (text : List ℕ) (place : ℕ) (t : List ℕ) (ws : List Word) : Type 0 where
+  pub tokens : List (Tok AbnfKind)
+  pub are_tokens : lexing.AreTokens White First ends_list (length text) t tokens
+  pub say : SayAll (marks text (Some 0) place tokens) ws
+
+tokens-white : {total : ℕ} {t m : List ℕ} {ts : List (Tok AbnfKind)} → White t m
+    → lexing.AreTokens White First ends_list total m ts → lexing.AreTokens White First ends_list total t ts
+tokens-white w (last_one h e) = last_one (record {
+  token = h.token;
+  white = white-through w h.white;
+  first = h.first;
+  cut = h.cut;
+  place = h.place;
+  size = h.size;
+}) e
+tokens-white w (one_more h e more) = one_more (record {
+  token = h.token;
+  white = white-through w h.white;
+  first = h.first;
+  cut = h.cut;
+  place = h.place;
+  size = h.size;
+}) e more
+
+gap-behind : (n m j : ℕ) → j < n → not (n + m == j) ≡ true
+gap-behind n m j lt = grind (arith, nat_tests)
+
+-- white space stands before the first token, where the last one ended earlier
+say-gap : (text : List ℕ) (n j m : ℕ) (ts : List (Tok AbnfKind)) {ws : List Word} → j < n
+    → SayAll (marks text (Some 0) m (map (moved_token n) ts)) ws
+    → SayAll (marks text (Some 0) j (map (moved_token n) ts)) (with_gap ws)
+say-gap text n j m [] lt say_none = say_none
+say-gap text n j m (tok k z p ∷ ts) lt (say_more (says h) more) =
+    say_more (says-so (gap-behind n p.start j lt) refl h) more
+
+line-length : {t : List ℕ} → EndsLine t → 1 ≤ length t
+line-length lf = omega arith
+line-length (behind_byte l) = omega arith
+
+-- what a text says where it stands behind one that LF ends, of which u is left, and is white space
+pub tells-second : {a b u : List ℕ} {ts : List (Tok AbnfKind)} {ws : List Word} (j : ℕ) → EndsLine a
+    → lexing.AreTokens White First ends_list (length b) b ts → SayAll (marks b (Some 0) 0 ts) ws → EndsLine u
+    → White u [] → j + length u ≡ length a → TellsBehind (a ++ b) j (u ++ b) (words_behind (length a) ws)
+tells-second {a} {b} {u} {ts} {ws} j l t s lu w e =
+    let total : length a + length b ≡ length (a ++ b) = sym (length-append a b) in
+    let moved = tokens-white (white-on b (some_text lu) w) (tokens-moved (length a) t) in
+    let some = line-length lu in
+    record {
+      tokens = map (moved_token (length a)) ts;
+      are_tokens = rw total at moved;
+      say = say-gap (a ++ b) (length a) j (length a + 0) ts (omega arith) (say-moved b 0 ts l s);
+    }
+
+end-said : {k : AbnfKind} {z : List ℕ} {p : Span} {s : Said} → ends_list k ≡ true → SaysKind k z p s → s ≡ End
+end-said e says_end = refl
+end-said e _ = cc
+
+pub first-said : {k : AbnfKind} {z t r : List ℕ} {p : Span} {s : Said} → ends_list k ≡ false → SaysKind k z p s
+    → First k t r → Longest Stands k t r
+first-said e h (found l) = l
+first-said e h (bad x y) = elim h [ ]
+first-said e h at_end = cc
+
+stands-some : {k : AbnfKind} {t r : List ℕ} → LeftLine t → Stands k t r → EndsLine t
+stands-some no_text h = elim h [ ]
+stands-some (some_text l) h = l
+
+-- the words of a text but its end, and what it says where words are said behind it
+pub record TellsFirst (text : List ℕ) (place : ℕ) (t : List ℕ) (ws others : List Word) : Type 0 where
+  pub front : List Word
+  pub gap : Bool
+  pub whole : ws ≡ front ++ word gap false End ∷ []
+  pub tells : TellsBehind text place t (front ++ others)
+
+first-same : (a b : List ℕ) (k : AbnfKind) (z : List ℕ) (p : Span) → p.start ≤ length a
+    → is_first (a ++ b) (Some 0) (tok k z p) ≡ is_first a (Some 0) (tok k z p)
+first-same a b k z p le =
+    ap (λ (i : Option ℕ). not (ends_list k) && begins_rule (Some 0) i) (indent-front a b p.start le)
+
+next-on : (a b : List ℕ) {t r : List ℕ} {k : AbnfKind} {z : List ℕ} {p : Span}
+    (h : Next White First (length a) t (tok k z p) r) → EndsLine t → EndsLine h.token → Longest Stands k h.token r
+    → Next White First (length (a ++ b)) (t ++ b) (tok k z p) (r ++ b)
+next-on a b {t} {r} {z = z} h l lt longest = record {
+  token = h.token ++ b;
+  white = white-on b (some_text l) h.white;
+  first = found (longest-on b lt longest);
+  cut = ap (λ (v : List ℕ). v ++ b) h.cut ∙ append_assoc z r b;
+  place = (let e = h.place in omega (arith, length-append h.token b, length-append a b));
+  size = h.size;
+}
+
+-- what a marked token says
+pub record WordSaid (k : AbnfKind) (z : List ℕ) (p : Span) (g f : Bool) (w : Word) : Type 0 where
+  pub said : Said
+  pub says_it : SaysKind k z p said
+  pub is : w ≡ word g f said
+
+pub word-said : {k : AbnfKind} {z : List ℕ} {p : Span} {g f : Bool} {w : Word} → Says (marked (tok k z p) g f) w
+    → WordSaid k z p g f w
+word-said (says {s} h) = record { said = s; says_it = h; is = refl }
+
+last-whole : {k : AbnfKind} {z : List ℕ} {p : Span} {g : Bool} (f : Bool) {w : Word} → ends_list k ≡ true
+    → WordSaid k z p g (not (ends_list k) && f) w → w ∷ [] ≡ word g false End ∷ []
+last-whole {g = g} f e o =
+    let x = o.is in
+    let y = end-said e o.says_it in
+    rw (x, e, y) refl
+
+front-whole : {v w : Word} {vs : List Word} (front : List Word) (g : Bool) → v ≡ w → vs ≡ front ++ word g false End ∷ []
+    → v ∷ vs ≡ w ∷ (front ++ word g false End ∷ [])
+front-whole front g p q = rw (p, q) refl
+
+pub tells-first : (a b : List ℕ) {t : List ℕ} {ts : List (Tok AbnfKind)} {ws : List Word} (others : List Word) (n : ℕ)
+    → EndsLine t → n + length t ≡ length a → lexing.AreTokens White First ends_list (length a) t ts
+    → SayAll (marks a (Some 0) n ts) ws → ((u : List ℕ) (j : ℕ) → EndsLine u → White u [] → j + length u ≡ length a
+    → TellsBehind (a ++ b) j (u ++ b) others) → TellsFirst (a ++ b) n (t ++ b) ws others
+tells-first a b {t} others n l e (last_one {x = tok k z p} h is_end) (say_more y say_none) f =
+    let nothing : h.token ≡ [] = first-last is_end h.first in
+    record {
+      front = [];
+      gap = not (p.start == n);
+      whole = last-whole (begins_rule (Some 0) (indent_at a p.start)) is_end (word-said y);
+      tells = f t n l (let w = h.white in rw nothing at w) e;
+    }
+tells-first a b {t} others n l e (one_more {r = r} {x = tok k z p} h goes more) (say_more {ws = vs} y says_more) f =
+    let o = word-said y in
+    let longest = first-said goes o.says_it h.first in
+    let line = stands-some (white-line (some_text l) h.white) longest.stands in
+    let behind = stands-line line longest.stands in
+    let size : p.end + length r ≡ length a = (let x = ap length h.cut in let y = h.place in let v = h.size in
+    omega (arith, length-append z r)) in
+    let within : p.start ≤ length a = (let y = h.place in omega arith) in
+    let rest = tells-first a b others p.end behind size more says_more f in
+    let told = rest.tells in
+    let gap = not (p.start == n) in
+    let first = is_first a (Some 0) (tok k z p) in
+    record {
+      front = word gap first o.said ∷ rest.front;
+      gap = rest.gap;
+      whole = front-whole rest.front rest.gap o.is rest.whole;
+      tells = record {
+        tokens = tok k z p ∷ told.tokens;
+        are_tokens = one_more (next-on a b h l line longest) goes told.are_tokens;
+        say = say_more (says-so refl (first-same a b k z p within) o.says_it) told.say;
+      };
+    }

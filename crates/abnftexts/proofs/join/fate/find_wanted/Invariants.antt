@@ -1,0 +1,15 @@
+use Rattle.std.proofs.Common.{◌≡◌, ◌+◌, ◌-◌, ◌≤◌, not, length, map, drop}
+use Rattle.std.specs.List.{prefix_len}
+use Rattle.abnftexts.specs.GivenRules.{text_rule, yields_to, first_wanted}
+use Rattle.abnftexts.proofs.join.fate.find_wanted.Given as goal
+
+abbrev pub invariant-loop-place : goal.invariant-loop-place
+invariant-loop-place l = record {
+  within : l.place ≤ length l.rules;
+  same : l.place
+      + prefix_len (λ other. not (yields_to (text_rule l.rule) other)) (drop l.place (map text_rule l.rules))
+      ≡ first_wanted (text_rule l.rule) (map text_rule l.rules);
+}
+
+abbrev pub decreases-loop-place : goal.decreases-loop-place
+decreases-loop-place l = length l.rules - l.place

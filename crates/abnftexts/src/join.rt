@@ -1,0 +1,17 @@
+//! What becomes of the rules that several texts give: which are the same, which yield to others, and in what order they
+//! are printed.
+
+mod fate;
+mod given;
+mod leaves;
+mod linked;
+mod only_prose;
+mod order;
+mod same;
+
+pub use fate::{Fate, find_fates};
+pub use given::GivenRule;
+pub use linked::linked_reading;
+pub use only_prose::is_only_prose;
+pub use order::{Clash, find_clashes, find_order};
+pub use same::is_same_element;

@@ -1,0 +1,6 @@
+pub mod AppLemmas
+mod EntryLemmas
+pub mod AreWholeLemmas
+pub mod AskLemmas
+mod AnswersLemmas
+mod JobStatesLemmas

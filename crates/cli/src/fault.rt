@@ -1,0 +1,107 @@
+//! The end of a program whose words were not parsed.
+ghost use Rattle.std.specs.Prelude.{◌≡◌, ◌⊎◌, ◌≤◌, IfOk, false, true};
+ghost use Rattle.std.specs.Io.KnownBytes.{Keeps};
+ghost use Rattle.clap.specs.Words.{kind_of};
+ghost use Rattle.cli.specs.Jobs.{TellsOf};
+ghost use Rattle.cli.specs.Parsing.{EndsAs, IsNoHelp};
+ghost use Rattle.toolrun.specs.Status.{code_of};
+
+use clap::error::ErrorKind;
+use clap::{Command, Error};
+use ruletable::{Sink, write_whole};
+use std::alloc::{AllocError, Global};
+use toolrun::{Status, Stop, close_run, end_run};
+
+/// What is told of a word that is no UTF-8 text.
+const INVALID_UTF8: &str = "invalid UTF-8 was detected in one or more arguments";
+
+/// Tells on the error output what is wrong with the words.
+fn tell_fault<O: Sink, E: Sink>(text: &str, out: &mut O, err: &mut E) -> Status
+    requires out_is_fresh { O.failed out.old ≡ false }
+    requires err_is_fresh { E.failed err.old ≡ false }
+    ensures kept { Keeps (O.contents out.old) (O.contents out.new) }
+    ensures status { O.failed out.new ≡ false → E.failed err.new ≡ false → result ≡ Status.Refused }
+    ensures failed { (O.failed out.new ≡ true) ⊎ (E.failed err.new ≡ true) → 4 ≤ code_of result }
+{
+    if write_whole(err, text.as_bytes()).is_err() {
+        return close_run(out, err);
+    }
+    // the text says all
+    end_run(Ok(Stop::Quiet(Status::Refused)), out, err)
+}
+
+/// Shows the help on the output.
+fn show_help<O: Sink, E: Sink>(text: &str, out: &mut O, err: &mut E) -> Status
+    requires out_is_fresh { O.failed out.old ≡ false }
+    requires err_is_fresh { E.failed err.old ≡ false }
+    ensures status { O.failed out.new ≡ false → E.failed err.new ≡ false → result ≡ Status.Done }
+    ensures failed { (O.failed out.new ≡ true) ⊎ (E.failed err.new ≡ true) → 4 ≤ code_of result }
+{
+    match write_whole(out, text.as_bytes()) {
+        Ok(()) => end_run(Ok(Stop::Quiet(Status::Done)), out, err),
+        Err(fault) => end_run(Err(fault), out, err),
+    }
+}
+
+/// Ends a program whose words were not parsed: the help that was asked for goes to `out`, and what is wrong with the
+/// words to `err`. If an allocation fails, `out of memory`.
+pub fn end_unparsed<O: Sink, E: Sink>(
+    alloc: Global,
+    error: &Error,
+    out: &mut O,
+    err: &mut E,
+) -> Status
+    requires out_is_fresh { O.failed out.old ≡ false }
+    requires err_is_fresh { E.failed err.old ≡ false }
+    ensures kept { IsNoHelp (kind_of error.now) → Keeps (O.contents out.old) (O.contents out.new) }
+    ensures refused { IsNoHelp (kind_of error.now) →
+        EndsAs (O.failed out.new) (E.failed err.new) Status.Refused result }
+    ensures helped { kind_of error.now ≡ ErrorKind.DisplayHelp →
+        EndsAs (O.failed out.new) (E.failed err.new) Status.Done result }
+    ensures no_memory { kind_of error.now ≡ ErrorKind.OutOfMemory →
+        EndsAs (O.failed out.new) (E.failed err.new) Status.NoMemory result }
+    ensures stopped { kind_of error.now ≡ ErrorKind.OutOfMemory → TellsOf Stop.NoMemory (O.contents out.old)
+        (O.contents out.new) (O.failed out.new) (E.contents err.old) (E.contents err.new) (E.failed err.new)
+        (code_of result) }
+    ensures failed { (O.failed out.new ≡ true) ⊎ (E.failed err.new ≡ true) → 4 ≤ code_of result }
+{
+    if error.kind() == ErrorKind::OutOfMemory {
+        return end_run(Ok(Stop::NoMemory), out, err);
+    }
+    let Ok(text) = format!(in alloc; "{error}") else {
+        return end_run(Ok(Stop::NoMemory), out, err);
+    };
+    if error.use_stderr() {
+        tell_fault(text.as_str(), out, err)
+    } else {
+        show_help(text.as_str(), out, err)
+    }
+}
+
+/// Returns the error of words that are not all UTF-8 text, in the form of the errors of a parse by that command.
+fn invalid_utf8(command: Result<Command<'_>, AllocError>) -> Result<Error, AllocError>
+    ensures kind { IfOk result (λ e. kind_of e ≡ ErrorKind.ValueValidation) }
+{
+    let mut command = command?;
+    command.error(ErrorKind::ValueValidation, INVALID_UTF8)
+}
+
+/// Ends a program of that command, whose words are not all UTF-8 text: that is told on `err`, `Refused`. If an
+/// allocation fails, or failed for the command, `out of memory`, `NoMemory`.
+pub fn refuse_invalid_utf8<O: Sink, E: Sink>(
+    alloc: Global,
+    command: Result<Command<'_>, AllocError>,
+    out: &mut O,
+    err: &mut E,
+) -> Status
+    requires out_is_fresh { O.failed out.old ≡ false }
+    requires err_is_fresh { E.failed err.old ≡ false }
+    ensures kept { Keeps (O.contents out.old) (O.contents out.new) }
+    ensures refused { EndsAs (O.failed out.new) (E.failed err.new) Status.Refused result }
+    ensures failed { (O.failed out.new ≡ true) ⊎ (E.failed err.new ≡ true) → 4 ≤ code_of result }
+{
+    match invalid_utf8(command) {
+        Ok(error) => end_unparsed(alloc, &error, out, err),
+        Err(_) => end_run(Ok(Stop::NoMemory), out, err),
+    }
+}

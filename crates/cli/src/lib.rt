@@ -1,0 +1,18 @@
+//! The command lines of the programs: what the words ask for, the run of a program whose language is given, and the end
+//! of a program that has nothing to run.
+#![tactic(auto)]
+
+mod command;
+mod fault;
+mod help;
+mod reading;
+mod settings;
+mod start;
+mod tool;
+
+pub use command::{Program, abnfi_command, flag_arg, is_a_simple_command, parse, pegi_command};
+pub use fault::refuse_invalid_utf8;
+pub use reading::{Job, Unready, end_unready, read_job};
+pub use settings::{Asked, read_words, settings_of};
+pub use start::{end_without_memory, words_of};
+pub use tool::tool_main;

@@ -1,0 +1,95 @@
+//! What a program is to do: the settings in its words, and its grammar.
+ghost use Rattle.std.specs.Prelude.{◌≡◌, ◌⊎◌, ◌≤◌, MatchResult, [], false, map, string_bytes, true};
+ghost use Rattle.std.specs.Io.KnownBytes.{Keeps};
+ghost use Rattle.clap.specs.Words.{Kinds, fault_of, matches_of};
+ghost use Rattle.cli.specs.Asked.{Ask};
+ghost use Rattle.cli.specs.Command.{IsAppOf};
+ghost use Rattle.cli.specs.Jobs.{IsStopOf, TellsOf};
+ghost use Rattle.cli.specs.Parsing.{Answers, EndsAs, IsUnready};
+ghost use Rattle.toolrun.specs.Status.{code_of};
+
+use crate::command::Program;
+use crate::fault::end_unparsed;
+use crate::settings::{Asked, read_words};
+use clap::Error;
+use lexer::MAX_GRAMMAR;
+use ruletable::Sink;
+use std::alloc::Global;
+use std::io::{ErrorKind, Read};
+use std::rt::Files;
+use std::{fs, io};
+use toolrun::{Settings, Status, Stop, end_run};
+
+/// A grammar's text, and how it is run.
+#[derive(Drop)]
+pub struct Job<'a> {
+    pub settings: Settings<'a>,
+    pub grammar: Vec<u8>,
+}
+
+/// Why a program has no job.
+#[derive(Drop)]
+pub enum Unready {
+    /// Its words were not parsed.
+    Words(Error),
+    /// Its grammar cannot be read.
+    Unreadable,
+    /// There was no memory for its grammar.
+    NoMemory,
+}
+
+/// Reads a grammar's file: one byte more than a grammar may have is enough to tell that it is too long.
+fn read_grammar<R: Files + AllocGlobal>(rt: &R, path: &str) -> io::Result<Vec<u8>> {
+    let mut bytes = Vec::new(rt.alloc());
+    fs::open(rt, path)?
+        .take(MAX_GRAMMAR as u64 + 1)
+        .read_to_end(&mut bytes)?;
+    Ok(bytes)
+}
+
+/// Reads the words of a program, and then the grammar's file.
+pub fn read_job<'a, R: Files + AllocGlobal>(
+    rt: &R,
+    program: Program,
+    words: &'a [String],
+) -> Result<Job<'a>, Unready>
+    ensures job { (app : _) × IsAppOf program app × MatchResult result
+        (λ job. (fault_of app (map string_bytes words.entry.now) ≡ []) ×
+        ((path : _) × Ask (matches_of app (map string_bytes words.entry.now))
+        (record { settings = job.settings; path = path })))
+        (IsUnready (fault_of app (map string_bytes words.entry.now))) }
+{
+    let Asked { settings, path } = match read_words(rt.alloc(), program, words) {
+        Ok(asked) => asked,
+        Err(error) => return Err(Unready::Words(error)),
+    };
+    match read_grammar(rt, path) {
+        Ok(grammar) => Ok(Job { settings, grammar }),
+        Err(fault) if fault.kind() == ErrorKind::OutOfMemory => Err(Unready::NoMemory),
+        Err(_) => Err(Unready::Unreadable),
+    }
+}
+
+/// Ends a program that has no job: the help that was asked for goes to `out`, and what is wrong to `err`.
+pub fn end_unready<O: Sink, E: Sink>(
+    alloc: Global,
+    why: &Unready,
+    out: &mut O,
+    err: &mut E,
+) -> Status
+    requires out_is_fresh { O.failed out.old ≡ false }
+    requires err_is_fresh { E.failed err.old ≡ false }
+    ensures words { (kinds : Kinds) → IsUnready kinds why.now → Answers kinds
+        (Keeps (O.contents out.old) (O.contents out.new) ×
+        EndsAs (O.failed out.new) (E.failed err.new) Status.Refused result)
+        (EndsAs (O.failed out.new) (E.failed err.new) Status.Done result) }
+    ensures stopped { (stop : _) → IsStopOf why.now stop → TellsOf stop (O.contents out.old) (O.contents out.new)
+        (O.failed out.new) (E.contents err.old) (E.contents err.new) (E.failed err.new) (code_of result) }
+    ensures failed { (O.failed out.new ≡ true) ⊎ (E.failed err.new ≡ true) → 4 ≤ code_of result }
+{
+    match why {
+        Unready::Words(error) => end_unparsed(alloc, error, out, err),
+        Unready::Unreadable => end_run(Ok(Stop::Unreadable), out, err),
+        Unready::NoMemory => end_run(Ok(Stop::NoMemory), out, err),
+    }
+}

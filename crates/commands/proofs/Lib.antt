@@ -1,4 +1,0 @@
-pub mod AppLemmas
-mod EntryLemmas
-pub mod AreWholeLemmas
-pub mod AskLemmas

@@ -1,9 +1,0 @@
-pub mod CellMapLemmas
-pub mod IsPutLemmas
-pub mod HaveTakenLemmas
-pub mod IsTurnLemmas
-pub mod IsStackLemmas
-pub mod FrameCodesLemmas
-pub mod AreCellsLemmas
-pub mod IsStepLemmas
-pub mod FrameLemmas

@@ -1,4 +1,0 @@
-pub mod CellMap
-pub mod State
-pub mod Turns
-pub mod Desk

@@ -1,0 +1,54 @@
+-- What the places of a text tell explains a note, and only that.
+-- Serves: explain_peg_note, explain_abnf_note, one_note_explanation, one_note_explanation_of_abnf
+use Rattle.std.proofs.Common.{◌≡◌, ℕ, Bool, List, Option, None, length, map, sym, ap, ◌∙◌}
+use Rattle.diagnostics.specs.BodyMentions.{mentioned_at, mentions_in}
+use Rattle.lexer.specs.TokenLists.{Tok, AreTokens}
+use Rattle.ruletable.specs.Notes.{Said}
+use Rattle.ruletable.specs.declared.lines.LineRule.{LineRule}
+use Rattle.ruletable.specs.declared.table.NameCase.{NameCase}
+use Rattle.diagnostics.specs.DefinitionHeads.{definitions_in, sign_at}
+use Rattle.diagnostics.specs.ExplainedNotes.{ArePlaces, IsNoteExplained, note_lines, told_by}
+use Rattle.diagnostics.specs.FirstMentions.{rule_named}
+use Rattle.diagnostics.specs.MentionLines.{lines_mentioned, mention_lines_by, mention_lines_of}
+use Rattle.diagnostics.specs.UseLines.{lines_behind}
+use Rattle.diagnostics.specs.declared.noteplaces.mentions.MentionKind.{MentionKind}
+use Rattle.diagnostics.specs.declared.noteplaces.places.Places.{Places}
+use Rattle.diagnostics.specs.declared.noteplaces.sign.Sign.{Sign}
+
+module _ {K : Type 0} (White : List ℕ → List ℕ → Type 0) (First : K → List ℕ → List ℕ → Type 0) (is_end : K → Bool)
+    (sign_of : K → Sign) (rule : LineRule) (names : NameCase) (text : List ℕ) where
+  pub places-explain : (places : Places) (start : Option (List ℕ)) (note : Said) (why : List ℕ)
+      → ArePlaces White First is_end sign_of rule names text places → why ≡ told_by places start note
+      → IsNoteExplained White First is_end sign_of rule names text start note why
+  places-explain places start note why are e = record {
+    tokens = are.tokens;
+    are_tokens = are.are_tokens;
+    is = e ∙ ap (λ ds. lines_behind places.names ds (map mentioned_at places.mentions.items) start note) are.heads_are
+        ∙ ap (λ ms. lines_behind places.names (definitions_in rule text (map (sign_at sign_of) are.tokens)) ms start
+        note) are.mentions_are
+        ∙ ap (λ (c : NameCase). lines_behind c (definitions_in rule text (map (sign_at sign_of) are.tokens))
+        (mentions_in rule text None (map (sign_at sign_of) are.tokens)) start note) are.names_are;
+  }
+
+  -- one text explains, where the tokens are one list
+  pub explained-one : ((a b : List (Tok K)) → AreTokens White First is_end (length text) text a
+      → AreTokens White First is_end (length text) text b → a ≡ b)
+      → (start : Option (List ℕ)) (note : Said) (a b : List ℕ)
+      → IsNoteExplained White First is_end sign_of rule names text start note a
+      → IsNoteExplained White First is_end sign_of rule names text start note b → a ≡ b
+  explained-one one start note a b g h =
+      g.is ∙ ap (λ ts. note_lines rule names text (map (sign_at sign_of) ts) start note)
+      (one g.tokens h.tokens g.are_tokens h.are_tokens) ∙ sym h.is
+
+  -- the lines of mentions that places tell are those of the tokens
+  pub places-mention : (places : Places) (kind : MentionKind) (name : List ℕ)
+      (are : ArePlaces White First is_end sign_of rule names text places)
+      → mention_lines_by places kind name ≡ lines_mentioned rule names text (map (sign_at sign_of) are.tokens) kind name
+  places-mention places kind name are =
+      ap (λ ds. mention_lines_of kind (rule_named places.names ds name) (map mentioned_at places.mentions.items))
+      are.heads_are
+      ∙ ap (λ ms. mention_lines_of kind (rule_named places.names
+      (definitions_in rule text (map (sign_at sign_of) are.tokens)) name) ms) are.mentions_are
+      ∙ ap (λ (c : NameCase). mention_lines_of kind (rule_named c
+      (definitions_in rule text (map (sign_at sign_of) are.tokens)) name)
+      (mentions_in rule text None (map (sign_at sign_of) are.tokens))) are.names_are

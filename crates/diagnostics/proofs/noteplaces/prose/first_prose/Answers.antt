@@ -1,0 +1,28 @@
+use Rattle.std.proofs.Common.{Some, sym, ap, ◌∙◌, ◌==◌, map}
+use Rattle.std.specs.Prelude.{◌&&◌}
+use Rattle.std.specs.List.{list_any}
+use Rattle.diagnostics.specs.BodyMentions.{MentionedAt, is_kind, mentioned_at}
+use Rattle.diagnostics.specs.DefinitionHeads.{defined_at}
+use Rattle.diagnostics.specs.declared.noteplaces.mentions.Mention.{Mention}
+use Rattle.diagnostics.specs.declared.noteplaces.mentions.MentionKind.TheVariants.{Prose}
+use Rattle.diagnostics.proofs.MentionOrderLemmas.{find-passed, find-there}
+use Rattle.diagnostics.proofs.noteplaces.prose.first_prose.Goals as goal
+
+pub returns-then-is_prose_within : goal.returns-then-is_prose_within
+returns-then-is_prose_within c =
+    let test = λ (m : MentionedAt). is_kind Prose m.kind
+    && list_any (λ d. d.start == m.within) (map (λ h. defined_at h.now) c.args.heads.now) in
+    ap (λ (m : Mention). Some (mentioned_at m)) c.mention-item.is
+    ∙ sym (find-there mentioned_at test c.args.mentions.now c.loop-mention.mention-index c.mention-item.result
+    c.loop-mention-test.true (ap (λ (m : Mention). test (mentioned_at m)) (sym c.mention-item.is)
+    ∙ sym c.is_prose_within.ensures ∙ c.if-is_prose_within.true))
+    ∙ c.loop-mention.invariant
+
+pub loop-mention-preserved : goal.loop-mention-preserved
+loop-mention-preserved c =
+    let test = λ (m : MentionedAt). is_kind Prose m.kind
+    && list_any (λ d. d.start == m.within) (map (λ h. defined_at h.now) c.args.heads.now) in
+    sym (find-passed mentioned_at test c.args.mentions.now c.loop-mention.mention-index c.mention-item.result
+    c.loop-mention-test.true (ap (λ (m : Mention). test (mentioned_at m)) (sym c.mention-item.is)
+    ∙ sym c.is_prose_within.ensures ∙ c.if-is_prose_within.false))
+    ∙ c.loop-mention.invariant

@@ -1,0 +1,38 @@
+-- The lines that explain a note on the grammar of a text.
+use Rattle.std.specs.Prelude.{◌≡◌, ℕ, Bool, List, Option, None, length, map}
+use Rattle.lexer.specs.TokenLists.{Tok, AreTokens}
+use Rattle.ruletable.specs.Notes.{Said}
+use Rattle.ruletable.specs.declared.lines.LineRule.{LineRule}
+use Rattle.ruletable.specs.declared.table.NameCase.{NameCase}
+use Rattle.diagnostics.specs.BodyMentions.{mentioned_at, mentions_in}
+use Rattle.diagnostics.specs.DefinitionHeads.{SignAt, defined_at, definitions_in, sign_at}
+use Rattle.diagnostics.specs.UseLines.{lines_behind}
+use Rattle.diagnostics.specs.declared.noteplaces.places.Places.{Places}
+use Rattle.diagnostics.specs.declared.noteplaces.sign.Sign.{Sign}
+
+-- the lines behind a note on the grammar of these tokens of a text, where that name is given for the start rule
+abbrev pub note_lines : LineRule → NameCase → List ℕ → List SignAt → Option (List ℕ) → Said → List ℕ
+note_lines rule names text signs start note =
+    lines_behind names (definitions_in rule text signs) (mentions_in rule text None signs) start note
+
+-- the lines that such places tell
+abbrev pub told_by : Places → Option (List ℕ) → Said → List ℕ
+told_by places start note = lines_behind places.names (map defined_at places.heads.items)
+    (map mentioned_at places.mentions.items) start note
+
+module _ {K : Type 0} (White : List ℕ → List ℕ → Type 0) (First : K → List ℕ → List ℕ → Type 0) (is_end : K → Bool)
+    (sign_of : K → Sign) (rule : LineRule) (names : NameCase) (text : List ℕ) where
+  -- the places are the text's
+  pub record ArePlaces (places : Places) : Type 0 where
+    pub tokens : List (Tok K)
+    pub are_tokens : AreTokens White First is_end (length text) text tokens
+    pub names_are : places.names ≡ names
+    pub heads_are : map defined_at places.heads.items ≡ definitions_in rule text (map (sign_at sign_of) tokens)
+    pub mentions_are : map mentioned_at places.mentions.items
+        ≡ mentions_in rule text None (map (sign_at sign_of) tokens)
+
+  -- the lines explain the note
+  pub record IsNoteExplained (start : Option (List ℕ)) (note : Said) (why : List ℕ) : Type 0 where
+    pub tokens : List (Tok K)
+    pub are_tokens : AreTokens White First is_end (length text) text tokens
+    pub is : why ≡ note_lines rule names text (map (sign_at sign_of) tokens) start note

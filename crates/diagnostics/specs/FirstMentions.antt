@@ -1,0 +1,81 @@
+-- Which mention a note is told of.
+use Rattle.std.specs.Prelude.{◌≡◌, ◌⊎◌, ℕ, ◌<◌, ◌≤◌, ◌==◌, ◌||◌, nat_lt, List, [], ◌∷◌, Option, Some, None}
+use Rattle.std.specs.Prelude.{◌&&◌, if◌then◌else◌, slice_get, MatchOption}
+use Rattle.std.specs.List.{filter, find, list_any}
+use Rattle.ruletable.specs.Rules.{same_name}
+use Rattle.ruletable.specs.declared.table.NameCase.{NameCase}
+use Rattle.diagnostics.specs.BodyMentions.{MentionedAt, is_kind}
+use Rattle.diagnostics.specs.DefinitionHeads.{DefinedAt}
+use Rattle.diagnostics.specs.declared.noteplaces.mentions.MentionKind.TheVariants.{Use, Prose}
+
+-- the rule of a definition: the first definition of its name
+abbrev pub rule_named : NameCase → List DefinedAt → List ℕ → Option DefinedAt
+rule_named names definitions name = find (λ d. same_name names name d.name) definitions
+
+-- a definition stands in a rule that begins there if it begins it, or adds to it
+abbrev pub stands_in : DefinedAt → Option DefinedAt → Option DefinedAt
+stands_in d None = None
+stands_in d (Some r) = if (r.start == d.start) || d.adds then Some r else None
+
+-- the rule in which that definition stands
+abbrev pub rule_standing : NameCase → List DefinedAt → Option DefinedAt → Option DefinedAt
+rule_standing names definitions None = None
+rule_standing names definitions (Some d) = stands_in d (rule_named names definitions d.name)
+
+-- the rule in which the definition at a place stands
+abbrev pub rule_standing_at : NameCase → List DefinedAt → ℕ → Option DefinedAt
+rule_standing_at names definitions place = rule_standing names definitions (find (λ d. d.start == place) definitions)
+
+-- a mention, and the rule in which it stands
+pub record RuleMention : Type 0 where
+  pub rule : DefinedAt
+  pub mention : MentionedAt
+
+-- the one whose rule comes first, or else the first one
+abbrev pub earlier : Option DefinedAt → MentionedAt → Option RuleMention → Option RuleMention
+earlier None m other = other
+earlier (Some r) m None = Some (record { rule = r; mention = m })
+earlier (Some r) m (Some o) =
+    if nat_lt o.rule.start r.start then Some o else Some (record { rule = r; mention = m })
+
+-- the first mention in the order of the rules, and in each in the order of its bodies, of those that stand in one,
+-- before another one that stands behind them
+abbrev pub earliest : NameCase → List DefinedAt → List MentionedAt → Option RuleMention → Option RuleMention
+earliest names definitions [] other = other
+earliest names definitions (m ∷ ms) other =
+    earlier (rule_standing_at names definitions m.within) m (earliest names definitions ms other)
+
+-- None of the mentions stands in a rule.
+abbrev pub NoneStands : NameCase → List DefinedAt → List MentionedAt → Type 0
+NoneStands names definitions mentions = (k : ℕ) (m : MentionedAt) (r : DefinedAt) → slice_get mentions k ≡ Some m
+    → rule_standing_at names definitions m.within ≡ Some r → ⊥
+
+-- The mention at a place stands in a rule. No mention stands in a rule that comes before, and none of that rule stands
+-- before it.
+pub record IsFirstMention (names : NameCase) (definitions : List DefinedAt) (mentions : List MentionedAt)
+    (found : RuleMention) : Type 0 where
+  pub place : ℕ
+  pub there : slice_get mentions place ≡ Some found.mention
+  pub stands : rule_standing_at names definitions found.mention.within ≡ Some found.rule
+  pub first : (k : ℕ) (m : MentionedAt) (r : DefinedAt) → slice_get mentions k ≡ Some m
+      → rule_standing_at names definitions m.within ≡ Some r
+      → (found.rule.start < r.start) ⊎ ((found.rule.start ≡ r.start) × (place ≤ k))
+
+-- one that is the first, or none exactly if none stands in a rule
+abbrev pub IsFirstIfAny : NameCase → List DefinedAt → List MentionedAt → Option RuleMention → Type 0
+IsFirstIfAny names definitions mentions found =
+    MatchOption found (NoneStands names definitions mentions) (IsFirstMention names definitions mentions)
+
+-- the uses of a name
+abbrev pub uses_of : NameCase → List ℕ → List MentionedAt → List MentionedAt
+uses_of names name mentions = filter (λ m. is_kind Use m.kind && same_name names name m.text) mentions
+
+-- of the definitions of a rule those that stand: the first one, and those behind it that add to it
+abbrev pub standing_definitions : List DefinedAt → List DefinedAt
+standing_definitions [] = []
+standing_definitions (d ∷ ds) = d ∷ filter (λ e. e.adds) ds
+
+-- the first prose in the bodies of definitions
+abbrev pub first_prose : List DefinedAt → List MentionedAt → Option MentionedAt
+first_prose definitions mentions =
+    find (λ m. is_kind Prose m.kind && list_any (λ d. d.start == m.within) definitions) mentions

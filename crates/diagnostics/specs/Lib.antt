@@ -1,0 +1,16 @@
+pub mod LinesAround
+pub mod PhraseLists
+pub mod Pictures
+pub mod ShownBytes
+pub mod ToldPhrases
+pub mod FactRows
+pub mod FirstBytes
+pub mod BodyMentions
+pub mod DefinitionHeads
+pub mod ExplainedNotes
+pub mod FirstMentions
+pub mod FoundMentions
+pub mod NoteLines
+pub mod Openings
+pub mod MentionLines
+pub mod UseLines

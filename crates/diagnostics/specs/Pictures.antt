@@ -1,0 +1,36 @@
+-- A line with a caret below a byte.
+use Prim.Native.Char.{code}
+use Rattle.std.specs.Prelude.{ℕ, ◌+◌, ◌-◌, ◌/◌, nat_lt, min, List, ◌++◌, length, take, drop, replicate, codes}
+use Rattle.std.specs.Prelude.{decimal}
+use Rattle.ruletable.specs.declared.lines.LineRule.{LineRule}
+use Rattle.diagnostics.specs.LinesAround.{bytes_before, line_text}
+use Rattle.diagnostics.specs.ShownBytes.{shown, dots}
+use Rattle.diagnostics.specs.declared.picture.caret.TheConstants.{MAX_SHOWN}
+
+-- The first byte of the line that is shown: as many stand before the place as behind it, but at the line's ends.
+abbrev pub window_start : ℕ → ℕ → ℕ
+window_start size place = min (place - MAX_SHOWN / 2) (size - MAX_SHOWN)
+
+-- what is shown before the place: the bytes that begin the window, behind dots where it is not the line's beginning
+abbrev pub left_part : List ℕ → ℕ → List ℕ
+left_part line place =
+    let start = window_start (length line) place in
+    dots (nat_lt 0 start) ++ shown (take (place - start) (drop start line))
+
+-- what is shown from the place on
+abbrev pub right_part : List ℕ → ℕ → List ℕ
+right_part line place =
+    let end = window_start (length line) place + MAX_SHOWN in
+    shown (take (end - place) (drop place line)) ++ dots (nat_lt end (length line))
+
+-- both lines, behind two spaces
+abbrev pub picture : List ℕ → ℕ → List ℕ
+picture line place =
+    codes "  " ++ (left_part line place ++ (right_part line place
+    ++ (codes "\n  " ++ (replicate (length (left_part line place)) (code " ") ++ codes "^\n"))))
+
+-- the place at an offset of a text: its picture, and its column, which counts bytes from 1
+abbrev pub place_told : LineRule → List ℕ → ℕ → List ℕ
+place_told rule text offset =
+    let before = bytes_before rule (take offset text) in
+    picture (line_text rule text offset) before ++ (codes "  column " ++ (decimal (before + 1) ++ codes ": "))

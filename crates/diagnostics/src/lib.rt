@@ -1,0 +1,14 @@
+//! What diagnostics are made of: lines of text with a caret below them, and the positions that notes name.
+#![tactic(auto)]
+
+mod noteplaces;
+mod picture;
+
+pub use noteplaces::{
+    Head, Mention, MentionKind, Places, Sign, Signs, explain_note, mention_lines, places_of,
+    push_more,
+};
+pub use picture::{
+    Fact, LineAround, line_around, push_cut, push_fact, push_number, push_phrases, push_picture,
+    push_place, push_shown,
+};

@@ -1,0 +1,94 @@
+//! Lines with a caret below a byte.
+ghost use Rattle.std.specs.Prelude.{◌≡◌, ◌≤◌, ◌++◌, length, replicate, OnOk};
+ghost use Rattle.diagnostics.specs.Pictures.{window_start, left_part, right_part, picture, place_told};
+
+use crate::picture::around::{LineAround, line_around};
+use crate::picture::shown::{push_dots, push_number, push_shown};
+use ruletable::{LineRule, Memory};
+
+/// How many bytes of a line a picture shows.
+pub const MAX_SHOWN: usize = 72;
+
+// Adds so many spaces.
+fn push_blanks(out: &mut Vec<u8>, count: usize) -> Result<(), Memory>
+    ensures { OnOk result (out.new.items ≡ out.old.items ++ replicate count 32) }
+{
+    for _i in 0..count {
+        out.push(b' ')?;
+    }
+    Ok(())
+}
+
+// The first byte of the line that is shown.
+fn first_shown(size: usize, place: usize) -> usize
+    ensures { result ≡ window_start size place }
+{
+    place
+        .saturating_sub(MAX_SHOWN / 2)
+        .min(size.saturating_sub(MAX_SHOWN))
+}
+
+// Adds what is shown before the place.
+fn push_left(out: &mut Vec<u8>, place: LineAround<'_>) -> Result<(), Memory>
+    requires { place.before ≤ length place.line.now }
+    ensures { OnOk result (out.new.items ≡ out.old.items ++ left_part place.entry.line.now place.entry.before) }
+{
+    let line = place.line;
+    let start = first_shown(line.len(), place.before);
+    push_dots(out, start > 0)?;
+    push_shown(out, &line[start..place.before])
+}
+
+// Adds what is shown from the place on.
+fn push_right(out: &mut Vec<u8>, place: LineAround<'_>) -> Result<(), Memory>
+    requires { place.before ≤ length place.line.now }
+    ensures { OnOk result (out.new.items ≡ out.old.items ++ right_part place.entry.line.now place.entry.before) }
+{
+    let line = place.line;
+    let limit = first_shown(line.len(), place.before) + MAX_SHOWN;
+    let end = line.len().min(limit);
+    push_shown(out, &line[place.before..end])?;
+    push_dots(out, limit < line.len())
+}
+
+/// Adds a picture of a place: its line, and below it a caret under the byte there, both behind two spaces. Of a long
+/// line 72 bytes are shown, with `..` where others are left out.
+///
+/// # Errors
+/// `Memory` if an allocation fails.
+pub fn push_picture(out: &mut Vec<u8>, place: LineAround<'_>) -> Result<(), Memory>
+    requires { place.before ≤ length place.line.now }
+    ensures { OnOk result (out.new.items ≡ out.old.items ++ picture place.entry.line.now place.entry.before) }
+{
+    out.extend_from_slice(b"  ")?;
+    let margin = out.len();
+    push_left(out, place)?;
+    let width = out.len() - margin;
+    push_right(out, place)?;
+    out.extend_from_slice(b"\n  ")?;
+    push_blanks(out, width)?;
+    out.extend_from_slice(b"^\n")?;
+    Ok(())
+}
+
+/// Adds a picture of the place at an offset of a text, and `column C: ` for what is told of it, where C counts the
+/// bytes of the line from 1.
+///
+/// # Errors
+/// `Memory` if an allocation fails.
+pub fn push_place(
+    out: &mut Vec<u8>,
+    text: &[u8],
+    offset: usize,
+    rule: LineRule,
+) -> Result<(), Memory>
+    requires { offset ≤ length text.now }
+    ensures { OnOk result (out.new.items ≡ out.old.items ++ place_told rule text.now offset) }
+{
+    let place = line_around(text, offset, rule);
+    push_picture(out, place)?;
+    out.extend_from_slice(b"  column ")?;
+    push_number(out, place.before + 1)?;
+    out.extend_from_slice(b": ")?;
+    Ok(())
+}

@@ -1,0 +1,159 @@
+-- The sets of a chart are the item sets of its line.
+-- Serves: judge, Chart::items.
+use Rattle.std.proofs.Common.{◌≡◌, ℕ, zero, suc, ◌+◌, ◌*◌, ◌<◌, ◌≤◌, ◌⊎◌, inl, inr, Option, Some, None, List, [], ◌∷◌}
+use Rattle.std.proofs.Common.{◌++◌, length, length-append, map, take, slice_get, slice_index_or, refl, sym, ◌∙◌, ap}
+use Rattle.std.proofs.Common.{subst, arith, ⊎_elim, Global}
+use Rattle.std.proofs.lemmas.List.{length-map}
+use Rattle.std.specs.declared.rc.Rc.{Rc}
+use Rattle.flatgrammar.specs.Flat.{Flat, Place, at}
+use Rattle.flatgrammar.specs.Holds.{Holds, begins, called, has_read, returned}
+use Rattle.flatgrammar.specs.Places.{In, now, on, places}
+use Rattle.flatgrammar.specs.declared.flat_item.Item.{Item}
+use Rattle.earleyitems.specs.EarleySets.{EarleySet}
+use Rattle.flatgrammar.specs.declared.tables.Tables as code_flat
+use Rattle.flatgrammar.specs.NodeSteps.{flat_of}
+use Rattle.earleyitems.specs.Charts.{item_of, IsExact, IsExactSet}
+use Rattle.earleyitems.specs.ChartSets.{pair, chart_of, set_at, IsSet, AreSized}
+use Rattle.flatgrammar.specs.declared.block.Spot.{Spot}
+use Rattle.flatgrammar.specs.Blocks.{Block, item_at, block_of}
+use Rattle.earleyitems.specs.SetViews.{expand, full, view, views}
+use Rattle.flatgrammar.proofs.BeforeLemmas.{get_below}
+use Rattle.flatgrammar.proofs.FlatCutLemmas.{push_cases}
+use Rattle.earleyitems.proofs.ExpandLemmas.{get_views, length_views, take_one, expand_end}
+use Rattle.flatgrammar.proofs.PlacesLemmas.{items_at_most}
+use Rattle.earleyitems.proofs.SetAtMostLemmas.{From, in_map, different_map}
+
+-- no set lies past the line's end
+pub holds_within : {flat : Flat} {x : List ℕ} {j i : ℕ} {p : Place} → Holds flat x j p i → j ≤ length x
+holds_within (begins st) = omega arith
+holds_within (called h c st) = holds_within h
+holds_within {x = x} (has_read {j = j} h r letter lies) = let lt = get_below x j letter in omega (arith, lt)
+holds_within (returned h e g c takes) = holds_within h
+
+pub index_map : {A B : Type 0} (f : A → B) (xs : List A) (j : ℕ) (a : A) (d : B) → slice_get xs j ≡ Some a
+    → slice_index_or (map f xs) j d ≡ f a
+index_map f [] j a d is = absurd (cc is)
+index_map f (x ∷ xs) zero a d is = let same : x ≡ a = cc is in ap f same
+index_map f (x ∷ xs) (suc j) a d is = index_map f xs j a d is
+
+pub index_past : {A B : Type 0} (f : A → B) (xs : List A) (j : ℕ) (d : B) → length xs ≤ j
+    → slice_index_or (map f xs) j d ≡ d
+index_past f [] j d le = refl
+index_past f (x ∷ xs) zero d le = absurd (omega (arith, le))
+index_past f (x ∷ xs) (suc j) d le = index_past f xs j d (omega (arith, le))
+
+there_or_past : {A : Type 0} (xs : List A) (j : ℕ) → ((a : A) × (slice_get xs j ≡ Some a)) ⊎ (length xs ≤ j)
+there_or_past [] j = inr (omega arith)
+there_or_past (x ∷ xs) zero = inl (x, refl)
+there_or_past (x ∷ xs) (suc j) = ⊎_elim (λ h. inl h) (λ le. inr (omega (arith, le))) (there_or_past xs j)
+
+pair_stands : (a : Item) (set : List Item) → In a set → In (pair a) (map pair set)
+pair_stands a [] h = elim h [ ]
+pair_stands a (b ∷ set) (now same) = now (ap pair same)
+pair_stands a (b ∷ set) (on h) = on (pair_stands a set h)
+
+module _ (tables : code_flat.Tables) (x : List ℕ) (sets : List (List Item)) (size : length sets ≡ length x + 1)
+    (exact : IsExact tables x sets) where
+  filled_set : (j : ℕ) (set : List Item) → IsExactSet tables x j set → IsSet (flat_of tables) x j (map pair set)
+  filled_set j set e = record {
+    held = λ p i h. held p i (in_map (p, i) set h);
+    all = λ p i h. all p i (e.all p i h);
+    different = different_map set e.different;
+  }
+    where
+      held : (p : Place) (i : ℕ) → From (p, i) set → Holds (flat_of tables) x j p i
+      held p i f =
+          let place : p ≡ at f.item.node f.item.step = ap (λ v. v.0) f.is in
+          let origin : i ≡ f.item.origin = ap (λ v. v.1) f.is in
+          subst (λ v. Holds (flat_of tables) x j v i) (sym place)
+          (subst (λ v. Holds (flat_of tables) x j (at f.item.node f.item.step) v) (sym origin)
+          (e.held f.item f.stands))
+
+      all : (p : Place) (i : ℕ) → In (item_of p i) set → In {A = Place × ℕ} (p, i) (map pair set)
+      all (at s k) i h = pair_stands (record { node = s; step = k; origin = i }) set h
+
+  no_set : (j : ℕ) → length x + 1 ≤ j → IsSet (flat_of tables) x j []
+  no_set j past = record {
+    held = λ p i h. nobody p i h;
+    all = λ p i h. let le = holds_within h in absurd (omega (arith, le, past));
+    different = tt;
+  }
+    where
+      nobody : (p : Place) (i : ℕ) → In {A = Place × ℕ} (p, i) [] → Holds (flat_of tables) x j p i
+      nobody p i h = elim h [ ]
+
+  pub chart_sets : (j : ℕ) → IsSet (flat_of tables) x j (set_at (map (λ set. map pair set) sets) j)
+  chart_sets j = ⊎_elim
+      (λ h. subst (λ v. IsSet (flat_of tables) x j v) (sym (index_map (λ set. map pair set) sets j h.0 [] h.1))
+      (filled_set j h.0 (exact j h.0 h.1)))
+      (λ past. subst (λ v. IsSet (flat_of tables) x j v) (sym (index_past (λ set. map pair set) sets j [] past))
+      (no_set j (omega (arith, past, size))))
+      (there_or_past sets j)
+
+pub chart_set : (tables : code_flat.Tables) (x : List ℕ) (kept_sets : List EarleySet)
+    → length kept_sets ≡ length x + 1 → IsExact tables x (views tables 0 kept_sets)
+    → (j : ℕ) → IsSet (flat_of tables) x j (set_at (map (λ set. map pair set) (views tables 0 kept_sets)) j)
+chart_set tables x kept_sets size exact j =
+    chart_sets tables x (views tables 0 kept_sets) (length_views tables 0 kept_sets ∙ size) exact j
+
+pub set_bound : (flat : Flat) (x : List ℕ) (j : ℕ) (set : List (Place × ℕ)) → IsSet flat x j set
+    → length set ≤ places flat.nodes * (j + 1)
+set_bound flat x j set e = items_at_most flat x j set e.different e.held
+
+-- sizes
+size_at : (tables : code_flat.Tables) (kept_sets : List EarleySet) (j : ℕ) (f : EarleySet)
+    → slice_get kept_sets j ≡ Some f
+    → f.size ≡ length (view tables j f) →
+    f.size ≡ length (set_at (map (λ set. map pair set) (views tables 0 kept_sets)) j)
+size_at tables kept_sets j f is same =
+    let zero_is : 0 + j ≡ j = omega arith in
+    let there = get_views tables 0 kept_sets j f is ∙ ap (λ v. Some (view tables v f)) zero_is in
+    same ∙ (sym (length-map (view tables j f) pair)
+    ∙ ap (λ v. length v) (sym (index_map (λ set. map pair set) (views tables 0 kept_sets) j (view tables j f) []
+    there)))
+
+pub are_sized : (tables : Rc code_flat.Tables Global) (kept_sets : List EarleySet)
+    → ((j : ℕ) (f : EarleySet) → slice_get kept_sets j ≡ Some f → f.size ≡ length (view tables.value j f)) →
+    AreSized (Some tables) kept_sets
+are_sized tables kept_sets same = record { size = λ j f is. size_at tables.value kept_sets j f is (same j f is) }
+
+pub none_sized : (tables : Option (Rc code_flat.Tables Global)) (kept_sets : List EarleySet) → kept_sets ≡ []
+    → AreSized tables kept_sets
+none_sized tables kept_sets none = rw none (record { size = λ j f is. absurd (cc is) })
+
+-- the size of a set that is there, and of one that is not
+pub size_past : (tables : Option (Rc code_flat.Tables Global)) (kept_sets : List EarleySet) (j : ℕ)
+    → length kept_sets ≤ j
+    → length (set_at (chart_of tables kept_sets) j) ≡ 0
+size_past None kept_sets j le = refl
+size_past (Some t) kept_sets j le =
+    let count = length_views t.value 0 kept_sets in
+    ap (λ v. length v) (index_past (λ set. map pair set) (views t.value 0 kept_sets) j [] (omega (arith, le, count)))
+
+-- one set more
+pub sized_push : (tables : code_flat.Tables) (kept_sets : List EarleySet) (kept_set : EarleySet)
+    → ((j : ℕ) (f : EarleySet) → slice_get kept_sets j ≡ Some f → f.size ≡ length (view tables j f)) →
+    ((j : ℕ) → kept_set.size ≡ length (view tables j kept_set)) → (j : ℕ) (f : EarleySet)
+    → slice_get (kept_sets ++ kept_set ∷ []) j
+    ≡ Some f → f.size ≡ length (view tables j f)
+sized_push tables kept_sets kept_set all last j f is =
+    ⊎_elim (λ was. all j f was) (λ h. subst (λ v. v.size ≡ length (view tables j v)) h.1 (last j))
+    (push_cases kept_sets kept_set j f is)
+
+-- one block more
+pub size_more : (blocks : ℕ → Block) (j : ℕ) (heads : List ℕ) (k d : ℕ) (spots : List Spot) → k < length heads
+    → spots ≡ (blocks (slice_index_or heads k d)).spots →
+    length (expand blocks j (take (k + 1) heads)) ≡ length (expand blocks j (take k heads)) + length spots
+size_more blocks j heads k d spots lt is =
+    ap (λ v. length (expand blocks j v)) (take_one heads k d lt) ∙
+    (ap (λ v. length v) (expand_end blocks j (take k heads) (slice_index_or heads k d)) ∙
+    (length-append (expand blocks j (take k heads)) (map (item_at j) (blocks (slice_index_or heads k d)).spots) ∙
+    ap (λ v. length (expand blocks j (take k heads)) + v)
+    (length-map (blocks (slice_index_or heads k d)).spots (item_at j) ∙ ap (λ v. length v) (sym is))))
+
+pub size_here : (tables : code_flat.Tables) (j : ℕ) (hs : List ℕ) (is : List Item) (heads : List ℕ) (items : List Item)
+    (n : ℕ) → hs ≡ heads → is ≡ items → n ≡ length (full (block_of tables) j hs is) →
+    n ≡ length (full (block_of tables) j heads items)
+size_here tables j hs is heads items n same other size =
+    size ∙ (ap (λ v. length (full (block_of tables) j v is)) same ∙ ap (λ v. length (full (block_of tables) j heads v))
+    other)

@@ -1,0 +1,45 @@
+-- A chart as contracts see it: of each set its items, each a place with its origin.
+use Rattle.std.specs.Prelude.{◌≡◌, ◌↔◌, ℕ, List, [], map, slice_get, slice_index_or, length, Option, Some, None}
+use Rattle.std.proofs.Common.{Global}
+use Rattle.std.specs.declared.rc.Rc.{Rc}
+use Rattle.flatgrammar.specs.Flat.{Flat, Place, at}
+use Rattle.flatgrammar.specs.Holds.{Holds}
+use Rattle.flatgrammar.specs.Places.{In, AreDifferent}
+use Rattle.flatgrammar.specs.declared.block.Spot.{Spot}
+use Rattle.flatgrammar.specs.declared.flat_item.Item.{Item}
+use Rattle.earleyitems.specs.EarleySets.{EarleySet}
+use Rattle.flatgrammar.specs.declared.tables.Tables as code_flat
+use Rattle.earleyitems.specs.SetViews.{views}
+
+-- an item as the definitions name it
+abbrev pub pair : Item → Place × ℕ
+pair a = (at a.node a.step, a.origin)
+
+-- the sets of a chart; with no tables there are none
+abbrev pub chart_of : Option (Rc code_flat.Tables Global) → List EarleySet → List (List (Place × ℕ))
+chart_of None kept_sets = []
+chart_of (Some tables) kept_sets = map (λ set. map pair set) (views tables.value 0 kept_sets)
+
+-- set j; one that is not there is empty
+abbrev pub set_at : List (List (Place × ℕ)) → ℕ → List (Place × ℕ)
+set_at sets j = slice_index_or sets j []
+
+-- an item of a set stands at a spot
+pub record HasSpot (set : List (Place × ℕ)) (s : Spot) : Type 0 where
+  pub origin : ℕ
+  pub stands : In {A = Place × ℕ} (at s.node s.step, origin) set
+
+-- the spots are those of the items of a set
+abbrev pub AreSpotsOf : List (Place × ℕ) → List Spot → Type 0
+AreSpotsOf set spots = (s : Spot) → In s spots ↔ HasSpot set s
+
+-- a list is exactly the items of set j, each once
+pub record IsSet (flat : Flat) (x : List ℕ) (j : ℕ) (set : List (Place × ℕ)) : Type 0 where
+  pub held : (p : Place) (i : ℕ) → In {A = Place × ℕ} (p, i) set → Holds flat x j p i
+  pub all : (p : Place) (i : ℕ) → Holds flat x j p i → In {A = Place × ℕ} (p, i) set
+  pub different : AreDifferent set
+
+-- each set has its size beside it
+pub record AreSized (tables : Option (Rc code_flat.Tables Global)) (kept_sets : List EarleySet) : Type 0 where
+  pub size : (j : ℕ) (kept_set : EarleySet) → slice_get kept_sets j ≡ Some kept_set
+      → kept_set.size ≡ length (set_at (chart_of tables kept_sets) j)

@@ -1,0 +1,85 @@
+-- Sets as they are kept, one behind the other: each is a part of three lists.
+use Rattle.std.specs.Prelude.{◌≡◌, ℕ, ◌≤◌, ◌++◌, List, [], ◌∷◌, length, map, slice_get, slice_range, take}
+use Rattle.std.specs.Prelude.{Some}
+use Rattle.flatgrammar.specs.declared.flat_item.Item.{Item}
+use Rattle.earleyitems.specs.declared.waiters.Waiter.{Waiter}
+use Rattle.earleyitems.specs.declared.sets.Part.{Part}
+use Rattle.earleyitems.specs.declared.sets.Record.{Record}
+use Rattle.earleyitems.specs.declared.sets.Bounds.{Bounds}
+use Rattle.earleyitems.specs.declared.sets.Stores.{Stores}
+
+-- a set as it is kept
+pub record EarleySet : Type 0 where
+  pub heads : List ℕ
+  pub items : List Item
+  pub firsts : List ℕ
+  pub waiters : List Waiter
+  pub size : ℕ
+
+-- a part of a list
+abbrev pub part_of : {A : Type 0} → List A → Part → List A
+part_of xs part = slice_range xs part.from part.to
+
+abbrev pub the_record : ℕ → ℕ → Record
+the_record head first = record { head = head; first = first }
+
+abbrev pub heads_of : List Record → List ℕ
+heads_of records = map (λ r. r.head) records
+
+abbrev pub firsts_of : List Record → List ℕ
+firsts_of records = map (λ r. r.first) records
+
+-- the same heads, whose waiting lists may differ
+abbrev pub AreSameHeads : List Record → List Record → Type 0
+AreSameHeads old new = heads_of new ≡ heads_of old
+
+-- the set that stands between those bounds
+abbrev pub set_in : Stores → Bounds → EarleySet
+set_in s b = record {
+  heads = heads_of (part_of s.records.items b.records);
+  items = part_of s.items.items b.items;
+  firsts = firsts_of (part_of s.records.items b.records);
+  waiters = take b.waiters s.waiters.items;
+  size = b.size;
+}
+
+abbrev pub sets_in : Stores → List Bounds → List EarleySet
+sets_in s bounds = map (set_in s) bounds
+
+-- a part lies within so many entries
+pub record IsPart (part : Part) (count : ℕ) : Type 0 where
+  pub ordered : part.from ≤ part.to
+  pub inside : part.to ≤ count
+
+pub record AreBounds (s : Stores) (b : Bounds) : Type 0 where
+  pub records : IsPart b.records (length s.records.items)
+  pub items : IsPart b.items (length s.items.items)
+  pub waiters : b.waiters ≤ length s.waiters.items
+
+abbrev pub AreAllBounds : Stores → List Bounds → Type 0
+AreAllBounds s bounds = (j : ℕ) (b : Bounds) → slice_get bounds j ≡ Some b → AreBounds s b
+
+-- how many waiters the last set has before its end
+abbrev pub last_waiters : ℕ → List Bounds → ℕ
+last_waiters count [] = count
+last_waiters count (b ∷ bounds) = last_waiters b.waiters bounds
+
+-- the lists of some sets; behind the waiters of the last one there are no others
+pub record AreStored (s : Stores) (bounds : List Bounds) : Type 0 where
+  pub within : AreAllBounds s bounds
+  pub ends : last_waiters 0 bounds ≡ length s.waiters.items
+
+-- a list goes on behind its end
+abbrev pub GoesOn : {A : Type 0} → List A → List A → Type 0
+GoesOn {A} old new = (more : List A) × (new ≡ old ++ more)
+
+-- all lists go on behind their ends
+pub record GoOn (old new : Stores) : Type 0 where
+  pub records : GoesOn old.records.items new.records.items
+  pub items : GoesOn old.items.items new.items.items
+  pub waiters : GoesOn old.waiters.items new.waiters.items
+
+-- the part of a list that was put behind it
+pub record IsAppended {A : Type 0} (new more : List A) (part : Part) : Type 0 where
+  pub is : part_of new part ≡ more
+  pub within : IsPart part (length new)

@@ -1,0 +1,339 @@
+//! Charts of item sets, and the line judge.
+ghost use Rattle.std.specs.Prelude.{◌≡◌, ◌↔◌, ◌+◌, ◌≤◌, ℕ, List, [], true, Some, IsTrue, IfOk, IfSome, IfNone, OnOk};
+ghost use Rattle.std.specs.Prelude.{OnErr, length, map, slice_get};
+ghost use Rattle.flatgrammar.specs.NodeSteps.{flat_of};
+ghost use Rattle.flatgrammar.specs.TableViews.{GiveRoots, AreNulls};
+ghost use Rattle.earleyitems.specs.Charts.{IsAfter, IsExact};
+ghost use Rattle.earleyitems.specs.ChartSets.{chart_of, set_at, IsSet, AreSized, AreSpotsOf};
+ghost use Rattle.flatgrammar.specs.Blocks.{AreExact, block_of, item_at, AreTables, AreAlone, AreHomes, AreSpotLists};
+ghost use Rattle.earleyitems.specs.ItemHomes.{head_rows, AreItemsHomed, AreReadersHomed};
+ghost use Rattle.earleyitems.specs.ItemSets.{Adds};
+ghost use Rattle.earleyitems.specs.Waiting.{IsKept};
+ghost use Rattle.earleyitems.specs.Chosen.{AreReaders};
+ghost use Rattle.earleyitems.specs.SetViews.{expand, full, view, views, IsWholeAt};
+ghost use Rattle.flatgrammar.specs.Places.{In, AreDifferent};
+ghost use Rattle.flatgrammar.specs.Flat.{Place};
+ghost use Rattle.flatgrammar.specs.Holds.{Holds};
+ghost use Rattle.earleyitems.specs.EarleySets.{EarleySet as kept_set, heads_of};
+
+use crate::earley_set::EarleySet;
+use crate::fill::fill;
+use crate::heads::Heads;
+use crate::item::{holds, same};
+use crate::items::Items;
+use crate::postdot::{HomedItem, Postdot};
+use crate::scan::scan;
+use crate::set_spots::{push_heads, push_items};
+use crate::sets::{Filled, Record, Sets};
+use flatgrammar::{Flat, Item, Spot, Tables, spots, whole_root};
+use letters::Letter;
+use ruletable::Memory;
+use std::alloc::Global;
+use std::marker::Model;
+use std::mem;
+use std::rc::Rc;
+
+/// The item sets of a line, seen as a list of lists of items, each a place with its origin.
+#[derive(Drop)]
+pub struct Chart {
+    alloc: Global,
+    tables: Option<Rc<Tables>>,
+    sets: Sets,
+    kept: Kept,
+}
+
+// Holds the tables of a set that is filled, which are kept from line to line.
+#[derive(Drop)]
+struct Kept {
+    heads: Heads,
+    items: Items,
+    postdot: Postdot,
+}
+
+impl Kept {
+    // Returns tables without entries. It takes no memory.
+    fn new(alloc: Global) -> Kept {
+        Kept {
+            heads: Heads::new(alloc),
+            items: Items::new(alloc),
+            postdot: Postdot::new(alloc),
+        }
+    }
+}
+
+impl Model for Chart {
+    ghost use Rattle.std.specs.Prelude.{ℕ, List};
+    ghost use Rattle.flatgrammar.specs.Flat.{Place};
+    ghost use Rattle.earleyitems.specs.ChartSets.{chart_of, AreSized};
+
+    ghost Value = { List (List (Place × ℕ)) };
+
+    ghost view = { λ c. chart_of c.tables c.sets };
+
+    ghost invariant = { λ c. AreSized c.tables c.sets };
+}
+
+impl Chart {
+    /// Returns a chart with no set. It takes no memory.
+    pub fn new(alloc: Global) -> Chart
+        ensures { result ≡ [] }
+    {
+        Chart {
+            alloc,
+            tables: None,
+            sets: Sets::new(alloc),
+            kept: Kept::new(alloc),
+        }
+    }
+
+    /// Returns the number of items of set `j`, 0 if there is no such set.
+    pub fn items(&self, j: usize) -> usize
+        ensures { result ≡ length (set_at self.now j) }
+    {
+        match self.sets.get(j) {
+            Some(kept_set) => kept_set.size(),
+            None => 0,
+        }
+    }
+
+    /// Returns the spots of the items of set `j`, which may stand there more than once; none if there is no such set.
+    /// `Memory` if an allocation fails.
+    pub fn spots(&self, j: usize) -> Result<Vec<Spot>, Memory>
+        ensures { IfOk result (λ spots. AreSpotsOf (set_at self.now j) spots.items) }
+    {
+        let mut spots = Vec::new(self.alloc);
+        match &self.tables {
+            None => Ok(spots),
+            Some(tables) => match self.sets.get(j) {
+                None => Ok(spots),
+                Some(kept_set) => {
+                    push_heads(tables, kept_set.records(), &mut spots)?;
+                    push_items(kept_set.items(), &mut spots)?;
+                    Ok(spots)
+                }
+            },
+        }
+    }
+
+    // Empties the chart, and returns its sets, which are none, and what is kept for the next line.
+    fn take_kept(&mut self) -> (Sets, Kept)
+        ensures empty { self.new ≡ [] }
+        ensures none { result.0 ≡ [] }
+    {
+        self.tables = None;
+        let mut sets = mem::replace(&mut self.sets, Sets::new(self.alloc));
+        sets.clear();
+        (sets, mem::replace(&mut self.kept, Kept::new(self.alloc)))
+    }
+
+    // Keeps the sets of a line, with the tables that they were filled by, and what is kept for the next line.
+    fn keep(&mut self, tables: Rc<Tables>, sets: Sets, kept: Kept)
+        requires { (j : ℕ) (f : kept_set) → slice_get sets j ≡ Some f → f.size ≡ length (view tables.value j f) }
+        ensures { self.new ≡ chart_of (Some tables) sets }
+    {
+        self.tables = Some(tables);
+        self.sets = sets;
+        self.kept = kept;
+    }
+}
+
+// Predicts the whole, before the first letter.
+fn predict_start(flat: &Tables, number: usize, heads: &mut Heads) -> Result<(), Memory>
+    ensures { IfOk result (λ done. Adds (IsWholeAt flat.now number) heads.old heads.new) }
+{
+    if number == 0 {
+        if let Some(root) = whole_root(flat) {
+            heads.add(root)?;
+        }
+    }
+    Ok(())
+}
+
+// Scans the letter behind the last set, where there are no items. Of its items those that read are given.
+fn scan_last<L: Letter>(
+    flat: &Tables,
+    line: &[L],
+    sets: &Sets,
+    readers: &[HomedItem],
+    items: &mut Items,
+) -> Result<(), Memory>
+    requires length { length sets.now ≤ length line.now }
+    requires lists { AreSpotLists flat.now }
+    requires readers { AreReaders flat.now sets.now readers.now }
+    requires different { (k : ℕ) (f : kept_set) → slice_get sets.now k ≡ Some f → AreDifferent (view flat.now k f) }
+    requires empty { items.old.items ≡ [] }
+    requires homes { AreHomes flat.now }
+    requires homed { (k : ℕ) → length sets.now ≡ k + 1 → AreReadersHomed flat.now (head_rows sets.now) readers.now }
+    ensures added { IfOk result (λ done. Adds (IsAfter flat.now (map L.number line.now) (views flat.now 0 sets.now))
+        items.old.items items.new.items) }
+    ensures homes { IfOk result (λ done. AreItemsHomed flat.now (head_rows sets.now) items.new) }
+{
+    if sets.len() > 0 {
+        let last = sets.len() - 1;
+        let Some(kept_set) = sets.get(last) else {
+            unreachable!()
+        };
+        scan(flat, line[last], &kept_set, readers, last, items)?;
+    }
+    Ok(())
+}
+
+// Adds the item sets of a line, where there are none. It stops once the items beside the blocks are more than `most`,
+// and tells whether it did not.
+fn fill_sets<L: Letter>(
+    flat: &Tables,
+    line: &[L],
+    kept: &mut Kept,
+    sets: &mut Sets,
+    most: usize,
+) -> Result<bool, Memory>
+    requires roots { GiveRoots (flat_of flat.now) flat.now.roots.items }
+    requires nulls { AreNulls (flat_of flat.now) flat.now.nulls.items }
+    requires tables { AreTables flat.now }
+    requires alone { AreAlone flat.now }
+    requires lists { AreSpotLists flat.now }
+    requires no_heads { kept.old.heads ≡ [] }
+    requires homes { AreHomes flat.now }
+    requires no_items { kept.old.items.items ≡ [] }
+    requires no_sets { sets.old ≡ [] }
+    ensures size { IfOk result (λ whole. whole ≡ true → length sets.new ≡ length line.now + 1) }
+    ensures sized { OnOk result ((j : ℕ) (f : kept_set) → slice_get sets.new j ≡ Some f
+        → f.size ≡ length (view flat.now j f)) }
+    ensures exact { OnOk result (IsExact flat.now (map L.number line.now) (views flat.now 0 sets.new)) }
+{
+    let mut beside = 0usize;
+    while sets.len() <= line.len() {
+        if beside > most {
+            return Ok(false);
+        }
+        let heads = &mut kept.heads;
+        let items = &mut kept.items;
+        predict_start(flat, sets.len(), heads)?;
+        scan_last(flat, line, sets, &kept.postdot.readers, items)?;
+        let blocks = fill(flat, sets, heads, items, &mut kept.postdot)?;
+        beside = beside.saturating_add(items.len());
+        let filled = Filled {
+            heads,
+            items: items.list(),
+            callers: &kept.postdot.callers,
+            blocks,
+        };
+        sets.push(flat, filled)?;
+        heads.clear();
+        items.clear();
+    }
+    Ok(true)
+}
+
+fn in_spots(spots: &[Spot], number: usize, item: Item) -> bool
+    ensures { IsTrue result ↔ In item (map (item_at number) spots.now) }
+{
+    for spot in spots {
+        let other = Item {
+            node: spot.node,
+            step: spot.step,
+            origin: number,
+        };
+        if same(item, other) {
+            return true;
+        }
+    }
+    false
+}
+
+fn in_heads(flat: &Tables, records: &[Record], number: usize, item: Item) -> bool
+    ensures { IsTrue result ↔ In item (expand (block_of flat.now) number (heads_of records.now)) }
+{
+    for record in records {
+        if in_spots(spots(flat, record.head), number, item) {
+            return true;
+        }
+    }
+    false
+}
+
+// Whether an item stands in a set.
+fn contains(flat: &Tables, kept_set: &EarleySet<'_>, number: usize, item: Item) -> bool
+    ensures { IsTrue result ↔ In item (view flat.now number kept_set.now) }
+{
+    if in_heads(flat, kept_set.records(), number, item) {
+        return true;
+    }
+    holds(kept_set.items(), item)
+}
+
+// Tells whether the last set holds the whole's end with origin 0.
+fn is_yes<L: Letter>(flat: &Tables, sets: &Sets, line: &[L]) -> bool
+    requires size { length sets.now ≡ length line.now + 1 }
+    requires exact { IsExact flat.now (map L.number line.now) (views flat.now 0 sets.now) }
+    ensures { IsTrue result ↔ Holds (flat_of flat.now) (map L.number line.now) (length line.now)
+        (Place.at flat.now.whole 1) 0 }
+{
+    let whole = Item {
+        node: flat.whole,
+        step: 1,
+        origin: 0,
+    };
+    let Some(kept_set) = sets.get(line.len()) else {
+        unreachable!()
+    };
+    contains(flat, &kept_set, line.len(), whole)
+}
+
+// Fills an empty chart by these tables, and answers.
+#[inline(never)]
+fn judge_by<L: Letter>(
+    chart: &mut Chart,
+    tables: Rc<Tables>,
+    sets: Sets,
+    kept: Kept,
+    line: &[L],
+    most: usize,
+) -> Result<Option<bool>, Memory>
+    requires exact { AreExact tables.value }
+    requires none { sets ≡ [] }
+    requires empty { chart.old ≡ [] }
+    ensures sets { IfOk result (λ told. IfSome told (λ _. (j : ℕ) → IsSet (flat_of tables.value)
+        (map L.number line.now) j (set_at chart.new j))) }
+    ensures answer { IfOk result (λ told. IfSome told (λ yes. IsTrue yes ↔ Holds (flat_of tables.value)
+        (map L.number line.now) (length line.now) (Place.at (flat_of tables.value).whole 1) 0)) }
+    ensures none { IfOk result (λ told. IfNone told (chart.new ≡ [])) }
+    ensures empty { OnErr result (chart.new ≡ []) }
+{
+    let mut sets = sets;
+    let mut kept = kept;
+    kept.heads.clear();
+    kept.items.clear();
+    let whole = fill_sets(&tables, line, &mut kept, &mut sets, most)?;
+    if whole {
+        let answer = is_yes(&tables, &sets, line);
+        chart.keep(tables, sets, kept);
+        return Ok(Some(answer));
+    }
+    Ok(None)
+}
+
+/// Fills the chart with the item sets of a line, and tells whether the last set holds the whole's end with origin 0.
+/// The line may have at most `flat.limit()` letters.
+///
+/// It gives up once more than `most` items are kept one by one, as those of blocks are not, and returns `None`; the
+/// chart is empty then. `Memory` if an allocation fails; the chart is empty then.
+pub fn judge_within<L: Letter>(
+    chart: &mut Chart,
+    flat: &Flat,
+    line: &[L],
+    most: usize,
+) -> Result<Option<bool>, Memory>
+    requires { length line.now ≤ flat.now.limit }
+    ensures sets { IfOk result (λ told. IfSome told (λ _. (j : ℕ) → IsSet flat.now (map L.number line.now) j
+        (set_at chart.new j))) }
+    ensures answer { IfOk result (λ told. IfSome told (λ yes. IsTrue yes ↔ Holds flat.now (map L.number line.now)
+        (length line.now) (Place.at flat.now.whole 1) 0)) }
+    ensures none { IfOk result (λ told. IfNone told (chart.new ≡ [])) }
+    ensures empty { OnErr result (chart.new ≡ []) }
+{
+    let (sets, kept) = chart.take_kept();
+    let tables = flat.share()?;
+    let told = judge_by(chart, tables, sets, kept, line, most)?;
+    Ok(told)
+}

@@ -1,0 +1,53 @@
+//! An item set of a line, where it stands.
+ghost use Rattle.std.specs.Prelude.{◌≡◌};
+ghost use Rattle.earleyitems.specs.EarleySets.{heads_of, firsts_of};
+
+use crate::sets::{Bounds, Record, Stores};
+use flatgrammar::Item;
+use std::marker::Model;
+
+/// Shows an item set, whose lists stand among those of the line's other sets: the heads, which are the roots that were
+/// predicted in it and whose blocks stand in it, and the items beside their blocks. The records of the heads hold
+/// where the waiting list of each begins.
+#[derive(Drop)]
+pub(crate) struct EarleySet<'a> {
+    pub(crate) stores: &'a Stores,
+    pub(crate) bounds: &'a Bounds,
+}
+
+impl<'a> Model for EarleySet<'a> {
+    ghost use Rattle.earleyitems.specs.EarleySets.{EarleySet, set_in, AreBounds};
+
+    ghost Value = { EarleySet };
+
+    ghost view = { λ f. set_in f.stores.now f.bounds.now };
+
+    ghost invariant = { λ f. AreBounds f.stores.now f.bounds.now };
+}
+
+impl<'a> EarleySet<'a> {
+    /// Returns the records of the heads.
+    #[inline(always)]
+    pub(crate) fn records(&self) -> &'a [Record]
+        ensures heads { heads_of result.now ≡ self.now.heads }
+        ensures firsts { firsts_of result.now ≡ self.now.firsts }
+    {
+        &self.stores.records[self.bounds.records.from..self.bounds.records.to]
+    }
+
+    /// Returns the items beside the blocks.
+    #[inline(always)]
+    pub(crate) fn items(&self) -> &'a [Item]
+        ensures { result.now ≡ self.now.items }
+    {
+        &self.stores.items[self.bounds.items.from..self.bounds.items.to]
+    }
+
+    /// Returns the number of its items, those of the blocks counted.
+    #[inline(always)]
+    pub(crate) fn size(&self) -> usize
+        ensures { result ≡ self.now.size }
+    {
+        self.bounds.size
+    }
+}

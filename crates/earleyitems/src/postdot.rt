@@ -1,0 +1,84 @@
+//! The items of a set by what stands behind their dot: a call, or letters.
+ghost use Rattle.std.specs.Prelude.{◌≡◌, ◌++◌, ◌∷◌, ℕ, List, [], IsTrue, IfOk};
+ghost use Rattle.flatgrammar.specs.TableViews.{call_of};
+ghost use Rattle.flatgrammar.specs.declared.flat_item.Item as code_item;
+ghost use Rattle.flatgrammar.specs.declared.tables.Tables as code_flat;
+ghost use Rattle.earleyitems.specs.Chosen.{items_of, ReadsSome, AreChosen, AreCallers};
+ghost use Rattle.earleyitems.specs.ItemHomes.{IsHome, AreCallersHomed, AreReadersHomed};
+
+use flatgrammar::Item;
+use ruletable::Memory;
+use std::alloc::Global;
+
+/// An item with its home: the index of its head among the heads of the set of its origin.
+#[derive(Clone, Copy)]
+pub(crate) struct HomedItem {
+    pub(crate) item: Item,
+    pub(crate) home: usize,
+}
+
+/// An item that calls a root: the root, and the step after the call.
+#[derive(Clone, Copy)]
+pub(crate) struct Caller {
+    pub(crate) at: HomedItem,
+    pub(crate) root: usize,
+    pub(crate) next: usize,
+}
+
+/// Holds of the items of a set those with a call behind the dot, and those with letters.
+#[derive(Drop)]
+pub(crate) struct Postdot {
+    pub(crate) callers: Vec<Caller>,
+    pub(crate) readers: Vec<HomedItem>,
+}
+
+impl Postdot {
+    /// Returns no items. It takes no memory.
+    pub(crate) fn new(alloc: Global) -> Postdot {
+        Postdot {
+            callers: Vec::new(alloc),
+            readers: Vec::new(alloc),
+        }
+    }
+}
+
+/// Adds an item if it calls; what it calls is given.
+pub(crate) fn keep_caller(
+    at: HomedItem,
+    called: Option<(usize, usize)>,
+    callers: &mut Vec<Caller>,
+) -> Result<(), Memory>
+    ensures chosen { IfOk result (λ done. (flat : code_flat.Tables) (seen : List code_item.Item)
+        → called ≡ call_of flat at.item → AreCallers flat seen callers.old.items
+        → AreCallers flat (seen ++ at.item ∷ []) callers.new.items) }
+    ensures homes { IfOk result (λ done. (flat : code_flat.Tables) (rows : List (List ℕ))
+        → IsHome flat rows at.item at.home → AreCallersHomed flat rows callers.old.items
+        → AreCallersHomed flat rows callers.new.items) }
+{
+    match called {
+        Some((root, next)) => {
+            callers.push(Caller { at, root, next })?;
+            Ok(())
+        }
+        None => Ok(()),
+    }
+}
+
+/// Adds an item if it may read a letter, as is given.
+pub(crate) fn keep_reader(
+    at: HomedItem,
+    reads: bool,
+    readers: &mut Vec<HomedItem>,
+) -> Result<(), Memory>
+    ensures chosen { IfOk result (λ done. (flat : code_flat.Tables) (seen : List code_item.Item)
+        → (ReadsSome flat at.item → IsTrue reads) → AreChosen (ReadsSome flat) seen (items_of readers.old.items)
+        → AreChosen (ReadsSome flat) (seen ++ at.item ∷ []) (items_of readers.new.items)) }
+    ensures homes { IfOk result (λ done. (flat : code_flat.Tables) (rows : List (List ℕ))
+        → IsHome flat rows at.item at.home → AreReadersHomed flat rows readers.old.items
+        → AreReadersHomed flat rows readers.new.items) }
+{
+    if reads {
+        readers.push(at)?;
+    }
+    Ok(())
+}

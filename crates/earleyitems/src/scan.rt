@@ -1,0 +1,141 @@
+//! Scans a letter.
+ghost use Rattle.std.specs.Prelude.{◌≡◌, ◌↔◌, ◌+◌, ◌^◌, ◌<◌, ◌≤◌, ℕ, true, IsTrue, IfOk, length, map, slice_get, []};
+ghost use Rattle.std.specs.Prelude.{List, slice_index_or};
+ghost use Rattle.std.specs.Prelude.{◌∷◌};
+ghost use Rattle.flatgrammar.specs.NodeSteps.{IfSomeSet};
+ghost use Rattle.flatgrammar.specs.Places.{In, AreDifferent};
+ghost use Rattle.flatgrammar.specs.declared.block.Spot as code_spot;
+ghost use Rattle.earleyitems.specs.ItemSets.{Adds};
+ghost use Rattle.earleyitems.specs.ScannedItems.{IsScannedItem, AreScannedItems};
+ghost use Rattle.earleyitems.specs.Chosen.{items_of, ReadsSome, AreChosen};
+ghost use Rattle.flatgrammar.specs.TableViews.{read_of};
+ghost use Rattle.flatgrammar.specs.Blocks.{block_of, item_at, AreSpotLists, AreHomes};
+ghost use Rattle.earleyitems.specs.ItemHomes.{IsHome, AreItemsHomed, AreReadersHomed};
+ghost use Rattle.earleyitems.specs.SetViews.{expand, view};
+ghost use Rattle.earleyitems.specs.EarleySets.{heads_of};
+
+use crate::earley_set::EarleySet;
+use crate::items::Items;
+use crate::postdot::HomedItem;
+use crate::sets::Record;
+use flatgrammar::{Item, Spot, Tables, readers, reads};
+use letters::Letter;
+use ruletable::Memory;
+
+/// Scans a letter for an item.
+fn scan_item(
+    flat: &Tables,
+    value: u32,
+    item: Item,
+    home: usize,
+    set: &mut Items,
+) -> Result<(), Memory>
+    ensures added { IfOk result (λ done. AreScannedItems flat.now value (item ∷ []) set.old.items set.new.items) }
+    ensures homes { IfOk result (λ done. (rows : List (List ℕ)) → IsHome flat.now rows item home
+        → AreItemsHomed flat.now rows set.old → AreItemsHomed flat.now rows set.new) }
+{
+    if reads(flat, item, value) {
+        set.push(
+            Item {
+                node: item.node,
+                step: item.step + 1,
+                origin: item.origin,
+            },
+            home,
+        )?;
+    }
+    Ok(())
+}
+
+/// Scans a letter for some items.
+fn scan_items(flat: &Tables, value: u32, from: &[HomedItem], set: &mut Items) -> Result<(), Memory>
+    ensures added { IfOk result (λ done. AreScannedItems flat.now value (items_of from.now) set.old.items
+        set.new.items) }
+    ensures homes { IfOk result (λ done. (rows : List (List ℕ)) → AreReadersHomed flat.now rows from.now
+        → AreItemsHomed flat.now rows set.old → AreItemsHomed flat.now rows set.new) }
+{
+    for at in from {
+        scan_item(flat, value, at.item, at.home, set)?;
+    }
+    Ok(())
+}
+
+/// Scans a letter for the spots of a block.
+fn scan_spots(
+    flat: &Tables,
+    value: u32,
+    from: &[Spot],
+    origin: usize,
+    home: usize,
+    set: &mut Items,
+) -> Result<(), Memory>
+    ensures added { IfOk result (λ done. AreScannedItems flat.now value (map (item_at origin) from.now) set.old.items
+        set.new.items) }
+    ensures homes { IfOk result (λ done. (rows : List (List ℕ))
+        → ((p : code_spot.Spot) → In p from.now → IsHome flat.now rows (item_at origin p) home)
+        → AreItemsHomed flat.now rows set.old → AreItemsHomed flat.now rows set.new) }
+{
+    for spot in from {
+        scan_item(
+            flat,
+            value,
+            Item {
+                node: spot.node,
+                step: spot.step,
+                origin,
+            },
+            home,
+            set,
+        )?;
+    }
+    Ok(())
+}
+
+/// Scans a letter for the blocks of heads.
+fn scan_heads(
+    flat: &Tables,
+    value: u32,
+    records: &[Record],
+    origin: usize,
+    set: &mut Items,
+) -> Result<(), Memory>
+    requires lists { AreSpotLists flat.now }
+    requires homes { AreHomes flat.now }
+    ensures added { IfOk result (λ done. AreScannedItems flat.now value (expand (block_of flat.now) origin (heads_of
+        records.now)) set.old.items set.new.items) }
+    ensures homes { IfOk result (λ done. (rows : List (List ℕ)) → slice_index_or rows origin [] ≡ heads_of records.now
+        → AreItemsHomed flat.now rows set.old → AreItemsHomed flat.now rows set.new) }
+{
+    for (home, record) in records.iter().enumerate() {
+        let readers = readers(flat, record.head, value);
+        scan_spots(flat, value, readers, origin, home, set)?;
+    }
+    Ok(())
+}
+
+/// Scans a letter: adds the items that a set has after it, where there are none. Of its items those that read are
+/// given.
+pub(crate) fn scan<L: Letter>(
+    flat: &Tables,
+    letter: L,
+    from: &EarleySet<'_>,
+    readers: &[HomedItem],
+    origin: usize,
+    set: &mut Items,
+) -> Result<(), Memory>
+    requires lists { AreSpotLists flat.now }
+    requires readers { AreChosen (ReadsSome flat.now) from.now.items (items_of readers.now) }
+    requires different { AreDifferent (view flat.now origin from.now) }
+    requires empty { set.old.items ≡ [] }
+    requires homes { AreHomes flat.now }
+    ensures added { IfOk result (λ done. Adds (IsScannedItem flat.now (L.number letter) (view flat.now origin
+        from.now)) set.old.items set.new.items) }
+    ensures homes { IfOk result (λ done. (rows : List (List ℕ)) → slice_index_or rows origin [] ≡ from.now.heads
+        → AreReadersHomed flat.now rows readers.now → AreItemsHomed flat.now rows set.old
+        → AreItemsHomed flat.now rows set.new) }
+{
+    let value = letter.value();
+    scan_heads(flat, value, from.records(), origin, set)?;
+    scan_items(flat, value, readers, set)?;
+    Ok(())
+}

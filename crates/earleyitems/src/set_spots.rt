@@ -1,0 +1,37 @@
+//! The spots of a set's items.
+ghost use Rattle.std.specs.Prelude.{◌≡◌, ◌++◌, map, OnOk};
+ghost use Rattle.std.specs.List.{flat_map};
+ghost use Rattle.flatgrammar.specs.Blocks.{block_of, spot};
+ghost use Rattle.earleyitems.specs.declared.sets.Record.{Record as the_record};
+
+use crate::sets::Record;
+use flatgrammar::{Item, Spot, Tables, spots};
+use ruletable::Memory;
+
+/// Adds the spots of the blocks of heads.
+pub(crate) fn push_heads(
+    flat: &Tables,
+    records: &[Record],
+    out: &mut Vec<Spot>,
+) -> Result<(), Memory>
+    ensures { OnOk result (out.new.items ≡ out.old.items
+        ++ flat_map (λ (r : the_record). (block_of flat.now r.head).spots) records.now) }
+{
+    for record in records {
+        out.extend_from_slice(spots(flat, record.head))?;
+    }
+    Ok(())
+}
+
+/// Adds the spots of items.
+pub(crate) fn push_items(items: &[Item], out: &mut Vec<Spot>) -> Result<(), Memory>
+    ensures { OnOk result (out.new.items ≡ out.old.items ++ map (λ a. spot a.node a.step) items.now) }
+{
+    for item in items {
+        out.push(Spot {
+            node: item.node,
+            step: item.step,
+        })?;
+    }
+    Ok(())
+}

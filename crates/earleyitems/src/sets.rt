@@ -1,0 +1,247 @@
+//! The sets of a line, one behind the other.
+ghost use Rattle.std.specs.Prelude.{◌≡◌, ◌++◌, ◌∷◌, ℕ, List, [], length, slice_get, slice_index_or, Some, IfOk, OnOk};
+ghost use Rattle.flatgrammar.specs.Blocks.{block_of, AreHomes, AreSpotLists};
+ghost use Rattle.earleyitems.specs.Chosen.{AreCallers};
+ghost use Rattle.earleyitems.specs.SetViews.{expand};
+ghost use Rattle.earleyitems.specs.EarleySets.{EarleySet as kept_set, set_in, sets_in, AreBounds, AreStored, GoesOn, GoOn};
+ghost use Rattle.earleyitems.specs.EarleySets.{IsAppended};
+ghost use Rattle.earleyitems.specs.ItemHomes.{head_rows_with, AreCallersHomed, AreSetsHomed, AreWaitersHomed};
+ghost use Rattle.earleyitems.specs.Waiting.{IsKept};
+
+use crate::earley_set::EarleySet;
+use crate::heads::Heads;
+use crate::postdot::Caller;
+use crate::waiters::{Waiter, list_waiters};
+use flatgrammar::{Item, Tables};
+use ruletable::Memory;
+use std::alloc::Global;
+use std::marker::Model;
+
+/// A part of a vector.
+#[derive(Clone, Copy)]
+pub(crate) struct Part {
+    pub(crate) from: usize,
+    pub(crate) to: usize,
+}
+
+/// A head of a set: its root, and one more than the index of its waiting list's first entry, or 0.
+#[derive(Clone, Copy)]
+pub(crate) struct Record {
+    pub(crate) head: usize,
+    pub(crate) first: usize,
+}
+
+/// Where the lists of a set stand, and the number of its items. The waiting lists of its heads stand among the
+/// first `waiters` entries.
+#[derive(Clone, Copy)]
+pub(crate) struct Bounds {
+    pub(crate) records: Part,
+    pub(crate) items: Part,
+    pub(crate) waiters: usize,
+    pub(crate) size: usize,
+}
+
+/// A set as it was filled: its heads, the items beside their blocks, of these the ones that call, and the number of
+/// items of the blocks.
+#[derive(Clone, Copy)]
+pub(crate) struct Filled<'a> {
+    pub(crate) heads: &'a Heads,
+    pub(crate) items: &'a [Item],
+    pub(crate) callers: &'a [Caller],
+    pub(crate) blocks: usize,
+}
+
+/// Holds the lists of all sets, those of one kind one behind the other.
+#[derive(Drop)]
+pub(crate) struct Stores {
+    pub(crate) records: Vec<Record>,
+    pub(crate) items: Vec<Item>,
+    pub(crate) waiters: Vec<Waiter>,
+}
+
+/// Holds the sets of a line, seen as a list of them.
+#[derive(Drop)]
+pub(crate) struct Sets {
+    bounds: Vec<Bounds>,
+    stores: Stores,
+}
+
+impl Model for Sets {
+    ghost use Rattle.std.specs.Prelude.{List};
+    ghost use Rattle.earleyitems.specs.EarleySets.{EarleySet, sets_in, AreStored};
+
+    ghost Value = { List EarleySet };
+
+    ghost view = { λ s. sets_in s.stores s.bounds.items };
+
+    ghost invariant = { λ s. AreStored s.stores s.bounds.items };
+}
+
+// Puts a list behind another, and returns where it stands.
+#[inline(always)]
+fn append<T: Copy>(list: &mut Vec<T>, more: &[T]) -> Result<Part, Memory>
+    ensures more { GoesOn list.old.items list.new.items }
+    ensures part { IfOk result (λ part. IsAppended list.new.items more.now part) }
+{
+    let from = list.len();
+    list.extend_from_slice(more)?;
+    Ok(Part {
+        from,
+        to: list.len(),
+    })
+}
+
+// Puts the lists of a set behind those of the others, and returns where they stand.
+#[inline(always)]
+fn store(
+    flat: &Tables,
+    filled: Filled<'_>,
+    number: usize,
+    stores: &mut Stores,
+) -> Result<Bounds, Memory>
+    requires lists { AreSpotLists flat.now }
+    requires callers { AreCallers flat.now filled.items.now filled.callers.now }
+    requires blocks { (j : ℕ) → filled.blocks ≡ length (expand (block_of flat.now) j filled.heads.now) }
+    requires homes { AreHomes flat.now }
+    ensures more { GoOn stores.old stores.new }
+    ensures bounds { IfOk result (λ bounds. AreBounds stores.new bounds) }
+    ensures ends { IfOk result (λ bounds. bounds.waiters ≡ length stores.new.waiters.items) }
+    ensures homes { IfOk result (λ bounds. (rows : List (List ℕ)) → slice_index_or rows number []
+        ≡ filled.entry.heads.now → AreCallersHomed flat.now rows filled.entry.callers.now
+        → AreWaitersHomed flat.now rows stores.old.waiters.items
+        → AreWaitersHomed flat.now rows stores.new.waiters.items) }
+    ensures kept { IfOk result (λ bounds. IsKept flat.now number filled.entry.heads.now filled.entry.items.now
+        (set_in stores.new bounds)) }
+{
+    let Some(size) = filled.blocks.checked_add(filled.items.len()) else {
+        return Err(Memory);
+    };
+    let items = append(&mut stores.items, filled.items)?;
+    let records = list_waiters(
+        flat,
+        filled.heads,
+        filled.callers,
+        number,
+        &mut stores.records,
+        &mut stores.waiters,
+    )?;
+    Ok(Bounds {
+        records,
+        items,
+        waiters: stores.waiters.len(),
+        size,
+    })
+}
+
+// Puts a set behind the others.
+#[inline(always)]
+fn add_set(
+    flat: &Tables,
+    filled: Filled<'_>,
+    bounds: &mut Vec<Bounds>,
+    stores: &mut Stores,
+) -> Result<(), Memory>
+    requires stored { AreStored stores.old bounds.old.items }
+    requires lists { AreSpotLists flat.now }
+    requires callers { AreCallers flat.now filled.items.now filled.callers.now }
+    requires blocks { (j : ℕ) → filled.blocks ≡ length (expand (block_of flat.now) j filled.heads.now) }
+    requires homes { AreHomes flat.now }
+    ensures stored { OnOk result (AreStored stores.new bounds.new.items) }
+    ensures added { IfOk result (λ _. (f : kept_set)
+        × ((sets_in stores.new bounds.new.items ≡ sets_in stores.old bounds.old.items ++ f ∷ [])
+        × IsKept flat.now (length bounds.old.items) filled.entry.heads.now filled.entry.items.now f)) }
+    ensures homes { IfOk result (λ _. AreSetsHomed flat.now (sets_in stores.old bounds.old.items)
+        → AreCallersHomed flat.now (head_rows_with (sets_in stores.old bounds.old.items) filled.entry.heads.now)
+        filled.entry.callers.now → AreSetsHomed flat.now (sets_in stores.new bounds.new.items)) }
+{
+    let more = store(flat, filled, bounds.len(), stores)?;
+    bounds.push(more)?;
+    Ok(())
+}
+
+// Empties the lists of all sets, and keeps their memory.
+fn empty(bounds: &mut Vec<Bounds>, stores: &mut Stores)
+    ensures bounds { bounds.new.items ≡ [] }
+    ensures waiters { stores.new.waiters.items ≡ [] }
+{
+    bounds.clear();
+    stores.records.clear();
+    stores.items.clear();
+    stores.waiters.clear();
+}
+
+impl Sets {
+    /// Returns no sets. It takes no memory.
+    pub(crate) fn new(alloc: Global) -> Sets
+        ensures { result ≡ [] }
+    {
+        Sets {
+            bounds: Vec::new(alloc),
+            stores: Stores {
+                records: Vec::new(alloc),
+                items: Vec::new(alloc),
+                waiters: Vec::new(alloc),
+            },
+        }
+    }
+
+    /// Returns the number of sets.
+    #[inline(always)]
+    pub(crate) fn len(&self) -> usize
+        ensures { result ≡ length self.now }
+    {
+        self.bounds.len()
+    }
+
+    /// Returns set `j`, if there is one.
+    #[inline(always)]
+    pub(crate) fn get(&self, j: usize) -> Option<EarleySet<'_>>
+        ensures { result ≡ slice_get self.now j }
+    {
+        match self.bounds.get(j) {
+            Some(bounds) => Some(EarleySet {
+                stores: &self.stores,
+                bounds,
+            }),
+            None => None,
+        }
+    }
+
+    /// Returns the waiting lists of all sets.
+    #[inline(always)]
+    pub(crate) fn waiters(&self) -> &[Waiter]
+        ensures { (k : ℕ) (f : kept_set) → slice_get self.now k ≡ Some f → GoesOn f.waiters result.now }
+    {
+        &self.stores.waiters
+    }
+
+    /// Adds a set as it was filled, with the waiting lists of its heads. `Memory` if its items are more than a number
+    /// of 64 bits tells, or if an allocation fails; there is no set then.
+    #[inline(always)]
+    pub(crate) fn push(&mut self, flat: &Tables, filled: Filled<'_>) -> Result<(), Memory>
+        requires lists { AreSpotLists flat.now }
+        requires callers { AreCallers flat.now filled.items.now filled.callers.now }
+        requires blocks { (j : ℕ) → filled.blocks ≡ length (expand (block_of flat.now) j filled.heads.now) }
+        requires homes { AreHomes flat.now }
+        ensures added { IfOk result (λ _. (f : kept_set) × ((self.new ≡ self.old ++ f ∷ [])
+            × IsKept flat.now (length self.old) filled.entry.heads.now filled.entry.items.now f)) }
+        ensures homes { IfOk result (λ _. AreSetsHomed flat.now self.old
+            → AreCallersHomed flat.now (head_rows_with self.old filled.entry.heads.now) filled.entry.callers.now
+            → AreSetsHomed flat.now self.new) }
+    {
+        match add_set(flat, filled, &mut self.bounds, &mut self.stores) {
+            Ok(()) => Ok(()),
+            Err(memory) => {
+                empty(&mut self.bounds, &mut self.stores);
+                Err(memory)
+            }
+        }
+    }
+
+    /// Empties it, and keeps its memory.
+    pub(crate) fn clear(&mut self)
+        ensures { self.new ≡ [] }
+    {
+        empty(&mut self.bounds, &mut self.stores);
+    }
+}

@@ -1,3 +1,0 @@
-pub mod TakeEventLemmas
-pub mod KeptAtLemmas
-pub mod NextWrittenLemmas

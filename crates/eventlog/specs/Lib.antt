@@ -1,2 +1,0 @@
-pub mod EventLog
-pub mod WaitingHeads

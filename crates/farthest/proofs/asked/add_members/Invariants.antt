@@ -1,9 +1,0 @@
-use Rattle.std.proofs.Common.{drop}
-use Rattle.farthest.specs.CellAsks.{WalksTo}
-use Rattle.farthest.proofs.AddsVisitsLemmas.{AddsBut}
-use Rattle.farthest.proofs.asked.add_members.Given as goal
-
-abbrev pub invariant-loop-member : goal.invariant-loop-member
-invariant-loop-member l =
-    AddsBut (WalksTo l.desk.cells l.members l.place) (WalksTo l.desk.cells (drop l.member-index l.members) l.end)
-    l.initial.seen.keys l.seen.keys

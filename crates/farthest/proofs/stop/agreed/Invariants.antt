@@ -1,9 +1,0 @@
-use Rattle.std.proofs.Common.{◌≡◌, ℕ, ◌+◌, ◌<◌, ◌≤◌, length}
-use Rattle.std.specs.Prelude.{slice_get}
-use Rattle.farthest.proofs.stop.agreed.Given as goal
-
-abbrev pub invariant-loop-i : goal.invariant-loop-i
-invariant-loop-i l = record {
-  inside : l.place + l.i ≤ length l.window;
-  agree : (j : ℕ) → j < l.i → slice_get l.window (l.place + j) ≡ slice_get l.literal j;
-}

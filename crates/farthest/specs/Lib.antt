@@ -1,5 +1,0 @@
-pub mod VisitLists
-pub mod Farthest
-pub mod CellAsks
-pub mod GreatestStop
-pub mod ToldUnit

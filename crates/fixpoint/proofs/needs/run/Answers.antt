@@ -1,0 +1,52 @@
+use Rattle.std.proofs.Common.{◌≡◌, length, arith, ◌∙◌, sym, subst}
+use Rattle.std.proofs.lemmas.Option.{slice_get_read}
+use Rattle.fixpoint.specs.UserLists.{AreListsWithin}
+use Rattle.fixpoint.proofs.ContainsLemmas.{in_get}
+use Rattle.fixpoint.proofs.IsDerivedLemmas as d
+use Rattle.fixpoint.proofs.needs.run.Goals as goal
+
+pub tell-requires-clause-m : goal.tell-requires-clause-m
+tell-requires-clause-m c =
+    let e = c.len.ensures in
+    let ok = c.loop-place.order.ok.0 in
+    let size : c.len.result ≡ length c.loop-place.order.items = omega (arith, e, ok) in
+    let at = slice_get_read _ _ _ _ size c.loop-place-test.true c.index.ensures in
+    let low = d.queue_within _ _ _ c.loop-place.invariant.queue (in_get _ _ _ at) in
+    let l = c.requires.count in
+    let k = c.loop-place.invariant.count in
+    omega (arith, low, l, k)
+
+pub tell-requires-clause-lists : goal.tell-requires-clause-lists
+tell-requires-clause-lists c =
+    subst (λ v. AreListsWithin c.args.users.now v) (sym c.loop-place.invariant.count) c.requires.lists
+
+pub loop-place-smaller : goal.loop-place-smaller
+loop-place-smaller c =
+    let e = c.len.ensures in
+    let ok = c.loop-place.order.ok.0 in
+    let short = d.queue_short _ _ c.loop-place.invariant.queue in
+    let more = c.loop-place-test.true in
+    let told = c.in_ok-tell.ensures c.requires.lists.rows c.requires.lists.lists in
+    let k = told.count in
+    omega (arith, e, ok, short, more, k)
+
+pub loop-place-preserved : goal.loop-place-preserved
+loop-place-preserved c =
+    let first = c.in_ok-tell.ensures c.requires.lists.rows c.requires.lists.lists in record {
+      count = first.count ∙ c.loop-place.invariant.count;
+      queue = first.queue;
+      coming = λ needs rows a u g.
+          let e = c.len.ensures in
+          let ok = c.loop-place.order.ok.0 in
+          let size : c.len.result ≡ length c.loop-place.order.items = omega (arith, e, ok) in
+          let at = slice_get_read _ _ _ _ size c.loop-place-test.true c.index.ensures in
+          d.coming_next needs _ _ _ _ _ _ _ u (c.loop-place.invariant.coming needs rows a u g) at
+          (c.in_ok-tell.ensures rows a);
+    }
+
+pub returns : goal.returns
+returns c = λ needs rows a u g.
+    let e = c.len.ensures in
+    let ok = c.loop-place.order.ok.0 in
+    let past = c.loop-place-test.false in
+    d.coming_done needs _ _ _ (omega (arith, e, ok, past)) (c.loop-place.invariant.coming needs rows a u g)

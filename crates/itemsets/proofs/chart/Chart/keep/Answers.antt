@@ -1,5 +1,0 @@
-use Rattle.itemsets.proofs.ChartSetsLemmas.{are_sized}
-use Rattle.itemsets.proofs.chart.Chart.keep.Goals as goal
-
-pub invariant_of-self : goal.invariant_of-self
-invariant_of-self c = are_sized c.args.tables c.args.sets c.requires

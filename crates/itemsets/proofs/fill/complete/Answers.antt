@@ -1,9 +1,0 @@
-use Rattle.std.proofs.Common.{sym, ◌∙◌}
-use Rattle.itemsets.specs.SetViews.{views}
-use Rattle.itemsets.proofs.ExpandLemmas.{completed_from}
-use Rattle.itemsets.proofs.fill.complete.Goals as goal
-
-pub returns-in_ok-complete_root-clause-added : goal.returns-in_ok-complete_root-clause-added
-returns-in_ok-complete_root-clause-added c = completed_from c.args.flat.now (views c.args.flat.now 0 c.args.sets.now)
-    c.args.at.item _ _
-    (sym c.requires.done ∙ c.if-done.true) c.in_ok-complete_root.ensures.added

@@ -1,7 +1,0 @@
-use Rattle.std.proofs.Common.{take}
-use Rattle.flatgrammar.specs.Places.{In}
-use Rattle.itemsets.specs.ItemSets.{Adds}
-use Rattle.itemsets.proofs.fill.predict_all.Given as goal
-
-abbrev pub invariant-loop-head : goal.invariant-loop-head
-invariant-loop-head l = Adds (λ t. In t (take l.head-index l.calls)) l.initial.heads l.heads

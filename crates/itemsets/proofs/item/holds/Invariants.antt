@@ -1,6 +1,0 @@
-use Rattle.std.proofs.Common.{take}
-use Rattle.flatgrammar.specs.Places.{In}
-use Rattle.itemsets.proofs.item.holds.Given as goal
-
-abbrev pub invariant-loop-other : goal.invariant-loop-other
-invariant-loop-other l = In l.item (take l.other-index l.set) → ⊥

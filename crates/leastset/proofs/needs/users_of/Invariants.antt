@@ -1,6 +1,0 @@
-use Rattle.leastset.specs.Demands.{demands_of}
-use Rattle.leastset.specs.UserLists.{HoldUsersTo}
-use Rattle.leastset.proofs.needs.users_of.Given as goal
-
-abbrev pub invariant-loop-n : goal.invariant-loop-n
-invariant-loop-n l = HoldUsersTo (demands_of l.needs) l.users l.n

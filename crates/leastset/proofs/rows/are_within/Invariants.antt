@@ -1,5 +1,0 @@
-use Rattle.leastset.specs.StepRows.{slices_of, AreStepsWithinTo}
-use Rattle.leastset.proofs.rows.are_within.Given as goal
-
-abbrev pub invariant-loop-row : goal.invariant-loop-row
-invariant-loop-row l = AreStepsWithinTo (slices_of l.steps) l.row-index

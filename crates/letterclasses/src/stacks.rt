@@ -1,0 +1,5 @@
+//! Laws of stacks of places.
+
+mod laws;
+
+pub use laws::{a_letter_leads_on, parts_are_moved, stacks_tell};

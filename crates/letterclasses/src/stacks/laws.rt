@@ -1,0 +1,45 @@
+//! Laws of stacks of places.
+ghost use Rattle.std.specs.Prelude.{◌≡◌, ◌↔◌, ◌++◌, ◌+◌, ◌∷◌, ℕ, true, false, Bool, List, [], Some, Contains};
+ghost use Rattle.std.specs.Prelude.{slice_get};
+ghost use Rattle.flatgrammar.specs.Flat.{Flat, Place, Concat};
+ghost use Rattle.flatgrammar.specs.Holds.{Holds};
+ghost use Rattle.flatgrammar.specs.ToldBeginnings.{HasItem};
+ghost use Rattle.letterclasses.specs.Stacks.{Reach, Accepts, ReadBy, TellsLast, AreUncounted, AreAlike};
+ghost use Rattle.letterclasses.specs.Stacks.{IsPlain, IsFront, IsNext, IsUnfolded, Lifted, IsReading};
+
+/// Returns nothing. Its contract is a law: stacks tell what item sets tell.
+pub fn stacks_tell()
+    ensures { (flat : Flat) (last : Place → Bool) (body : ℕ) (x : List ℕ) → TellsLast flat last → AreUncounted flat
+        → slice_get flat.nodes flat.whole ≡ Some (Concat (body ∷ [])) → (j : ℕ) →
+        (Accepts flat last x j ↔ Holds flat x j (Place.at flat.whole 1) 0) ×
+        (((stack : List Place) × Reach flat last x j stack) ↔ HasItem flat x j) }
+{}
+
+/// Returns nothing. Its contract is a law: a transition, computed from tops alone and for one letter of a class, leads
+/// from the front before a letter of that class to the front after it; and something is reached after it exactly if a
+/// top reads it.
+pub fn a_letter_leads_on()
+    ensures { (flat : Flat) (last : Place → Bool) (x : List ℕ) (j c d : ℕ) → slice_get x j ≡ Some c →
+        AreAlike flat c d → (tops : List (List Place)) (below : List Place) →
+        IsPlain flat last x j (Contains tops) below →
+        (((stack : List Place) × Reach flat last x (j + 1) stack) ↔ ((top : List Place)
+        × ReadBy flat last (Contains tops) d top)) ×
+        ((next : List (List Place)) (ended : Bool) → IsNext flat last (Contains tops) d (Contains next) ended →
+        IsFront flat last x (j + 1) (Contains next) ended below) }
+{}
+
+/// Returns nothing. Its contract is a law: tops of which one has ended are put on what was split off below them, and
+/// what is on all tops alike can be split off; a front that has not ended, or has nothing below, is plain.
+pub fn parts_are_moved()
+    ensures { (flat : Flat) (last : Place → Bool) (x : List ℕ) (j : ℕ) (tops : List (List Place)) →
+        ((part below : List Place) (next : List (List Place)) (ended : Bool) → (part ≡ [] → ⊥) →
+        IsFront flat last x j (Contains tops) true (part ++ below) → IsUnfolded flat last (Contains tops) part
+        (Contains next) ended → IsFront flat last x j (Contains next) ended below) ×
+        ((base : List (List Place)) (part below : List Place) → IsPlain flat last x j (Contains tops) below →
+        ((top : List Place) → Contains tops top ↔ Lifted (Contains base) part top) →
+        ((top : List Place) → Contains base top → IsReading flat top) →
+        IsPlain flat last x j (Contains base) (part ++ below)) ×
+        ((below : List Place) → IsFront flat last x j (Contains tops) false below →
+        IsPlain flat last x j (Contains tops) below) ×
+        ((ended : Bool) → IsFront flat last x j (Contains tops) ended [] → IsPlain flat last x j (Contains tops) []) }
+{}

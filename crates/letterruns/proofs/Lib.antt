@@ -1,2 +1,0 @@
-pub mod LetterRunLemmas
-pub mod ToldTextLemmas

@@ -1,7 +1,0 @@
-use Rattle.std.proofs.Common.{◌≡◌, take}
-use Rattle.std.specs.List.{flat_map}
-use Rattle.letterruns.specs.ToldLetters.{told_run}
-use Rattle.letterruns.proofs.told.told_letters.Given as goal
-
-abbrev pub invariant-loop-run : goal.invariant-loop-run
-invariant-loop-run l = l.told.items ≡ flat_map (told_run l.runs) (take l.run-index l.runs)

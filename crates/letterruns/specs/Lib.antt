@@ -1,2 +1,0 @@
-pub mod LetterRuns
-pub mod ToldLetters

@@ -1,0 +1,174 @@
+-- A run of lines goes on from each place, as each line has an answer.
+-- Serves: run_lines
+use Rattle.std.proofs.Common.{◌≡◌, ◌≢◌, ℕ, suc, zero, ◌+◌, ◌<◌, ◌≤◌, Bool, true, false, List, [], ◌∷◌, ◌++◌}
+use Rattle.std.proofs.Common.{length, drop, refl, ap, arith, inl, inr, ◌⊎◌, length-drop, length-append}
+use Rattle.std.proofs.Math.Nat.{min-le_left, min-le_right, le-min}
+use Rattle.std.proofs.lemmas.Bool.{cases_lt, cases_eq}
+use Rattle.std.proofs.lemmas.List.{drop_all, take-append-le}
+use Rattle.std.proofs.lemmas.List.Elements.{All-nil, All-cons, All-take}
+use Rattle.ruletable.proofs.AppendsLemmas.{IsBeginning-same, IsBeginning-trans}
+use Rattle.toolrun.specs.Input.{Input}
+use Rattle.toolrun.specs.RunSteps.{Begins}
+use Rattle.toolrun.specs.Status.{code_of}
+use Rattle.toolrun.specs.Stop.{message_of, status_of}
+use Rattle.toolrun.specs.declared.stop.Stop.{Stop}
+use Rattle.toolrun.specs.declared.stop.Stop.TheVariants.{Quiet, LongLine, Broken}
+use Rattle.linejudge.specs.InputLines.{HasNoEnd, answer_text, refused_by, status_after, behind, place_taken, taken_at}
+use Rattle.linejudge.specs.InputLines.{StandsAt, with_end, without_end, Lines, one_more, LinesEnd, broken}
+use Rattle.linejudge.specs.InputLines.{overlong, finished}
+use Rattle.linejudge.specs.declared.answers.Answer.{Answer}
+use Rattle.linejudge.specs.declared.answers.Answer.TheVariants.{Yes, No, NoAfter}
+use Rattle.linejudge.specs.declared.line.LineForm.{LineForm}
+use Rattle.linejudge.specs.declared.reached.At.{At}
+
+-- a line and its end stand in front, or there is no end
+split_line : (end : ℕ) (xs : List ℕ) → ((line after : List ℕ) × (xs ≡ line ++ end ∷ after) × HasNoEnd end line)
+    ⊎ HasNoEnd end xs
+split_line end [] = inr (All-nil (λ b. b ≢ end))
+split_line end (x ∷ xs) = elim (cases_eq x end) [
+  | inl is ↦ inl ([], xs, ap (λ b. b ∷ xs) is, All-nil (λ b. b ≢ end))
+  | inr other ↦ elim (split_line end xs) [
+    | inl (line, after, cut, one) ↦ inl (
+      x ∷ line,
+      after,
+      ap (λ t. x ∷ t) cut,
+      All-cons (λ b. b ≢ end) x line other one,
+    )
+    | inr free ↦ inr (All-cons (λ b. b ≢ end) x xs other free)
+  ]
+]
+
+-- an answer refuses one line at most
+pub refused_by-one : (said : Answer) → refused_by said ≤ 1
+refused_by-one Yes = omega arith
+refused_by-one No = omega arith
+refused_by-one (NoAfter n) = omega arith
+
+module _ (Told : List ℕ → Answer → Type 0) (form : LineForm) (input : Input) where
+  abbrev rest : ℕ → List ℕ
+  rest s = drop s input.bytes
+
+  abbrev pub Goes : ℕ → List ℕ → Type 0
+  Goes s text = Begins (Lines Told form input) (LinesEnd form input) (place_taken form.limit input)
+      (taken_at form.limit input s) text
+
+  takes_more : (s t n : ℕ) → s ≤ t → taken_at form.limit input t ≤ n → taken_at form.limit input s ≤ n
+  takes_more s t n le h =
+      let a = min-le_left (length input.bytes) (s + form.limit + 1) in
+      let b = min-le_right (length input.bytes) (s + form.limit + 1) in
+      let m : taken_at form.limit input s ≤ taken_at form.limit input t = le-min a (omega (arith, b, le)) in
+      omega (arith, m, h)
+
+  pub goes_to_stop : (at : At) (text last : List ℕ) (stop : Stop) → Lines Told form input at text
+      → LinesEnd form input at last stop → Goes at.place (text ++ last)
+  goes_to_stop at text last stop lines ends = record {
+    reply = record {
+      out = text ++ last;
+      err = message_of stop;
+      status = code_of (status_of stop);
+      taken = taken_at form.limit input at.place;
+    };
+    replies = record {
+      point = at;
+      before = text;
+      last = last;
+      stop = stop;
+      steps = lines;
+      ends = ends;
+      out = refl;
+      err = refl;
+      status = refl;
+      taken = refl;
+    };
+    front = IsBeginning-same (text ++ last);
+    taken = omega arith;
+  }
+
+  goes_from : (s t : ℕ) (text more : List ℕ) → s ≤ t → Goes t (text ++ more) → Goes s text
+  goes_from s t text more le h = record {
+    reply = h.reply;
+    replies = h.replies;
+    front = IsBeginning-trans text (text ++ more) h.reply.out (more, refl) h.front;
+    taken = takes_more s t h.reply.taken le h.taken;
+  }
+
+  module _ (decided : (line : List ℕ) → (said : Answer) × Told line said) where
+    -- the input ends there
+    goes_at_end : (at : At) (text : List ℕ) → Lines Told form input at text → rest at.place ≡ [] → input.fault ≡ false
+        → Goes at.place text
+    goes_at_end at text lines empty fine = goes_from at.place at.place text [] (omega arith)
+        (goes_to_stop at text [] (Quiet (status_after at.refused)) lines (finished (empty, fine)))
+
+    -- behind the last line it does
+    goes_behind_last : (at : At) (text : List ℕ) → Lines Told form input at text → HasNoEnd form.end (rest at.place)
+        → 0 < length (rest at.place) → length (rest at.place) ≤ form.limit → input.fault ≡ false → Goes at.place text
+    goes_behind_last at text lines free some le fine =
+        let d = decided (rest at.place) in
+        let n : ℕ = length (rest at.place) in
+        let l = length-drop at.place input.bytes in
+        goes_from at.place (at.place + n) text (answer_text d.0) (omega arith)
+        (goes_at_end (behind at n d.0) (text ++ answer_text d.0)
+        (one_more at text (rest at.place) n d.0 lines (without_end (free, some, le, fine)) d.1)
+        (drop_all (at.place + n) input.bytes (omega (arith, l))) fine)
+
+    goes_ended : (at : At) (text : List ℕ) → Lines Told form input at text → HasNoEnd form.end (rest at.place)
+        → length (rest at.place) ≤ form.limit → (fault : Bool) → input.fault ≡ fault →
+        (bytes : List ℕ) → rest at.place ≡ bytes → Goes at.place text
+    goes_ended at text lines free le true is bytes same = goes_from at.place at.place text [] (omega arith)
+        (goes_to_stop at text [] Broken lines (broken (free, le, is)))
+    goes_ended at text lines free le false is [] same = goes_at_end at text lines same is
+    goes_ended at text lines free le false is (b ∷ bytes) same =
+        goes_behind_last at text lines free (let l = ap length same in omega (arith, l)) le is
+
+    lines_go : (fuel : ℕ) (at : At) (text : List ℕ) → Lines Told form input at text → length (rest at.place) < fuel
+        → Goes at.place text
+    lines_go zero at text lines room = absurd (omega (arith, room))
+    lines_go (suc fuel) at text lines room = elim (split_line form.end (rest at.place)) [
+      | inl (line, after, cut, one) ↦ elim (cases_lt form.limit (length line)) [
+        | inl over ↦
+            let l = ap length cut in
+            goes_from at.place at.place text [] (omega arith)
+            (goes_to_stop at text [] (LongLine (at.count + 1) form.limit) lines (overlong (
+              rw (cut, take-append-le (suc form.limit) line (form.end ∷ after) (omega arith))
+                  (All-take (λ b. b ≢ form.end) (suc form.limit) line one),
+              omega (arith, l, length-append line (form.end ∷ after)),
+            )))
+        | inr le ↦
+            let d = decided line in
+            let n : ℕ = length line + 1 in
+            let l = ap length cut in
+            goes_from at.place (at.place + n) text (answer_text d.0) (omega arith)
+            (lines_go fuel (behind at n d.0) (text ++ answer_text d.0)
+            (one_more at text line n d.0 lines
+            (with_end line (record { after = after; cut = cut; one = one; within = omega arith })) d.1)
+            (omega (
+              arith,
+              room,
+              l,
+              length-append line (form.end ∷ after),
+              length-drop at.place input.bytes,
+              length-drop (at.place + n) input.bytes,
+            )))
+      ]
+      | inr free ↦ elim (cases_lt form.limit (length (rest at.place))) [
+        | inl over ↦ goes_from at.place at.place text [] (omega arith)
+            (goes_to_stop at text [] (LongLine (at.count + 1) form.limit) lines
+            (overlong (All-take (λ b. b ≢ form.end) (suc form.limit) (rest at.place) free, over)))
+        | inr le ↦ goes_ended at text lines free (omega arith) input.fault refl (rest at.place) refl
+      ]
+    ]
+
+    pub lines_go_on : (at : At) (text : List ℕ) → Lines Told form input at text → Goes at.place text
+    lines_go_on at text lines = lines_go (suc (length (rest at.place))) at text lines (omega arith)
+
+    -- behind one more line no fewer bytes are taken
+    pub goes_behind : (at : At) (text line : List ℕ) (n : ℕ) (said : Answer) → Lines Told form input at text
+        → StandsAt form input at.place line n → Told line said → Goes at.place (text ++ answer_text said)
+    goes_behind at text line n said lines stands says =
+        let goes = lines_go_on (behind at n said) (text ++ answer_text said)
+        (one_more at text line n said lines stands says) in record {
+          reply = goes.reply;
+          replies = goes.replies;
+          front = goes.front;
+          taken = takes_more at.place (at.place + n) goes.reply.taken (omega arith) goes.taken;
+        }

@@ -1,0 +1,291 @@
+-- The lines of an input, what is told of refused ones, and how a run of them ends are one, and so is its reply.
+-- Serves: one_reply_of_abnf, one_statement_of_abnf
+use Rattle.std.proofs.Common.{◌≡◌, ◌≢◌, ℕ, suc, ◌+◌, ◌<◌, ◌≤◌, Bool, List, [], ◌∷◌, ◌++◌, length, take, drop, get_or}
+use Rattle.std.proofs.Common.{refl}
+use Rattle.std.proofs.Common.{sym, ◌∙◌, ap, subst, arith, inl, inr, length-append, length-take}
+use Rattle.std.proofs.Math.Seq.{get_or-append_seam}
+use Rattle.std.proofs.lemmas.Bool.{cases_lt}
+use Rattle.std.proofs.lemmas.List.{get_or-take}
+use Rattle.std.proofs.lemmas.List.Elements.{All-head, All-tail, All-get_or}
+use Rattle.toolrun.specs.Input.{Input}
+use Rattle.toolrun.specs.Reply.{Reply, explained_reply}
+use Rattle.toolrun.specs.Explained.{ExplainedIf}
+use Rattle.toolrun.specs.RunEnd.{more_refused}
+use Rattle.toolrun.specs.RunSteps.{Replies}
+use Rattle.toolrun.proofs.ExplainedIfLemmas.{if-explained}
+use Rattle.toolrun.specs.Status.{code_of}
+use Rattle.toolrun.specs.Stop.{message_of, status_of}
+use Rattle.toolrun.specs.declared.stop.Stop.{Stop}
+use Rattle.linejudge.specs.InputLines.{HasNoEnd, answer_text, behind, place_taken, IsLine, IsLastAt, StandsAt}
+use Rattle.linejudge.specs.InputLines.{with_end, without_end, Lines, none, one_more, LinesEnd, broken, overlong, finished}
+use Rattle.linejudge.specs.LineRefusals.{LinesReply, Refusals, count_untold, is_told, none_told, one_told, stop_lines}
+use Rattle.linejudge.specs.declared.answers.Answer.{Answer}
+use Rattle.linejudge.specs.declared.line.LineForm.{LineForm}
+use Rattle.linejudge.specs.declared.reached.At.{At}
+
+-- what stands before the first end is one
+one_front : (end : ℕ) (a b x y : List ℕ) → HasNoEnd end a → HasNoEnd end b → a ++ end ∷ x ≡ b ++ end ∷ y → a ≡ b
+one_front end [] [] x y h k e = refl
+one_front end [] (c ∷ b) x y h k e =
+    let f = ap (λ (l : List ℕ). get_or l 0 0) e in absurd (All-head (λ v. v ≢ end) c b k (sym f))
+one_front end (c ∷ a) [] x y h k e = absurd (All-head (λ v. v ≢ end) c a h (ap (λ (l : List ℕ). get_or l 0 0) e))
+one_front end (c ∷ a) (d ∷ b) x y h k e =
+    let first : c ≡ d = ap (λ (l : List ℕ). get_or l 0 0) e in
+    let rest : a ++ end ∷ x ≡ b ++ end ∷ y = ap (λ (l : List ℕ). drop 1 l) e in
+    let front : a ≡ b = one_front end a b x y (All-tail (λ v. v ≢ end) c a h) (All-tail (λ v. v ≢ end) d b k) rest in
+    cc
+
+-- a list with an end is not without one
+has_end : (end : ℕ) (xs line after : List ℕ) → xs ≡ line ++ end ∷ after → HasNoEnd end xs → ⊥
+has_end end xs line after cut h =
+    let l = ap length cut in
+    let here : get_or xs (length line) 0 ≡ end = ap (λ (t : List ℕ). get_or t (length line) 0) cut
+    ∙ get_or-append_seam line end after 0 in
+    All-get_or (λ v. v ≢ end) xs (length line) 0 (omega (arith, l, length-append line (end ∷ after))) h here
+
+-- nor is a front of it that reaches over the end
+has_end_within : (end n : ℕ) (xs line after : List ℕ) → xs ≡ line ++ end ∷ after → length line ≤ n
+    → HasNoEnd end (take (suc n) xs) → ⊥
+has_end_within end n xs line after cut le h =
+    let l = ap length cut in
+    let here : get_or (take (suc n) xs) (length line) 0 ≡ end =
+    get_or-take (suc n) xs (length line) 0 (omega (arith, le)) ∙ ap (λ (t : List ℕ). get_or t (length line) 0) cut
+    ∙ get_or-append_seam line end after 0 in
+    All-get_or (λ v. v ≢ end) (take (suc n) xs) (length line) 0
+    (omega (arith, l, le, length-take (suc n) xs, length-append line (end ∷ after))) h here
+
+module _ (form : LineForm) (input : Input) where
+  -- one line with its end at a place
+  one_line : (s : ℕ) (a b : List ℕ) → IsLine form input s a → IsLine form input s b → a ≡ b
+  one_line s a b h k = one_front form.end a b h.after k.after h.one k.one (sym h.cut ∙ k.cut)
+
+  -- no last line where a line has an end
+  not_both : (s : ℕ) (line : List ℕ) → IsLine form input s line → IsLastAt form input s → ⊥
+  not_both s line is (free, some, short, fine) = has_end form.end (drop s input.bytes) line is.after is.cut free
+
+  -- two lines at a place are the same, and take as many bytes
+  record OneStands (a b : List ℕ) (n m : ℕ) : Type 0 where
+    lines : a ≡ b
+    sizes : n ≡ m
+
+  one_stands : (s : ℕ) (a b : List ℕ) (n m : ℕ) → StandsAt form input s a n → StandsAt form input s b m
+      → OneStands a b n m
+  one_stands s a b n m (with_end line is) (with_end other has) =
+      let same : line ≡ other = one_line s line other is has in
+      record { lines = same; sizes = ap (λ (l : List ℕ). length l + 1) same }
+  one_stands s a b n m (with_end line is) (without_end last) = absurd (not_both s line is last)
+  one_stands s a b n m (without_end last) (with_end line is) = absurd (not_both s line is last)
+  one_stands s a b n m (without_end last) (without_end other) = record { lines = refl; sizes = refl }
+
+  -- no run ends where a line stands
+  no_end : (at : At) (line last : List ℕ) (n : ℕ) (why : Stop) → StandsAt form input at.place line n
+      → LinesEnd form input at last why → ⊥
+  no_end at line last n why (with_end it is) (broken (free, short, fault)) =
+      has_end form.end (drop at.place input.bytes) it is.after is.cut free
+  no_end at line last n why (with_end it is) (overlong (free, long)) =
+      has_end_within form.end form.limit (drop at.place input.bytes) it is.after is.cut is.within free
+  no_end at line last n why (with_end it is) (finished (empty, fine)) =
+      let l = ap length is.cut in
+      let m = ap length empty in
+      omega (arith, l, m, length-append it (form.end ∷ is.after))
+  no_end at line last n why (without_end (free, some, short, fine)) (broken (free', short', fault)) = absurd (cc)
+  no_end at line last n why (without_end (free, some, short, fine)) (overlong (free', long)) =
+      absurd (omega (arith, short, long))
+  no_end at line last n why (without_end (free, some, short, fine)) (finished (empty, fine')) =
+      absurd (let l = ap length empty in omega (arith, l, some))
+
+  -- two ends are the same
+  record OneEnd (last other : List ℕ) (why end : Stop) : Type 0 where
+    lasts : last ≡ other
+    stops : why ≡ end
+
+  one_end : (at : At) (last other : List ℕ) (why end : Stop) → LinesEnd form input at last why
+      → LinesEnd form input at other end → OneEnd last other why end
+  one_end at last other why end (broken (free, short, fault)) (broken (free', short', fault')) =
+      record { lasts = refl; stops = refl }
+  one_end at last other why end (broken (free, short, fault)) (overlong (free', long)) =
+      absurd (omega (arith, short, long))
+  one_end at last other why end (broken (free, short, fault)) (finished (empty, fine)) = absurd (cc)
+  one_end at last other why end (overlong (free, long)) (broken (free', short, fault)) =
+      absurd (omega (arith, short, long))
+  one_end at last other why end (overlong (free, long)) (overlong (free', long')) =
+      record { lasts = refl; stops = refl }
+  one_end at last other why end (overlong (free, long)) (finished (empty, fine)) =
+      absurd (let l = ap length empty in omega (arith, l, long))
+  one_end at last other why end (finished (empty, fine)) (broken (free', short, fault)) = absurd (cc)
+  one_end at last other why end (finished (empty, fine)) (overlong (free, long)) =
+      absurd (let l = ap length empty in omega (arith, l, long))
+  one_end at last other why end (finished (empty, fine)) (finished (empty', fine')) =
+      record { lasts = refl; stops = refl }
+
+module _ (Told : List ℕ → Answer → Type 0) (one_answer : (line : List ℕ) (a b : Answer) → Told line a → Told line b
+    → a ≡ b) (form : LineForm) (input : Input) where
+  abbrev LinesTo : At → List ℕ → Type 0
+  LinesTo at text = Lines Told form input at text
+
+  -- two places, and the answers up to them, are the same
+  record Same (at other : At) (text more : List ℕ) : Type 0 where
+    places : at ≡ other
+    texts : text ≡ more
+
+  -- both go on by a line
+  same_next : (at other : At) (text more line next : List ℕ) (n m : ℕ) (said told : Answer) → Same at other text more
+      → StandsAt form input at.place line n → StandsAt form input other.place next m → Told line said → Told next told
+      → Same (behind at n said) (behind other m told) (text ++ answer_text said) (more ++ answer_text told)
+  same_next at other text more line next n m said told same h k s t =
+      let place = same.places in
+      let words = same.texts in
+      let one = one_stands form input at.place line next n m h
+      (subst (λ (v : At). StandsAt form input v.place next m) (sym place) k) in
+      let lines = one.lines in
+      let sizes = one.sizes in
+      let answers : said ≡ told = one_answer line said told s (subst (λ (l : List ℕ). Told l told) (sym lines) t) in
+      record { places = cc; texts = cc }
+
+  -- as many lines lead to one place
+  same_place : (at : At) (text : List ℕ) → LinesTo at text → (other : At) (more : List ℕ) → LinesTo other more
+      → at.count ≡ other.count → Same at other text more
+  same_place at text none other more none e = record { places = refl; texts = refl }
+  same_place at text none other more (one_more before front line n said u is says) e = absurd (omega (arith, e))
+  same_place at text (one_more before front line n said u is says) other more none e = absurd (omega (arith, e))
+  same_place at text (one_more before front line n said u is says) other more
+      (one_more prior begun next m told v has tells) e =
+      same_next before prior front begun line next n m said told
+      (same_place before front u prior begun v (omega (arith, e))) is has says tells
+
+  -- after so many lines there is a further one
+  record GoesOn (count : ℕ) : Type 0 where
+    at : At
+    text : List ℕ
+    lines : LinesTo at text
+    here : at.count ≡ count
+    line : List ℕ
+    size : ℕ
+    is : StandsAt form input at.place line size
+
+  goes_on : (count : ℕ) (at : At) (text : List ℕ) → LinesTo at text → count < at.count → GoesOn count
+  goes_on count at text none lt = absurd (omega (arith, lt))
+  goes_on count at text (one_more before front line n said u is says) lt = elim (cases_lt count before.count) [
+    | inl less ↦ goes_on count before front u less
+    | inr ge ↦ record {
+      at = before;
+      text = front;
+      lines = u;
+      here = omega (arith, lt, ge);
+      line = line;
+      size = n;
+      is = is;
+    }
+  ]
+
+  -- no run ends behind fewer lines than another run answers
+  no_earlier_end : (at other : At) (text more last : List ℕ) (why : Stop) → LinesTo at text
+      → LinesEnd form input at last why → LinesTo other more → at.count < other.count → ⊥
+  no_earlier_end at other text more last why lines ends further lt =
+      let g = goes_on at.count other more further lt in
+      let same = same_place at text lines g.at g.text g.lines (sym g.here) in
+      no_end form input at g.line last g.size why
+      (subst (λ (v : At). StandsAt form input v.place g.line g.size) (sym same.places) g.is) ends
+
+  abbrev HasReply : Reply → Type 0
+  HasReply reply = Replies (Lines Told form input) (LinesEnd form input) (place_taken form.limit input) reply
+
+  -- two replies end at one place, in one way
+  record OneReply (a b : Reply) (r : HasReply a) (q : HasReply b) : Type 0 where
+    same : Same r.point q.point r.before q.before
+    ends : OneEnd form input r.last q.last r.stop q.stop
+
+  ends_there : (a b : Reply) (r : HasReply a) (q : HasReply b) → Same r.point q.point r.before q.before
+      → OneReply a b r q
+  ends_there a b r q same = record {
+    same = same;
+    ends = one_end form input r.point r.last q.last r.stop q.stop r.ends
+        (subst (λ (v : At). LinesEnd form input v q.last q.stop) (sym same.places) q.ends);
+  }
+
+  -- one reply, but for what is told and explained
+  one_plain_reply : (a b : Reply) (r : HasReply a) (q : HasReply b) → OneReply a b r q
+  one_plain_reply a b r q = elim (cases_lt r.point.count q.point.count) [
+    | inl lt ↦ absurd (no_earlier_end r.point q.point r.before q.before r.last r.stop r.steps r.ends q.steps lt)
+    | inr ge ↦ elim (cases_lt q.point.count r.point.count) [
+      | inl lt ↦ absurd (no_earlier_end q.point r.point q.before r.before q.last q.stop q.steps q.ends r.steps lt)
+      | inr le ↦ ends_there a b r q (same_place r.point r.before r.steps q.point q.before q.steps
+          (omega (arith, ge, le)))
+    ]
+  ]
+
+  same_reply : (a b : Reply) (r : HasReply a) (q : HasReply b) → OneReply a b r q → a ≡ b
+  same_reply a b r q one =
+      let place = one.same.places in
+      let last = one.ends.lasts in
+      let why = one.ends.stops in
+      let out : a.out ≡ b.out = r.out ∙ ap (λ t. t ++ r.last) one.same.texts ∙ ap (λ t. q.before ++ t) last
+      ∙ sym q.out in
+      let err : a.err ≡ b.err = r.err ∙ ap (λ w. message_of w) why ∙ sym q.err in
+      let status : a.status ≡ b.status = r.status ∙ ap (λ w. code_of (status_of w)) why ∙ sym q.status in
+      let taken : a.taken ≡ b.taken = r.taken ∙ ap (λ (v : At). place_taken form.limit input v) place ∙ sym q.taken in
+      let is : record { out = a.out; err = a.err; status = a.status; taken = a.taken }
+      ≡ record { out = b.out; err = b.err; status = b.status; taken = b.taken } = cc in
+      is
+
+  module _ (asked : Bool) (Refusal : List ℕ → ℕ → List ℕ → Type 0) (one_refusal : (line : List ℕ) (number : ℕ)
+      (a b : List ℕ) → Refusal line number a → Refusal line number b → a ≡ b) where
+    abbrev ToldTo : At → List ℕ → Type 0
+    ToldTo at text = Refusals Told asked Refusal form input at text
+
+    -- both go on by a line, of which one text is told
+    tells_next : (at other : At) (text more line next : List ℕ) (n m : ℕ) (said told : Answer) (why lines : List ℕ)
+        → Same at other text more → StandsAt form input at.place line n → StandsAt form input other.place next m
+        → Told line said → Told next told
+        → ExplainedIf (is_told asked at.refused said) (Refusal line (at.count + 1)) why
+        → ExplainedIf (is_told asked other.refused told) (Refusal next (other.count + 1)) lines
+        → Same (behind at n said) (behind other m told) (text ++ why) (more ++ lines)
+    tells_next at other text more line next n m said told why lines same h k s t w v =
+        let step = same_next at other text more line next n m said told same h k s t in
+        let one = one_stands form input at.place line next n m h
+        (subst (λ (u : At). StandsAt form input u.place next m) (sym same.places) k) in
+        let answers : said ≡ told = one_answer line said told s
+        (subst (λ (l : List ℕ). Told l told) (sym one.lines) t) in
+        let other_told = subst (λ (a : Answer). ExplainedIf (is_told asked at.refused a)
+        (Refusal line (at.count + 1)) lines) (sym answers)
+        (subst (λ (l : List ℕ). ExplainedIf (is_told asked at.refused told) (Refusal l (at.count + 1)) lines)
+        (sym one.lines)
+        (subst (λ (u : At). ExplainedIf (is_told asked u.refused told) (Refusal next (u.count + 1)) lines)
+        (sym same.places) v)) in
+        let texts : why ≡ lines = if-explained (is_told asked at.refused said) (Refusal line (at.count + 1))
+        (one_refusal line (at.count + 1)) why lines w other_told in
+        let words = same.texts in
+        record { places = step.places; texts = cc }
+
+    -- one text is told of the lines to a place
+    same_told : (at : At) (text : List ℕ) → ToldTo at text → (other : At) (more : List ℕ) → ToldTo other more
+        → at.count ≡ other.count → Same at other text more
+    same_told at text none_told other more none_told e = record { places = refl; texts = refl }
+    same_told at text none_told other more (one_told before front line n said why u is says tells) e =
+        absurd (omega (arith, e))
+    same_told at text (one_told before front line n said why u is says tells) other more none_told e =
+        absurd (omega (arith, e))
+    same_told at text (one_told before front line n said why u is says tells) other more
+        (one_told prior begun next m told lines v has tell explains) e =
+        tells_next before prior front begun line next n m said told why lines
+        (same_told before front u prior begun v (omega (arith, e))) is has says tell tells explains
+
+    -- one reply
+    pub one_lines_reply : (a b : Reply) → LinesReply Told asked Refusal form input a
+        → LinesReply Told asked Refusal form input b → a ≡ b
+    one_lines_reply a b r q =
+        let one = one_plain_reply r.plain q.plain r.replies q.replies in
+        let plain : r.plain ≡ q.plain = same_reply r.plain q.plain r.replies q.replies one in
+        let place = one.same.places in
+        let stops = one.ends.stops in
+        let told = same_told r.replies.point r.tells.first r.tells.refusals q.replies.point q.tells.first
+        q.tells.refusals (ap (λ (v : At). v.count) place) in
+        let first = told.texts in
+        let before : r.before ≡ q.before = r.tells.is
+        ∙ ap (λ t. t ++ more_refused (count_untold asked r.replies.point.refused)) first
+        ∙ ap (λ (v : At). q.tells.first ++ more_refused (count_untold asked v.refused)) place ∙ sym q.tells.is in
+        let why : r.why ≡ q.why = if-explained asked (λ t. t ≡ stop_lines r.replies.stop) (λ x y h k. h ∙ sym k)
+        r.why q.why r.explains
+        (subst (λ (s : Stop). ExplainedIf asked (λ t. t ≡ stop_lines s) q.why) (sym stops) q.explains) in
+        r.told ∙ ap (λ t. explained_reply t r.plain r.why) before ∙ ap (λ p. explained_reply q.before p r.why) plain
+        ∙ ap (λ w. explained_reply q.before q.plain w) why ∙ sym q.told

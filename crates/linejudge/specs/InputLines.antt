@@ -1,0 +1,135 @@
+-- The lines of an input, the answers to them, and how a run of them ends. A byte ends a line: LF, or any other.
+use Rattle.std.specs.Prelude.{◌≡◌, ◌≢◌, ℕ, suc, ◌+◌, ◌<◌, ◌≤◌, ◌==◌, ⊤, min, Bool, true, false, List, [], ◌∷◌}
+use Rattle.std.specs.Prelude.{◌++◌, length, take, drop, codes, decimal, if◌then◌else◌}
+use Rattle.std.specs.List.{All}
+use Rattle.feed.specs.declared.held.Held.{Held}
+use Rattle.feed.specs.declared.held.Held.TheVariants as held
+use Rattle.toolrun.specs.Input.{Input}
+use Rattle.toolrun.specs.declared.status.Status.{Status}
+use Rattle.toolrun.specs.declared.status.Status.TheVariants.{Done, NoMatch}
+use Rattle.toolrun.specs.declared.stop.Stop.{Stop}
+use Rattle.toolrun.specs.declared.stop.Stop.TheVariants as stop
+use Rattle.linejudge.specs.declared.answers.Answer.{Answer}
+use Rattle.linejudge.specs.declared.answers.Answer.TheVariants.{Yes, No, NoAfter}
+use Rattle.linejudge.specs.declared.line.Line.{Line}
+use Rattle.linejudge.specs.declared.line.LineForm.{LineForm}
+use Rattle.linejudge.specs.declared.line.Line.TheVariants.{Whole, Last, Overlong, End, Broken}
+use Rattle.linejudge.specs.declared.reached.At.{At}
+
+-- none of these bytes is the one that ends a line
+abbrev pub HasNoEnd : ℕ → List ℕ → Type 0
+HasNoEnd end bytes = All (λ b. b ≢ end) bytes
+
+-- what is written for an answer
+abbrev pub answer_text : Answer → List ℕ
+answer_text Yes = codes "yes\n"
+answer_text No = codes "no\n"
+answer_text (NoAfter n) = codes "no " ++ decimal n ++ codes "\n"
+
+-- whether an answer is yes
+abbrev pub says_yes : Answer → Bool
+says_yes Yes = true
+says_yes No = false
+says_yes (NoAfter n) = false
+
+-- how many lines an answer refuses
+abbrev pub refused_by : Answer → ℕ
+refused_by Yes = 0
+refused_by No = 1
+refused_by (NoAfter n) = 1
+
+-- how a run ends behind so many refused lines
+abbrev pub status_after : ℕ → Status
+status_after refused = if refused == 0 then Done else NoMatch
+
+-- before the first line
+abbrev pub at_front : At
+at_front = record { place = 0; count = 0; refused = 0 }
+
+-- behind a line that takes n bytes
+abbrev pub behind : At → ℕ → Answer → At
+behind at n said = record {
+  place = at.place + n;
+  count = at.count + 1;
+  refused = at.refused + refused_by said;
+}
+
+-- how many bytes are taken where the last line is looked for at s
+abbrev pub taken_at : ℕ → Input → ℕ → ℕ
+taken_at limit input s = min (length input.bytes) (s + limit + 1)
+
+abbrev pub place_taken : ℕ → Input → At → ℕ
+place_taken limit input at = taken_at limit input at.place
+
+module _ (form : LineForm) (input : Input) where
+  -- at s stand this line of at most so many bytes, and its end
+  pub record IsLine (s : ℕ) (line : List ℕ) : Type 0 where
+    pub after : List ℕ
+    pub cut : drop s input.bytes ≡ line ++ form.end ∷ after
+    pub one : HasNoEnd form.end line
+    pub within : length line ≤ form.limit
+
+  -- the input ends with a last line without an end, of at most so many bytes
+  abbrev pub IsLastAt : ℕ → Type 0
+  IsLastAt s = HasNoEnd form.end (drop s input.bytes) × (0 < length (drop s input.bytes))
+      × (length (drop s input.bytes) ≤ form.limit) × (input.fault ≡ false)
+
+  -- at s stands a line, which takes so many bytes: with its end, or the last one
+  pub data StandsAt (s : ℕ) : List ℕ → ℕ → Type 0 where
+    with_end : (line : List ℕ) → IsLine s line → StandsAt s line (length line + 1)
+    without_end : IsLastAt s → StandsAt s (drop s input.bytes) (length (drop s input.bytes))
+
+  -- no line ends within so many bytes and one more
+  abbrev pub IsOverlongAt : ℕ → Type 0
+  IsOverlongAt s = HasNoEnd form.end (take (suc form.limit) (drop s input.bytes))
+      × (form.limit < length (drop s input.bytes))
+
+  -- the input ends there
+  abbrev pub IsEndAt : ℕ → Type 0
+  IsEndAt s = (drop s input.bytes ≡ []) × (input.fault ≡ false)
+
+  -- the reader has a fault before a line ends
+  abbrev pub IsBrokenAt : ℕ → Type 0
+  IsBrokenAt s = HasNoEnd form.end (drop s input.bytes) × (length (drop s input.bytes) ≤ form.limit)
+      × (input.fault ≡ true)
+
+  -- What stands at s. After a fault of the reader a line stands there only with its end.
+  abbrev pub IsNext : ℕ → Line → Type 0
+  IsNext s (Whole k) = IsLine s (take k (drop s input.bytes)) × (length (take k (drop s input.bytes)) ≡ k)
+  IsNext s (Last k) = IsLastAt s × (length (drop s input.bytes) ≡ k)
+  IsNext s Overlong = IsOverlongAt s
+  IsNext s End = IsEndAt s
+  IsNext s Broken = IsBrokenAt s
+
+-- what is found lies in so many bytes, and a last line has some
+abbrev pub LiesWithin : ℕ → Line → Type 0
+LiesWithin len (Whole k) = k < len
+LiesWithin len (Last k) = (0 < k) × (k ≤ len)
+LiesWithin len _ = ⊤
+
+-- a line has fewer bytes than there is room for
+abbrev pub IsShort : ℕ → Line → Type 0
+IsShort room (Whole k) = k < room
+IsShort room (Last k) = k < room
+IsShort room _ = ⊤
+
+-- what stands at the front where so many bytes and no line's end are held
+abbrev pub line_without : Held → ℕ → Line
+line_without held.Full len = Overlong
+line_without held.End len = if len == 0 then End else Last len
+line_without held.Fault len = Broken
+
+-- Told says which answer is that of a line.
+module _ (Told : List ℕ → Answer → Type 0) (form : LineForm) (input : Input) where
+  -- the lines up to a place, and their answers
+  pub data Lines : At → List ℕ → Type 0 where
+    none : Lines at_front []
+    one_more : (at : At) (before line : List ℕ) (n : ℕ) (said : Answer) → Lines at before
+        → StandsAt form input at.place line n → Told line said
+        → Lines (behind at n said) (before ++ answer_text said)
+
+-- how a run ends there; nothing more is written
+pub data LinesEnd (form : LineForm) (input : Input) (at : At) : List ℕ → Stop → Type 0 where
+  broken : IsBrokenAt form input at.place → LinesEnd form input at [] stop.Broken
+  overlong : IsOverlongAt form input at.place → LinesEnd form input at [] (stop.LongLine (at.count + 1) form.limit)
+  finished : IsEndAt form input at.place → LinesEnd form input at [] (stop.Quiet (status_after at.refused))

@@ -1,0 +1,232 @@
+//! The answer to one line.
+ghost use Rattle.std.specs.Prelude.{◌≡◌, ◌≤◌, ◌<◌, ◌+◌, ◌^◌, ◌++◌, ℕ, Bool, List, codes, decimal, length, take, true};
+ghost use Rattle.std.specs.Prelude.{false, IfOk, OnOk, OnErr};
+ghost use Rattle.feed.specs.Feed.{SameFeed, bytes_of};
+ghost use Rattle.ruletable.specs.Writing.{Flags, Writes};
+ghost use Rattle.linejudge.specs.InputLines.{answer_text, says_yes};
+ghost use Rattle.linejudge.specs.LineRefusals.{TellsLine, is_told as may_tell};
+ghost use Rattle.linejudge.specs.LineSteps.{Adds, Answered};
+ghost use Rattle.linejudge.specs.declared.answers.Answer.{Answer};
+
+use crate::reached::{MAX_TOLD, Reached};
+use feed::{Feed, Source};
+use itoa::Buffer;
+use ruletable::{Memory, Sink, WriteFault, write_pieces, write_whole};
+
+/// The answer to a line.
+#[derive(Clone, Copy, Debug, PartialEq, Eq)]
+pub enum Answer {
+    /// `yes`.
+    Yes,
+    /// `no`.
+    No,
+    /// `no` and a number.
+    NoAfter(usize),
+}
+
+/// What answers lines. W is the memory that it works in.
+pub trait Judge<W> {
+    /// Which answer is that of a line.
+    ghost told: { Self → List ℕ → Answer → Type 0 };
+    /// Whether refused lines are explained.
+    ghost explains: { Self → Bool };
+    /// What explains a refused line that has a number.
+    ghost refusal: { Self → List ℕ → ℕ → List ℕ → Type 0 };
+    /// How many bytes a line may have that is answered.
+    ghost served: { Self → ℕ };
+    /// Which memory it can work in.
+    ghost works_in: { Self → W → Type 0 };
+
+    /// Returns the line's answer. `Memory` if an allocation fails.
+    fn judge(&self, work: &mut W, line: &[u8]) -> Result<Answer, Memory>
+        requires served { length line.now ≤ served self.now }
+        requires work { works_in self.now work.old }
+        ensures work { works_in self.now work.new }
+        ensures told { IfOk result (told self.now line.now) };
+
+    /// Returns whether refused lines are explained.
+    fn is_explained(&self) -> bool
+        ensures { result ≡ explains self.now };
+
+    /// Returns the lines that explain a refused line of that number. `Memory` if an allocation fails.
+    fn explain(&self, work: &mut W, line: &[u8], number: usize) -> Result<Vec<u8>, Memory>
+        requires asked { explains self.now ≡ true }
+        requires served { length line.now ≤ served self.now }
+        requires work { works_in self.now work.old }
+        ensures work { works_in self.now work.new }
+        ensures told { IfOk result (λ why. refusal self.now line.now number why.items) };
+
+    /// A law: each line has an answer. It does nothing.
+    fn decided(&self)
+        ensures { (line : List ℕ) → (said : Answer) × told self.now line said };
+}
+
+/// Returns whether an answer is yes.
+fn is_yes(said: Answer) -> bool
+    ensures { result ≡ says_yes said }
+{
+    match said {
+        Answer::Yes => true,
+        Answer::No => false,
+        Answer::NoAfter(_) => false,
+    }
+}
+
+/// Returns whether a line with that answer, behind so many refused ones, is explained, where that is asked.
+fn is_told(asked: bool, refused: usize, said: Answer) -> bool
+    ensures { result ≡ may_tell asked refused said }
+{
+    asked && !is_yes(said) && refused < MAX_TOLD
+}
+
+/// Adds the lines that explain a refused line of that number; nothing if an allocation fails.
+fn push_refusal<W, J: Judge<W>>(
+    judge: &J,
+    work: &mut W,
+    line: &[u8],
+    number: usize,
+    told: &mut Vec<u8>,
+) -> Result<(), Memory>
+    requires asked { J.explains judge.now ≡ true }
+    requires served { length line.now ≤ J.served judge.now }
+    requires work { J.works_in judge.now work.old }
+    ensures work { J.works_in judge.now work.new }
+    ensures ok { OnOk result (Adds (J.refusal judge.now line.now number) told.old.items told.new.items) }
+    ensures err { OnErr result (told.new.items ≡ told.old.items) }
+{
+    let why = judge.explain(work, line, number)?;
+    told.extend_from_slice(why.as_slice())?;
+    Ok(())
+}
+
+/// Adds what is told of a line with that answer; nothing if an allocation fails.
+fn tell_line<W, J: Judge<W>>(
+    judge: &J,
+    work: &mut W,
+    line: &[u8],
+    said: Answer,
+    reached: &mut Reached,
+) -> Result<(), Memory>
+    requires served { length line.now ≤ J.served judge.now }
+    requires work { J.works_in judge.now work.old }
+    requires counted { reached.old.at.count + 1 < 2 ^ 64 }
+    ensures work { J.works_in judge.now work.new }
+    ensures at { reached.new.at ≡ reached.old.at }
+    ensures ok { OnOk result (Adds (TellsLine (J.told judge.now) (J.explains judge.now) (J.refusal judge.now)
+        reached.old.at line.now said) reached.old.told.items reached.new.told.items) }
+    ensures err { OnErr result (reached.new.told.items ≡ reached.old.told.items) }
+{
+    if is_told(judge.is_explained(), reached.at.refused, said) {
+        let number = reached.at.count + 1;
+        return push_refusal(judge, work, line, number, &mut reached.told);
+    }
+    Ok(())
+}
+
+/// Judges a line, and adds what is told of it; nothing if an allocation fails.
+fn judge_line<W, J: Judge<W>>(
+    judge: &J,
+    work: &mut W,
+    line: &[u8],
+    reached: &mut Reached,
+) -> Result<Answer, Memory>
+    requires served { length line.now ≤ J.served judge.now }
+    requires work { J.works_in judge.now work.old }
+    requires counted { reached.old.at.count + 1 < 2 ^ 64 }
+    ensures work { J.works_in judge.now work.new }
+    ensures at { reached.new.at ≡ reached.old.at }
+    ensures answer { IfOk result (J.told judge.now line.now) }
+    ensures told { IfOk result (λ said. Adds (TellsLine (J.told judge.now) (J.explains judge.now) (J.refusal judge.now)
+        reached.old.at line.now said) reached.old.told.items reached.new.told.items) }
+    ensures err { OnErr result (reached.new.told.items ≡ reached.old.told.items) }
+{
+    let said = judge.judge(work, line)?;
+    tell_line(judge, work, line, said, reached)?;
+    Ok(said)
+}
+
+/// Judges the first `n` bytes that are held, and adds what is told of them; nothing if an allocation fails. They are
+/// put in one piece only where the first piece is shorter.
+fn judge_held<W, J: Judge<W>, R: Source>(
+    judge: &J,
+    work: &mut W,
+    feed: &mut Feed<'_, R>,
+    n: usize,
+    reached: &mut Reached,
+) -> Result<Answer, Memory>
+    requires held { n ≤ length (bytes_of feed.old) }
+    requires served { n ≤ J.served judge.now }
+    requires work { J.works_in judge.now work.old }
+    requires counted { reached.old.at.count + 1 < 2 ^ 64 }
+    ensures work { J.works_in judge.now work.new }
+    ensures same { SameFeed feed.old feed.new }
+    ensures at { reached.new.at ≡ reached.old.at }
+    ensures answer { IfOk result (J.told judge.now (take n (bytes_of feed.old))) }
+    ensures told { IfOk result (λ said. Adds (TellsLine (J.told judge.now) (J.explains judge.now) (J.refusal judge.now)
+        reached.old.at (take n (bytes_of feed.old)) said) reached.old.told.items reached.new.told.items) }
+    ensures err { OnErr result (reached.new.told.items ≡ reached.old.told.items) }
+{
+    let front = feed.front();
+    if n <= front.len() {
+        return judge_line(judge, work, &front[..n], reached);
+    }
+    let window: &[u8] = feed.window();
+    judge_line(judge, work, &window[..n], reached)
+}
+
+/// Writes `no` and a number.
+fn write_no<O: Sink>(n: usize, out: &mut O) -> Result<(), WriteFault>
+    requires { O.failed out.old ≡ false }
+    ensures bytes { Writes (O.contents out.old) (O.contents out.new) (codes "no " ++ decimal n ++ codes "\n") result }
+    ensures flag { Flags (O.failed out.old) (O.failed out.new) result }
+{
+    let mut buffer = Buffer::new();
+    let digits = buffer.format(n).as_bytes();
+    let pieces: [&[u8]; 3] = [b"no ", digits, b"\n"];
+    write_pieces(out, &pieces)
+}
+
+/// Writes the line of an answer.
+fn write_answer<O: Sink>(said: Answer, out: &mut O) -> Result<(), WriteFault>
+    requires { O.failed out.old ≡ false }
+    ensures bytes { Writes (O.contents out.old) (O.contents out.new) (answer_text said) result }
+    ensures flag { Flags (O.failed out.old) (O.failed out.new) result }
+{
+    match said {
+        Answer::Yes => write_whole(out, b"yes\n"),
+        Answer::No => write_whole(out, b"no\n"),
+        Answer::NoAfter(n) => write_no(n, out),
+    }
+}
+
+/// Judges the first `n` bytes that are held, adds what is told of them, and writes the answer. `None` if an allocation
+/// fails; then nothing is added and written.
+pub fn answer_held<W, J: Judge<W>, R: Source, O: Sink>(
+    judge: &J,
+    work: &mut W,
+    feed: &mut Feed<'_, R>,
+    n: usize,
+    reached: &mut Reached,
+    out: &mut O,
+) -> Result<Option<Answer>, WriteFault>
+    requires held { n ≤ length (bytes_of feed.old) }
+    requires served { n ≤ J.served judge.now }
+    requires work { J.works_in judge.now work.old }
+    requires counted { reached.old.at.count + 1 < 2 ^ 64 }
+    requires out_is_fresh { O.failed out.old ≡ false }
+    ensures work { J.works_in judge.now work.new }
+    ensures same { SameFeed feed.old feed.new }
+    ensures at { reached.new.at ≡ reached.old.at }
+    ensures answered { Answered (J.told judge.now) (J.explains judge.now) (J.refusal judge.now) reached.old.at
+        (take n (bytes_of feed.old)) (O.contents out.old) (O.contents out.new) reached.old.told.items
+        reached.new.told.items result }
+    ensures flag { Flags (O.failed out.old) (O.failed out.new) result }
+{
+    let Ok(said) = judge_held(judge, work, feed, n, reached) else {
+        return Ok(None);
+    };
+    match write_answer(said, out) {
+        Ok(()) => Ok(Some(said)),
+        Err(fault) => Err(fault),
+    }
+}

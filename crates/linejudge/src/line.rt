@@ -1,0 +1,73 @@
+//! The next line at the front of what a feed holds.
+ghost use Rattle.std.specs.Prelude.{◌≡◌, ℕ, List, ◌+◌, ◌≤◌, ◌++◌, length};
+ghost use Rattle.feed.specs.Feed.{Grows, IsTrueOfReader, SameFeed, SameLoan, bytes_of, capacity_of, flow_of};
+ghost use Rattle.toolrun.specs.Agrees.{Agrees};
+ghost use Rattle.toolrun.specs.Input.{Input};
+ghost use Rattle.linejudge.specs.InputLines.{HasNoEnd, IsNext, IsShort, LiesWithin, line_without, taken_at};
+
+use feed::{Feed, Held, Source};
+
+/// How an input is cut into lines: the greatest length of a line, in bytes, and the byte that ends it.
+#[derive(Clone, Copy, Debug, PartialEq, Eq)]
+pub struct LineForm {
+    pub limit: usize,
+    pub end: u8,
+}
+
+/// What stands at the front of the rest of an input.
+#[derive(Clone, Copy, Debug, PartialEq, Eq)]
+pub enum Line {
+    /// A line of so many bytes, and its end.
+    Whole(usize),
+    /// The last piece of the input, of so many bytes, without an end.
+    Last(usize),
+    /// More bytes without an end than a line may have.
+    Overlong,
+    /// Nothing: the input is at its end.
+    End,
+    /// A fault of the reader before a line ends.
+    Broken,
+}
+
+/// Returns what stands at the front where so many bytes and no line's end are held.
+fn without_end(held: Held, len: usize) -> Line
+    ensures { result ≡ line_without held len }
+{
+    match held {
+        Held::Full => Line::Overlong,
+        Held::End => { if len == 0 { Line::End } else { Line::Last(len) } }
+        Held::Fault => Line::Broken,
+    }
+}
+
+/// Returns what stands at the front, where that byte ends a line. Nothing is read if the end of a line is held; else it
+/// reads until the window is full, the input ends or a read fails. The window has room for one byte more than a line
+/// may have; a line that is returned has fewer bytes than there is room for.
+pub fn next_line<R: Source>(feed: &mut Feed<'_, R>, end: u8) -> Line
+    requires { IsTrueOfReader R.remaining R.failed R.ended feed.old }
+    ensures loan { SameLoan feed.old feed.new }
+    ensures grows { Grows R.remaining feed.old feed.new }
+    ensures told { IsTrueOfReader R.remaining R.failed R.ended feed.new }
+    ensures follows { (limit : ℕ) (before : List ℕ) (input : Input) → capacity_of feed.new ≡ limit + 1 →
+        Agrees (before ++ bytes_of feed.new) (flow_of feed.new) input →
+        IsNext (record { limit = limit; end = end }) input (length before) result ×
+        (length (before ++ bytes_of feed.new) ≤ taken_at limit input (length before)) }
+    ensures still { (HasNoEnd end (bytes_of feed.old) → ⊥) → SameFeed feed.old feed.new }
+    ensures filled { HasNoEnd end (bytes_of feed.old) → (limit : ℕ) (before : List ℕ) (input : Input) →
+        capacity_of feed.new ≡ limit + 1 → Agrees (before ++ bytes_of feed.new) (flow_of feed.new) input →
+        length (before ++ bytes_of feed.new) ≡ taken_at limit input (length before) }
+    ensures fits { LiesWithin (length (bytes_of feed.new)) result }
+    ensures short { IsShort (capacity_of feed.new) result }
+{
+    // its contract says that no more is held than there is room for
+    let _ = feed.len();
+    if let Some(k) = feed.find(end) {
+        return Line::Whole(k);
+    }
+    let held = feed.fill();
+    let len = feed.len();
+    match feed.find(end) {
+        Some(k) => Line::Whole(k),
+        None => without_end(held, len),
+    }
+}

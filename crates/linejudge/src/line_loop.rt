@@ -1,0 +1,223 @@
+//! The lines of an input that is read as far as they need it.
+ghost use Rattle.std.specs.Prelude.{◌≡◌, ◌≤◌, ◌+◌, ℕ, Bool, List, [], ◌++◌, codes, length, true, false, IfErr, IfOk};
+ghost use Rattle.std.specs.Io.KnownBytes.{Consumes};
+ghost use Rattle.ruletable.specs.Writing.{Flags};
+ghost use Rattle.feed.specs.Feed.{Grows, IsTrueOfReader, SameLoan, allowance_of, bytes_of, capacity_of, flow_of};
+ghost use Rattle.feed.specs.Feed.{input_limit, reader_of};
+ghost use Rattle.toolrun.specs.Agrees.{Agrees};
+ghost use Rattle.toolrun.specs.Input.{Input};
+ghost use Rattle.toolrun.specs.RunEnd.{more_refused};
+ghost use Rattle.toolrun.specs.RunSteps.{HasToldRun};
+ghost use Rattle.toolrun.specs.Stopped.{Fulfils};
+ghost use Rattle.toolrun.specs.Stream.{passed};
+ghost use Rattle.linejudge.specs.InputLines.{LinesEnd, Lines, place_taken, taken_at};
+ghost use Rattle.linejudge.specs.LineRefusals.{IsLong, LinesStates, MayLack, Tells, WhyStopped, count_untold, stop_lines};
+ghost use Rattle.linejudge.specs.LineSteps.{FitsIn, IsStep, IsToldEnding, step_behind};
+ghost use Rattle.toolrun.specs.declared.settings.TheConstants.{MAX_LIMIT};
+
+use crate::answers::{Answer, Judge, answer_held};
+use crate::line::{Line, LineForm, next_line};
+use crate::reached::{At, MAX_TOLD, Reached};
+use feed::{Feed, Source};
+use ruletable::{Memory, Sink, WriteFault};
+use std::alloc::Global;
+use toolrun::{Ending, Stop, ToldRefusals};
+
+/// What follows at a place: a line that takes so many bytes was answered, or a stop.
+#[derive(Clone, Copy, Debug, PartialEq, Eq)]
+pub enum Step {
+    Answers { said: Answer, len: usize },
+    Stops(Stop),
+}
+
+/// Returns what follows a line that takes so many bytes, of which this is the answer.
+fn step_of(answered: Result<Option<Answer>, WriteFault>, len: usize) -> Result<Step, WriteFault>
+    ensures { result ≡ step_behind len answered }
+{
+    match answered {
+        Ok(Some(said)) => Ok(Step::Answers { said, len }),
+        Ok(None) => Ok(Step::Stops(Stop::NoMemory)),
+        Err(fault) => Err(fault),
+    }
+}
+
+/// Answers the line at a place and adds what is told of it, or returns how the run ends there.
+fn next_step<W, J: Judge<W>, R: Source, O: Sink>(
+    judge: &J,
+    work: &mut W,
+    form: LineForm,
+    feed: &mut Feed<'_, R>,
+    reached: &mut Reached,
+    out: &mut O,
+) -> Result<Step, WriteFault>
+    requires small { form.limit ≤ MAX_LIMIT }
+    requires served { form.limit ≤ J.served judge.now }
+    requires work { J.works_in judge.now work.old }
+    requires capacity { capacity_of feed.old ≡ form.limit + 1 }
+    requires counted { reached.old.at.count ≤ reached.old.at.place }
+    requires within { reached.old.at.place ≤ input_limit }
+    requires told { IsTrueOfReader R.remaining R.failed R.ended feed.old }
+    requires out_is_fresh { O.failed out.old ≡ false }
+    ensures work { J.works_in judge.now work.new }
+    ensures at { reached.new.at ≡ reached.old.at }
+    ensures loan { SameLoan feed.old feed.new }
+    ensures told { IsTrueOfReader R.remaining R.failed R.ended feed.new }
+    ensures grows { Grows R.remaining feed.old feed.new }
+    ensures follows { (before : List ℕ) (input : Input) → length before ≡ reached.old.at.place → Agrees (before
+        ++ bytes_of feed.new) (flow_of feed.new) input →
+        IsStep (J.told judge.now) (J.explains judge.now) (J.refusal judge.now) form input reached.old.at
+        (O.contents out.old) (O.contents out.new) reached.old.told.items reached.new.told.items result ×
+        (length (before ++ bytes_of feed.new) ≤ taken_at form.limit input reached.old.at.place) }
+    ensures fits { FitsIn (length (bytes_of feed.new)) result }
+    ensures flag { Flags (O.failed out.old) (O.failed out.new) result }
+{
+    match next_line(feed, form.end) {
+        Line::Whole(n) => step_of(answer_held(judge, work, feed, n, reached, out), n + 1),
+        Line::Last(n) => step_of(answer_held(judge, work, feed, n, reached, out), n),
+        Line::Overlong => {
+            let line = reached.at.count + 1;
+            let limit = form.limit;
+            Ok(Step::Stops(Stop::LongLine { line, limit }))
+        }
+        Line::End => Ok(Step::Stops(Stop::Quiet(reached.at.status()))),
+        Line::Broken => Ok(Step::Stops(Stop::Broken)),
+    }
+}
+
+/// Returns the lines that explain a stop. `Memory` if an allocation fails.
+fn lines_of_stop(alloc: Global, stop: Stop) -> Result<Vec<u8>, Memory>
+    ensures lines { IfOk result (λ why. why.items ≡ stop_lines stop) }
+    ensures long { IfErr result (λ fault. IsLong stop) }
+{
+    match stop {
+        Stop::LongLine { .. } => {
+            let why = Vec::from_slice(alloc, b"  -l allows at most 16777216\n")?;
+            Ok(why)
+        }
+        _ => Ok(Vec::new(alloc)),
+    }
+}
+
+/// Returns how a run ends that stopped so, behind what was told, with the lines that explain it.
+fn told_ending(alloc: Global, reached: Reached, stop: Stop) -> Ending
+    ensures { IsToldEnding (reached.told.items ++ more_refused (count_untold true reached.at.refused)) stop result }
+{
+    let told = ToldRefusals {
+        text: reached.told,
+        more: reached.at.refused.saturating_sub(MAX_TOLD),
+    };
+    match lines_of_stop(alloc, stop) {
+        Ok(why) => Ending::Explained { told, stop, why },
+        Err(Memory) => Ending::Unexplained { told, stop },
+    }
+}
+
+/// Returns how a run ends that stopped so, explained if that is asked.
+fn ending_at(alloc: Global, asked: bool, reached: Reached, stop: Stop) -> Ending
+    ensures plain { asked ≡ false → result ≡ Ending.Plain stop }
+    ensures told { asked ≡ true → IsToldEnding (reached.told.items
+        ++ more_refused (count_untold true reached.at.refused)) stop result }
+{
+    if asked {
+        return told_ending(alloc, reached, stop);
+    }
+    Ending::Plain(stop)
+}
+
+/// Answers the lines of an input in turn.
+fn answer_lines<W, J: Judge<W>, R: Source, O: Sink>(
+    alloc: Global,
+    judge: &J,
+    work: &mut W,
+    form: LineForm,
+    feed: &mut Feed<'_, R>,
+    out: &mut O,
+) -> Result<Ending, WriteFault>
+    requires small { form.limit ≤ MAX_LIMIT }
+    requires served { form.limit ≤ J.served judge.now }
+    requires work { J.works_in judge.now work.old }
+    requires capacity { capacity_of feed.old ≡ form.limit + 1 }
+    requires empty { bytes_of feed.old ≡ [] }
+    requires allowance { allowance_of feed.old ≡ input_limit }
+    requires told { IsTrueOfReader R.remaining R.failed R.ended feed.old }
+    requires out_is_fresh { O.failed out.old ≡ false }
+    ensures work { J.works_in judge.now work.new }
+    ensures loan { SameLoan feed.old feed.new }
+    ensures told { IsTrueOfReader R.remaining R.failed R.ended feed.new }
+    ensures lines { (seen : List ℕ) × Consumes (R.remaining (reader_of feed.old)) (R.remaining
+        (reader_of feed.new)) seen ×
+        (allowance_of feed.new + length seen ≡ input_limit) ×
+        ((input : Input) → Agrees seen (flow_of feed.new) input →
+        HasToldRun (Lines (J.told judge.now) form input) (LinesEnd form input) (place_taken form.limit input)
+        (Tells (J.told judge.now) (J.explains judge.now) (J.refusal judge.now) form input)
+        (WhyStopped (J.told judge.now) (J.explains judge.now) (J.refusal judge.now) form input)
+        (MayLack (J.told judge.now) (J.explains judge.now) (J.refusal judge.now) form input) (length seen)
+        (O.contents out.old) (O.contents out.new) result) }
+    ensures flag { Flags (O.failed out.old) (O.failed out.new) result }
+{
+    judge.decided();
+    let mut reached = Reached {
+        at: At {
+            place: 0,
+            count: 0,
+            refused: 0,
+        },
+        told: Vec::new(alloc),
+    };
+    loop {
+        match next_step(judge, work, form, feed, &mut reached, out) {
+            Ok(Step::Answers { said, len }) => {
+                feed.skip(len);
+                reached.at = reached.at.behind(len, said);
+            }
+            Ok(Step::Stops(stop)) => {
+                // a run that stops has taken as much as the greatest line takes there
+                let _ = feed.fill();
+                return Ok(ending_at(alloc, judge.is_explained(), reached, stop));
+            }
+            Err(fault) => return Err(fault),
+        }
+    }
+}
+
+/// Judges the lines of what a reader gives, and writes the answer to each: `yes`, `no`, or `no` and a number. The
+/// reader may neither have failed nor have told its end before, and the judge must serve lines of `form.limit` bytes
+/// and be able to work in that memory.
+///
+/// - A line ends before a byte `form.end`, and a last piece without one is a line if it is not empty. All other bytes
+///   belong to their line, a CR too.
+/// - The first line of more than `form.limit` bytes ends the run: `LongLine` with its number from 1 and the limit. So
+///   it is with more than `form.limit` bytes of which none is `form.end`.
+/// - After a fault of the reader a line is judged only if its end was given; then `Broken`.
+/// - Behind the last line the run ends with `Done` if all answers are yes, else with `NoMatch`.
+/// - If the judge explains refused lines, the run tells what explains the first `MAX_TOLD` of them, and how many more
+///   there are, before its message; and behind that of a line that is too long, how long one may be at most.
+/// - `NoMemory` if an allocation fails; the answers before stand whole, and what is told of them. `WriteFault` if the
+///   output fails; then a beginning is written.
+pub fn run_lines<W, J: Judge<W>, R: Source, O: Sink>(
+    alloc: Global,
+    judge: &J,
+    work: &mut W,
+    form: LineForm,
+    reader: &mut R,
+    out: &mut O,
+) -> Result<Ending, WriteFault>
+    requires small { form.limit ≤ MAX_LIMIT }
+    requires served { form.limit ≤ J.served judge.now }
+    requires work { J.works_in judge.now work.old }
+    requires reader_is_fresh { R.failed reader.old ≡ false }
+    requires reader_is_open { R.ended reader.old ≡ false }
+    requires out_is_fresh { O.failed out.old ≡ false }
+    ensures { Fulfils (LinesStates (J.told judge.now) (J.explains judge.now) (J.refusal judge.now) form)
+        (passed R.remaining R.failed reader.old reader.new) (passed O.contents O.failed out.old out.new) result }
+{
+    judge.decided();
+    let ring = match Feed::<R>::room(alloc, form.limit) {
+        Ok(ring) => ring,
+        Err(_) => return Ok(Ending::Plain(Stop::NoMemory)),
+    };
+    let mut feed = Feed::new(ring, reader);
+    let ending = answer_lines(alloc, judge, work, form, &mut feed, out);
+    let _reader = feed.into_reader();
+    ending
+}

@@ -1,0 +1,65 @@
+//! A place behind some lines, and what is told of those that were refused.
+ghost use Rattle.std.specs.Prelude.{◌≡◌, ◌<◌, ◌+◌, ◌^◌};
+ghost use Rattle.linejudge.specs.InputLines.{behind as the_place, refused_by as count_of, status_after};
+
+use crate::answers::Answer;
+use toolrun::Status;
+
+/// How many refused lines are explained.
+pub const MAX_TOLD: usize = 16;
+
+/// A place behind some lines, how many they are, and how many of them were refused.
+#[derive(Clone, Copy, Debug, PartialEq, Eq)]
+pub struct At {
+    /// How many bytes stand before it.
+    pub place: usize,
+    /// How many lines stand before it.
+    pub count: usize,
+    /// How many of them were refused.
+    pub refused: usize,
+}
+
+/// A place behind some lines, and what is told of those that were refused.
+#[derive(Drop)]
+pub struct Reached {
+    pub at: At,
+    pub told: Vec<u8>,
+}
+
+/// Returns how many lines an answer refuses.
+fn refused_by(said: Answer) -> usize
+    ensures { result ≡ count_of said }
+{
+    match said {
+        Answer::Yes => 0,
+        Answer::No => 1,
+        Answer::NoAfter(_) => 1,
+    }
+}
+
+impl At {
+    /// Returns the place behind a line that takes so many bytes.
+    pub(crate) fn behind(self, len: usize, said: Answer) -> At
+        requires place { self.place + len < 2 ^ 64 }
+        requires count { self.count + 1 < 2 ^ 64 }
+        requires refused { self.refused + 1 < 2 ^ 64 }
+        ensures { result ≡ the_place self len said }
+    {
+        At {
+            place: self.place + len,
+            count: self.count + 1,
+            refused: self.refused + refused_by(said),
+        }
+    }
+
+    /// Returns the status of a run that ends there.
+    pub(crate) fn status(self) -> Status
+        ensures { result ≡ status_after self.refused }
+    {
+        if self.refused == 0 {
+            Status::Done
+        } else {
+            Status::NoMatch
+        }
+    }
+}

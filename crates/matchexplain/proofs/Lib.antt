@@ -1,7 +1,0 @@
-mod PlaceBehindLemmas
-pub mod RuleOfNodeLemmas
-mod ExpectedLinesLemmas
-mod FoundLinesLemmas
-mod PieceJoinsLemmas
-mod FoundFailuresLemmas
-mod NoMatchLemmas

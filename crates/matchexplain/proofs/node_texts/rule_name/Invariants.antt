@@ -1,5 +1,0 @@
-use Rattle.matchexplain.proofs.RuleOfNodeLemmas.{AreBefore}
-use Rattle.matchexplain.proofs.node_texts.rule_name.Given as goal
-
-abbrev pub invariant-loop-id : goal.invariant-loop-id
-invariant-loop-id l = AreBefore l.peg.bodies l.id l.n

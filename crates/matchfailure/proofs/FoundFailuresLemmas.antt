@@ -1,0 +1,77 @@
+-- The failures that are found in what is seen.
+-- Serves: explain_no_match
+use Rattle.std.proofs.Common.{◌≡◌, ℕ, zero, suc, ◌+◌, ◌^◌, ◌<◌, ◌≤◌, List, ◌++◌, drop, Option, Some, None, refl, sym}
+use Rattle.std.proofs.Common.{ap, ◌∙◌, subst, arith, add-zero}
+use Rattle.std.specs.Option.{MatchOption}
+use Rattle.std.specs.Prelude.{IfSome}
+use Rattle.matchfailure.specs.Farthest.{IsFarthest, NoneFails}
+use Rattle.matchfailure.specs.ToldUnit.{told_unit_of}
+use Rattle.matchfailure.specs.VisitLists.{AreWithin}
+use Rattle.matchfailure.specs.declared.farthest.failures.Farthest.{Farthest}
+use Rattle.matchfailure.specs.declared.farthest.told.Told.{Told}
+use Rattle.matchfailure.specs.declared.farthest.visit.Visit.{Visit}
+use Rattle.pegnodes.specs.NodeLists.{AreNumbered}
+use Rattle.pegnodes.specs.Nodes.{Shape}
+use Rattle.pegread.specs.Pattern.{Rule}
+use Rattle.matchfailure.specs.FittingFailures.{IsFitting}
+use Rattle.matchfailure.specs.FoundFailures.{IsFound, IsFoundBefore, failure_found}
+use Rattle.matchfailure.specs.NoMatches.{IsNoMatchTold, IsFailureOf, IsUnitFailure, failing_byte, failure_of}
+use Rattle.matchfailure.specs.NoMatches.{lines_of_failure, unit_before}
+use Rattle.matchfailure.specs.InputPlaces.{place_behind}
+use Rattle.matchfailure.specs.declared.explain.place.TextPlace.{TextPlace}
+use Rattle.matchfailure.proofs.FoundLinesLemmas.{seen-from}
+
+-- what is found is within what is seen, so that its numbers fit
+pub found-fits : (found : Option Farthest) (nodes count size unit : ℕ) (N : Type 0) (F : ℕ → List Visit → Type 0)
+    → ((f : ℕ) (vs : List Visit) → F f vs → f ≤ size) → ((f : ℕ) (vs : List Visit) → F f vs → AreWithin count size vs)
+    → count ≡ nodes → unit + size < 2 ^ 63 → MatchOption found N (λ far. F far.place far.expected.items)
+    → IfSome found (IsFitting nodes size unit)
+found-fits None nodes count size unit N F place expected same less m = tt
+found-fits (Some far) nodes count size unit N F place expected same less m = record {
+  place = place far.place far.expected.items m;
+  expected = λ v listed. let within = expected far.place far.expected.items m v listed in
+      (omega (arith, same, within.0), omega (arith, less, within.1));
+}
+
+module _ (rules : List Rule) (start : ℕ) (nodes : List Shape) (bodies front seen : List ℕ) (at : TextPlace)
+    (is : at ≡ place_behind front) where
+  -- what is found in what is seen fails so in the input
+  found-failure : (offset : ℕ) (found : Option Farthest) → IsFound rules start nodes bodies (drop offset seen) found
+      → IsUnitFailure rules start nodes bodies (front ++ seen) (at.byte + offset)
+      (failure_found (at.byte + offset) found)
+  found-failure offset None f =
+      subst (λ w. NoneFails rules nodes bodies w start) (sym (seen-from front seen at offset is)) f
+  found-failure offset (Some far) f = (
+    refl,
+    subst (λ w. IsFarthest rules nodes bodies w start far.place far.expected.items)
+        (sym (seen-from front seen at offset is)) f,
+  )
+
+  failure-before : (last : ℕ) (found : Option Farthest) → IsFoundBefore rules start nodes bodies seen last found
+      → IsFailureOf rules start nodes bodies (front ++ seen) (unit_before at.byte last) (failure_found at.byte found)
+  failure-before zero found f = ap (failure_found at.byte) f
+  failure-before (suc last) found f =
+      subst (λ b. IsUnitFailure rules start nodes bodies (front ++ seen) b (failure_found b found)) (add-zero at.byte)
+      (found-failure 0 found f)
+
+  pub no-match-told : AreNumbered rules nodes bodies → (last : ℕ) (before latest : Option Farthest)
+      → IsFoundBefore rules start nodes bodies seen last before
+      → IsFound rules start nodes bodies (drop last seen) latest → (told t : Told) (b l : Option ℕ) (lines : List ℕ)
+      → t ≡ told_unit_of b l → b ≡ failing_byte (failure_found at.byte before)
+      → l ≡ failing_byte (failure_found (at.byte + last) latest) → t ≡ told
+      → lines ≡ lines_of_failure rules nodes (front ++ seen)
+      (failure_of told (failure_found at.byte before) (failure_found (at.byte + last) latest))
+      → IsNoMatchTold rules start (front ++ seen) (unit_before at.byte last) (at.byte + last) lines
+  no-match-told numbered last before latest f g told t b l lines e h k same are = record {
+    nodes = nodes;
+    bodies = bodies;
+    numbered = numbered;
+    of_before = failure_found at.byte before;
+    of_last = failure_found (at.byte + last) latest;
+    before_fails = failure-before last before f;
+    last_fails = found-failure last latest g;
+    are = are ∙ ap (λ u. lines_of_failure rules nodes (front ++ seen) (failure_of u (failure_found at.byte before)
+        (failure_found (at.byte + last) latest)))
+        (sym same ∙ e ∙ ap (λ x. told_unit_of x l) h
+        ∙ ap (told_unit_of (failing_byte (failure_found at.byte before))) k);
+  }

@@ -1,0 +1,36 @@
+-- What is seen of an input behind its front.
+-- Serves: explain_no_match
+use Rattle.std.proofs.Common.{◌≡◌, ℕ, ◌+◌, List, ◌++◌, length, take, drop, sym, ap, ◌∙◌, arith, ◌-◌, length-drop}
+use Rattle.std.proofs.Math.Seq.{drop-append-add, take-append-add, take-length}
+use Rattle.matchfailure.specs.InputPlaces.{place_behind}
+use Rattle.matchfailure.specs.declared.explain.place.TextPlace.{TextPlace}
+
+-- a slice from a place on
+pub slice-from : (seen : List ℕ) (n : ℕ) → take (length seen - n) (drop n seen) ≡ drop n seen
+slice-from seen n =
+    ap (λ (k : ℕ). take k (drop n seen)) (sym (length-drop n seen)) ∙ take-length (drop n seen)
+
+pub byte-is : (front : List ℕ) (at : TextPlace) → at ≡ place_behind front → at.byte ≡ length front
+byte-is front at e = ap (λ (a : TextPlace). a.byte) e
+
+pub seen-from : (front seen : List ℕ) (at : TextPlace) (offset : ℕ) → at ≡ place_behind front
+    → drop (at.byte + offset) (front ++ seen) ≡ drop offset seen
+seen-from front seen at offset e =
+    ap (λ (n : ℕ). drop (n + offset) (front ++ seen)) (byte-is front at e) ∙ drop-append-add front seen offset
+
+taken-to : (front seen : List ℕ) (at : TextPlace) (offset place : ℕ) → at ≡ place_behind front
+    → take ((at.byte + offset) + place) (front ++ seen) ≡ front ++ take (offset + place) seen
+taken-to front seen at offset place e =
+    let byte = byte-is front at e in
+    let sum : (at.byte + offset) + place ≡ length front + (offset + place) = omega (arith, byte) in
+    ap (λ (n : ℕ). take n (front ++ seen)) sum ∙ take-append-add front seen (offset + place)
+
+-- what is told of what is seen of a unit, and of a place of that, is told of the input
+pub told-of-input : (told : List ℕ → TextPlace → List ℕ) (front seen : List ℕ) (at failing : TextPlace)
+    (offset place : ℕ) → at ≡ place_behind front → failing ≡ place_behind (front ++ take (offset + place) seen)
+    → told (drop offset seen) failing ≡ told (drop (at.byte + offset) (front ++ seen))
+    (place_behind (take ((at.byte + offset) + place) (front ++ seen)))
+told-of-input told front seen at failing offset place e f =
+    ap (λ (w : List ℕ). told w failing) (sym (seen-from front seen at offset e))
+    ∙ ap (told (drop (at.byte + offset) (front ++ seen)))
+    (f ∙ ap place_behind (sym (taken-to front seen at offset place e)))

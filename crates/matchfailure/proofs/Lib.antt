@@ -1,0 +1,28 @@
+pub mod CellMapLemmas
+pub mod IsPutLemmas
+pub mod HaveTakenLemmas
+pub mod IsTurnLemmas
+pub mod IsStackLemmas
+pub mod FrameCodesLemmas
+pub mod AreCellsLemmas
+pub mod IsStepLemmas
+pub mod FrameLemmas
+pub mod AddsVisitsLemmas
+pub mod CellWalksLemmas
+pub mod CellAsksLemmas
+pub mod IsDoneLemmas
+pub mod OutsideLemmas
+pub mod StoppedLemmas
+pub mod VisitOrderLemmas
+pub mod IsFarthestLemmas
+pub mod FailingLeafLemmas
+pub mod AscendsLemmas
+pub mod FarthestWithinLemmas
+pub mod LongerFarthestLemmas
+mod PlaceBehindLemmas
+pub mod RuleOfNodeLemmas
+mod ExpectedLinesLemmas
+mod FoundLinesLemmas
+mod PieceJoinsLemmas
+mod FoundFailuresLemmas
+mod NoMatchLemmas

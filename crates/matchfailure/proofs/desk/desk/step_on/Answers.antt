@@ -1,0 +1,50 @@
+use Rattle.std.proofs.Common.{refl}
+use Rattle.std.proofs.lemmas.Bool.{both_ways}
+use Rattle.std.proofs.lemmas.List.{length-map}
+use Rattle.pegnodes.specs.Nodes.{shape_of}
+use Rattle.matchfailure.proofs.IsStepLemmas.{read_top, some_frame, is_top, fits_at_most, pushed_step, dropped_step, ended_here}
+use Rattle.matchfailure.proofs.IsStepLemmas.{ended_step}
+use Rattle.matchfailure.proofs.desk.desk.step_on.Goals as goal
+
+pub next_turn-requires-clause-spells : goal.next_turn-requires-clause-spells
+next_turn-requires-clause-spells c =
+    (is_top _ _ _ c.start-start.ensures.sound _ _ _ c.requires.fits
+    (read_top _ _ _ _ c.requires.frame.2 (c.top-top.ensures _ _ c.requires.frame.2))).spelled
+
+pub next_turn-requires-clause-place : goal.next_turn-requires-clause-place
+next_turn-requires-clause-place c =
+    (is_top _ _ _ c.start-start.ensures.sound _ _ _ c.requires.fits
+    (read_top _ _ _ _ c.requires.frame.2 (c.top-top.ensures _ _ c.requires.frame.2))).high
+
+pub put-requires : goal.put-requires
+put-requires c =
+    (is_top _ _ _ c.start-start.ensures.sound _ _ _ c.requires.fits
+    (read_top _ _ _ _ c.requires.frame.2 (c.top-top.ensures _ _ c.requires.frame.2))).none
+
+pub one_more-requires : goal.one_more-requires
+one_more-requires c =
+    let most = fits_at_most _ _ _ c.start-start.ensures.sound _ c.requires.fits in
+    rw (c.nodes.ensures.count, ← length-map c.args.peg.now.nodes shape_of) most
+
+pub returns-in_ok-advance-in-Ask : goal.returns-in_ok-advance-in-Ask
+returns-in_ok-advance-in-Ask c =
+    let is = read_top _ _ _ _ c.requires.frame.2 (c.top-top.ensures _ _ c.requires.frame.2) in
+    pushed_step _ _ _ c.start-start.ensures.sound c.requires.fits is c.in-Ask.ensures refl
+    (c.in_ok-advance-in-Ask.ensures _ _ is) c.one_more.ensures
+
+pub returns-then-is_empty : goal.returns-then-is_empty
+returns-then-is_empty c =
+    let is = read_top _ _ _ _ c.requires.frame.2 (c.top-top.ensures _ _ c.requires.frame.2) in
+    rw c.ended.ensures
+    (ended_step _ _ _ c.start-start.ensures.sound _ _ _ _
+    (ended_here _ _ _ c.start-start.ensures.sound _ _ _ _ _ c.requires.fits is c.in-Answer.ensures
+    c.in_ok-put-in-Answer.ensures.added (c.pop.ensures _ _ is) refl
+    (c.is_empty.ensures.0 c.if-is_empty.true)) refl)
+
+pub returns-else-is_empty : goal.returns-else-is_empty
+returns-else-is_empty c =
+    let is = read_top _ _ _ _ c.requires.frame.2 (c.top-top.ensures _ _ c.requires.frame.2) in
+    let some = some_frame c.pop.new.self (λ none. both_ways c.is_empty.result c.if-is_empty.false
+    (c.is_empty.ensures.1 none)) in
+    dropped_step _ _ _ c.start-start.ensures.sound _ _ _ _ _ c.requires.fits is c.in-Answer.ensures
+    c.in_ok-put-in-Answer.ensures.added (c.pop.ensures _ _ is) refl _ _ some.2

@@ -1,0 +1,15 @@
+use Rattle.pegnodes.specs.Nodes.{shapes_of}
+use Rattle.pegread.specs.PegViews.{rules_of}
+use Rattle.matchfailure.specs.NoMatchLines.{expected_line}
+use Rattle.matchfailure.proofs.ExpectedLinesLemmas.{expected-join, first-fit}
+use Rattle.matchfailure.proofs.explain.lines.push_expected.Goals as goal
+
+pub push_each-requires : goal.push_each-requires
+push_each-requires c = first-fit _ c.args.unit c.args.expected.now c.min-shown.result c.requires
+
+pub returns : goal.returns
+returns c =
+    expected-join
+    (expected_line (rules_of c.args.peg.now.rules) (shapes_of c.args.peg.now.nodes) c.args.unit c.args.place)
+    c.args.expected.now c.min-shown.result _ _ _ c.min-shown.ensures c.in_ok-push_each.ensures
+    c.in_ok-push_more.ensures

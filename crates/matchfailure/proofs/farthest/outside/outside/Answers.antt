@@ -1,0 +1,46 @@
+use Rattle.std.proofs.Common.{arith, Some, ap, ◌∙◌}
+use Rattle.std.proofs.lemmas.Option.{slice_get-get_or}
+use Rattle.pegmatch.proofs.NodeShapeLemmas.{shape_at}
+use Rattle.matchfailure.proofs.OutsideLemmas.{name_has_body, spread_begins, spread_on, spread_few, spread_whole}
+use Rattle.matchfailure.proofs.OutsideLemmas.{spread_within}
+use Rattle.matchfailure.proofs.farthest.outside.outside.Goals as goal
+
+pub visits-init : goal.visits-init
+visits-init c =
+    spread_begins c.args.peg.now c.args.window.now c.body_node.result
+    (rw c.start.ensures.id at c.body_node.ensures) _ _ c.new-seen.ensures.empty c.in_ok-add.ensures
+
+pub visits-smaller : goal.visits-smaller
+visits-smaller c =
+    let few = spread_few c.args.peg.now c.args.window.now c.start.ensures.sound c.visits.next c.visits.seen.keys
+    c.visits.invariant in
+    omega (arith, few, c.visits-test.true)
+
+pub visits-preserved : goal.visits-preserved
+visits-preserved c =
+    spread_on c.args.peg.now c.args.window.now c.start.ensures.sound _ c.in_ok-evaluate.ensures _ _ _ _ _
+    c.visits.invariant
+    (rw c.as_slice.ensures.keys (slice_get-get_or c.visits.seen.keys c.visits.next _ (omega arith)))
+    (shape_at c.args.peg.now.nodes _ _ c.node.ensures) c.in_ok-add_asked.ensures
+
+pub node-requires : goal.node-requires
+node-requires c =
+    let there = spread_within c.args.peg.now c.args.window.now c.start.ensures.sound c.visits.next c.visits.seen.keys
+    c.visits.invariant _ (c.visits.next, slice_get-get_or c.visits.seen.keys c.visits.next _ (omega arith)) in
+    rw c.as_slice.ensures.keys there.0
+
+pub add_asked-requires : goal.add_asked-requires
+add_asked-requires c id is =
+    name_has_body c.args.peg.now c.start.ensures.sound _ id
+    (shape_at c.args.peg.now.nodes _ _ c.node.ensures ∙ ap Some is)
+
+pub returns-clause-listed : goal.returns-clause-listed
+returns-clause-listed c v = (
+  λ h. c.visits.invariant.only v h,
+  λ o. spread_whole c.args.peg.now c.args.window.now c.visits.next c.visits.seen.keys c.visits.invariant
+      (omega (arith, c.len.ensures.len, c.visits-test.false)) o,
+)
+
+pub returns-clause-within : goal.returns-clause-within
+returns-clause-within c = spread_within c.args.peg.now c.args.window.now c.start.ensures.sound c.visits.next
+    c.visits.seen.keys c.visits.invariant

@@ -1,0 +1,15 @@
+pub mod CellMap
+pub mod State
+pub mod Turns
+pub mod Desk
+pub mod VisitLists
+pub mod Farthest
+pub mod CellAsks
+pub mod GreatestStop
+pub mod ToldUnit
+pub mod InputPlaces
+pub mod NodeTexts
+pub mod NoMatchLines
+pub mod NoMatches
+pub mod FittingFailures
+pub mod FoundFailures

@@ -1,0 +1,71 @@
+-- What explains that no unit goes on: of the last unit and the one before it, where the one fails farthest whose
+-- failing byte stands farther in the input.
+use Rattle.std.specs.Prelude.{◌≡◌, ℕ, zero, suc, ◌+◌, List, Option, Some, None, take, drop}
+use Rattle.matchfailure.specs.Farthest.{IsFarthest, NoneFails}
+use Rattle.matchfailure.specs.ToldUnit.{told_unit_of}
+use Rattle.matchfailure.specs.declared.farthest.told.Told.{Told}
+use Rattle.matchfailure.specs.declared.farthest.told.Told.TheVariants.{Last, Before}
+use Rattle.matchfailure.specs.declared.farthest.visit.Visit.{Visit}
+use Rattle.pegnodes.specs.NodeLists.{AreNumbered}
+use Rattle.pegnodes.specs.Nodes.{Shape}
+use Rattle.pegread.specs.Pattern.{Rule}
+use Rattle.matchfailure.specs.NoMatchLines.{failure_lines, nothing_failed}
+use Rattle.matchfailure.specs.InputPlaces.{place_behind}
+
+-- where a unit fails farthest outside of `!`
+pub record UnitFailure : Type 0 where
+  -- how many bytes stand before the unit
+  pub unit : ℕ
+  -- how many bytes of the unit stand before the failing one
+  pub place : ℕ
+  -- what was expected there
+  pub expected : List Visit
+
+-- the failing byte in the input
+abbrev pub failing_byte : Option UnitFailure → Option ℕ
+failing_byte None = None
+failing_byte (Some f) = Some (f.unit + f.place)
+
+-- the failure that is told, of those of the unit before and of the last one
+abbrev pub failure_of : Told → Option UnitFailure → Option UnitFailure → Option UnitFailure
+failure_of Last before last = last
+failure_of Before before last = before
+
+abbrev pub told_failure : Option UnitFailure → Option UnitFailure → Option UnitFailure
+told_failure before last = failure_of (told_unit_of (failing_byte before) (failing_byte last)) before last
+
+-- the place of the unit before the last one, where that begins so many bytes behind a byte; none if it is no byte
+abbrev pub unit_before : ℕ → ℕ → Option ℕ
+unit_before byte zero = None
+unit_before byte (suc n) = Some byte
+
+module _ (rules : List Rule) (start : ℕ) (nodes : List Shape) (bodies text : List ℕ) where
+  -- where the unit that begins there in the text fails farthest, or nothing if it fails nowhere
+  abbrev pub IsUnitFailure : ℕ → Option UnitFailure → Type 0
+  IsUnitFailure unit None = NoneFails rules nodes bodies (drop unit text) start
+  IsUnitFailure unit (Some f) =
+      (f.unit ≡ unit) × IsFarthest rules nodes bodies (drop unit text) start f.place f.expected
+
+  -- likewise of a unit that there may be
+  abbrev pub IsFailureOf : Option ℕ → Option UnitFailure → Type 0
+  IsFailureOf None failure = failure ≡ None
+  IsFailureOf (Some unit) failure = IsUnitFailure unit failure
+
+-- the lines of a failure in a text
+abbrev pub lines_of_failure : List Rule → List Shape → List ℕ → Option UnitFailure → List ℕ
+lines_of_failure rules nodes text None = nothing_failed
+lines_of_failure rules nodes text (Some f) =
+    failure_lines rules nodes (drop f.unit text) (place_behind (take (f.unit + f.place) text)) f.unit f.place
+    f.expected
+
+-- The lines explain that no unit goes on behind the last one of an input, of which these bytes are taken.
+pub record IsNoMatchTold (rules : List Rule) (start : ℕ) (text : List ℕ) (before : Option ℕ) (last : ℕ)
+    (lines : List ℕ) : Type 0 where
+  pub nodes : List Shape
+  pub bodies : List ℕ
+  pub numbered : AreNumbered rules nodes bodies
+  pub of_before : Option UnitFailure
+  pub of_last : Option UnitFailure
+  pub before_fails : IsFailureOf rules start nodes bodies text before of_before
+  pub last_fails : IsUnitFailure rules start nodes bodies text last of_last
+  pub are : lines ≡ lines_of_failure rules nodes text (told_failure of_before of_last)

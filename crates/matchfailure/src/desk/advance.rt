@@ -1,0 +1,36 @@
+//! Frames that begin and come further.
+ghost use Rattle.std.specs.Prelude.{◌≡◌, List, ◌∷◌, OnOk};
+ghost use Rattle.matchfailure.specs.Desk.{beginning as begun_at};
+ghost use Rattle.matchfailure.specs.declared.desk.frame.Frame.{Frame};
+
+use crate::desk::frame::{Frame, Frames};
+use ruletable::Memory;
+
+/// Returns the frame of a node at a place that begins.
+pub(crate) fn beginning(node: usize, place: usize) -> Frame
+    ensures { result ≡ begun_at node place }
+{
+    Frame {
+        node,
+        place,
+        next: 0,
+        end: place,
+    }
+}
+
+/// Brings the last frame further; it asks for a node at a place.
+pub(crate) fn advance(
+    frames: &mut Frames,
+    next: usize,
+    end: usize,
+    node: usize,
+    place: usize,
+) -> Result<(), Memory>
+    requires { (top : Frame) × (below : List Frame) × (frames.old ≡ top ∷ below) }
+    ensures { (top : Frame) (below : List Frame) → frames.old ≡ top ∷ below →
+        OnOk result (frames.new ≡ begun_at node place
+        ∷ (record { node = top.node; place = top.place; next = next; end = end } ∷ below)) }
+{
+    frames.come_on(next, end);
+    frames.push(beginning(node, place))
+}

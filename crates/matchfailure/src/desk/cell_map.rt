@@ -1,0 +1,77 @@
+//! Cells as a finite map.
+ghost use Rattle.std.specs.Prelude.{◌≡◌, [], ◌∷◌, ◌++◌, length, None, OnOk, OnErr};
+ghost use Rattle.memo.specs.Entries.{found_at};
+
+use indexmap::IndexMap;
+use memo::Found;
+use ruletable::Memory;
+use std::alloc::Global;
+use std::marker::Model;
+
+/// A node at a place.
+#[derive(Clone, Copy, PartialEq, Eq, Hash)]
+pub(crate) struct Pair {
+    pub(crate) node: usize,
+    pub(crate) place: usize,
+}
+
+/// What was found for pairs of a node and a place, seen as the list of its entries in the order in which they were put.
+#[derive(Drop)]
+pub(crate) struct CellMap {
+    cells: IndexMap<Pair, Found>,
+}
+
+impl Model for CellMap {
+    ghost use Rattle.std.specs.Prelude.{List};
+    ghost use Rattle.memo.specs.Entries.{Entry};
+    ghost use Rattle.matchfailure.specs.CellMap.{entries_of};
+
+    ghost Value = { List Entry };
+
+    ghost view = { λ m. entries_of m.cells.entries };
+}
+
+impl CellMap {
+    /// Returns a map without cells; it takes no memory.
+    pub(crate) fn new(alloc: Global) -> CellMap
+        ensures { result ≡ [] }
+    {
+        CellMap {
+            cells: IndexMap::new(alloc),
+        }
+    }
+
+    /// Returns the number of cells.
+    pub(crate) fn len(&self) -> usize
+        ensures { result ≡ length self.now }
+    {
+        self.cells.len()
+    }
+
+    /// Empties it; its memory it keeps.
+    pub(crate) fn clear(&mut self)
+        ensures { self.new ≡ [] }
+    {
+        self.cells.clear();
+    }
+
+    /// Returns what the node gave at the place, if it has a cell there.
+    pub(crate) fn get(&self, node: usize, place: usize) -> Option<Found>
+        ensures { result ≡ found_at self.now node place }
+    {
+        self.cells.get(&Pair { node, place }).copied()
+    }
+
+    /// Adds a cell. The node must have none at that place.
+    ///
+    /// # Errors
+    /// `Memory` if an allocation fails; no cell is added.
+    pub(crate) fn put(&mut self, node: usize, place: usize, found: Found) -> Result<(), Memory>
+        requires { found_at self.old node place ≡ None }
+        ensures added { OnOk result (self.new ≡ self.old ++ record { node = node; place = place; found = found } ∷ []) }
+        ensures unchanged { OnErr result (self.new ≡ self.old) }
+    {
+        self.cells.insert(Pair { node, place }, found)?;
+        Ok(())
+    }
+}

@@ -1,0 +1,188 @@
+//! The machine that evaluates each node at each place at most once.
+ghost use Rattle.std.specs.Prelude.{◌≡◌, ℕ, ◌+◌, ◌*◌, ◌<◌, ◌≤◌, Bool, List, [], ◌∷◌, length, true, slice_get, Some};
+ghost use Rattle.std.specs.Prelude.{IfOk, OnOk, OnErr};
+ghost use Rattle.memo.specs.Entries.{found_at};
+ghost use Rattle.matchfailure.specs.declared.desk.frame.Frame.{Frame};
+ghost use Rattle.matchfailure.specs.Desk.{empty, beginning as begun_at, Fits, HasFrames, IsStep, unit_of};
+
+use crate::desk::advance::{advance, beginning};
+use crate::desk::cell_map::CellMap;
+use crate::desk::frame::Frames;
+use crate::desk::turn::{Turn, next_turn};
+use gramcheck::SoundPeg;
+use memo::Found;
+use pegmatch::Unit;
+use ruletable::Memory;
+use std::alloc::Global;
+use std::marker::Model;
+
+/// A machine that keeps the outcomes so far by node and place, and evaluates each node at each place at most once.
+///
+/// It is seen as its cells, the frames of what is under way with the last one first, and how many evaluations were
+/// begun. It recurses nowhere: its depth is that of its frames.
+#[derive(Drop)]
+pub struct Desk {
+    cells: CellMap,
+    frames: Frames,
+    begun: u128,
+}
+
+impl Model for Desk {
+    ghost use Rattle.matchfailure.specs.Desk.{View};
+
+    ghost Value = { View };
+
+    ghost view = { λ d. record { cells = d.cells; frames = d.frames; begun = d.begun } };
+}
+
+fn ended(found: Found, begun: u128) -> Unit
+    ensures { result ≡ unit_of found begun }
+{
+    match found {
+        Found::Failed => Unit::Failed { begun },
+        Found::Took(end) => Unit::Took { end, begun },
+    }
+}
+
+// One evaluation more; there are no more than nodes at places.
+fn one_more(nodes: usize, length: usize, begun: u128) -> u128
+    requires { begun ≤ nodes * (length + 1) }
+    ensures { result ≡ begun + 1 }
+{
+    begun + 1
+}
+
+fn step_on(
+    peg: &SoundPeg,
+    window: &[u8],
+    more: bool,
+    cells: &mut CellMap,
+    frames: &mut Frames,
+    begun: &mut u128,
+) -> Result<Option<Unit>, Memory>
+    requires some { more ≡ true → 0 < length window.now }
+    requires frame { (top : Frame) × (below : List Frame) × (frames.old ≡ top ∷ below) }
+    requires fits { Fits peg.now window.now more (record {
+      cells = cells.old;
+      frames = frames.old;
+      begun = begun.old;
+    }) }
+    ensures { IfOk result (IsStep peg.now window.now more
+        (record { cells = cells.old; frames = frames.old; begun = begun.old })
+        (record { cells = cells.new; frames = frames.new; begun = begun.new })) }
+{
+    let _start = peg.start();
+    let top = frames.top();
+    match next_turn(peg, window, more, cells, top) {
+        Turn::Need => Ok(Some(Unit::Need)),
+        Turn::Ask {
+            node,
+            place,
+            next,
+            end,
+        } => {
+            advance(frames, next, end, node, place)?;
+            *begun = one_more(peg.nodes(), window.len(), *begun);
+            Ok(None)
+        }
+        Turn::Answer(found) => {
+            cells.put(top.node, top.place, found)?;
+            frames.pop();
+            if frames.is_empty() {
+                Ok(Some(ended(found, *begun)))
+            } else {
+                Ok(None)
+            }
+        }
+    }
+}
+
+impl Desk {
+    /// Returns an empty desk; it takes no memory.
+    pub fn new(alloc: Global) -> Desk
+        ensures { result ≡ empty }
+    {
+        Desk {
+            cells: CellMap::new(alloc),
+            frames: Frames::new(alloc),
+            begun: 0,
+        }
+    }
+
+    /// Returns the number of its cells.
+    pub fn cells(&self) -> usize
+        ensures { result ≡ length self.now.cells }
+    {
+        self.cells.len()
+    }
+
+    /// Returns what the node gave at the place, if it has a cell there.
+    pub fn found(&self, node: usize, place: usize) -> Option<Found>
+        ensures { result ≡ found_at self.now.cells node place }
+    {
+        self.cells.get(node, place)
+    }
+
+    /// Empties it, and takes no memory.
+    pub fn reset(&mut self)
+        ensures { self.new ≡ empty }
+    {
+        self.cells.clear();
+        self.frames.clear();
+        self.begun = 0;
+    }
+
+    /// Begins with the start rule's body at the front of a window.
+    ///
+    /// # Errors
+    /// `Memory` if an allocation fails; the desk is empty.
+    pub fn begin(&mut self, peg: &SoundPeg) -> Result<(), Memory>
+        ensures begun { OnOk result ((root : ℕ) × (slice_get peg.now.bodies peg.now.start ≡ Some root) ×
+            (self.new ≡ record { cells = []; frames = begun_at root 0 ∷ []; begun = 1 })) }
+        ensures fits { OnOk result ((x : List ℕ) (more : Bool) → Fits peg.now x more self.new) }
+        ensures frames { OnOk result ((x : List ℕ) (more : Bool) → HasFrames peg.now x more self.new) }
+        ensures empty { OnErr result (self.new ≡ empty) }
+    {
+        self.reset();
+        let root = peg.body_node(peg.start());
+        if self.frames.push(beginning(root, 0)).is_err() {
+            self.reset();
+            return Err(Memory);
+        }
+        self.begun = 1;
+        Ok(())
+    }
+
+    /// Goes on with the last frame: pushes one frame; or turns the last frame into its cell, which is the answer where
+    /// it was the only one; or answers `Need`, and leaves the desk as it was.
+    ///
+    /// # Errors
+    /// `Memory` if an allocation fails; the desk is empty.
+    pub fn step(
+        &mut self,
+        peg: &SoundPeg,
+        window: &[u8],
+        more: bool,
+    ) -> Result<Option<Unit>, Memory>
+        requires some { more ≡ true → 0 < length window.now }
+        requires frame { (top : Frame) × (below : List Frame) × (self.old.frames ≡ top ∷ below) }
+        requires fits { Fits peg.now window.now more self.old }
+        ensures step { IfOk result (IsStep peg.now window.now more self.old self.new) }
+        ensures frames { OnOk result (HasFrames peg.now window.now more self.new) }
+        ensures empty { OnErr result (self.new ≡ empty) }
+    {
+        let _start = peg.start();
+        let stepped = step_on(
+            peg,
+            window,
+            more,
+            &mut self.cells,
+            &mut self.frames,
+            &mut self.begun,
+        );
+        if stepped.is_err() {
+            self.reset();
+        }
+        stepped
+    }
+}

@@ -1,0 +1,88 @@
+//! Evaluations under way.
+ghost use Rattle.std.specs.Prelude.{◌≡◌, List, [], ◌∷◌, OnOk, true, ◌↔◌};
+ghost use Rattle.matchfailure.specs.declared.desk.frame.Frame.{Frame};
+
+use ruletable::Memory;
+use std::alloc::Global;
+use std::marker::Model;
+
+/// A node at a place, with how many of its members or alternatives are done, and where those before end.
+#[derive(Clone, Copy)]
+pub(crate) struct Frame {
+    pub(crate) node: usize,
+    pub(crate) place: usize,
+    pub(crate) next: usize,
+    pub(crate) end: usize,
+}
+
+/// Frames, seen as a list with the last one first.
+#[derive(Drop)]
+pub(crate) struct Frames {
+    frames: Vec<Frame>,
+}
+
+impl Model for Frames {
+    ghost use Rattle.std.specs.Prelude.{List, reverse};
+    ghost use Rattle.matchfailure.specs.declared.desk.frame.Frame.{Frame};
+
+    ghost Value = { List Frame };
+
+    ghost view = { λ f. reverse f.frames.items };
+}
+
+impl Frames {
+    pub(crate) fn new(alloc: Global) -> Frames
+        ensures { result ≡ [] }
+    {
+        Frames {
+            frames: Vec::new(alloc),
+        }
+    }
+
+    pub(crate) fn clear(&mut self)
+        ensures { self.new ≡ [] }
+    {
+        self.frames.clear();
+    }
+
+    pub(crate) fn is_empty(&self) -> bool
+        ensures { (result ≡ true) ↔ (self.now ≡ []) }
+    {
+        self.frames.is_empty()
+    }
+
+    /// Returns the last frame.
+    pub(crate) fn top(&self) -> Frame
+        requires { (top : Frame) × (below : List Frame) × (self.now ≡ top ∷ below) }
+        ensures { (top : Frame) (below : List Frame) → self.now ≡ top ∷ below → result ≡ top }
+    {
+        self.frames[self.frames.len() - 1]
+    }
+
+    /// Adds a frame.
+    pub(crate) fn push(&mut self, frame: Frame) -> Result<(), Memory>
+        ensures { OnOk result (self.new ≡ frame ∷ self.old) }
+    {
+        self.frames.push(frame)?;
+        Ok(())
+    }
+
+    /// Drops the last frame.
+    pub(crate) fn pop(&mut self)
+        ensures { (top : Frame) (below : List Frame) → self.old ≡ top ∷ below → self.new ≡ below }
+    {
+        self.frames.pop();
+    }
+
+    /// Brings the last frame further.
+    pub(crate) fn come_on(&mut self, next: usize, end: usize)
+        requires { (top : Frame) × (below : List Frame) × (self.old ≡ top ∷ below) }
+        ensures { (top : Frame) (below : List Frame) → self.old ≡ top ∷ below →
+            self.new ≡ record { node = top.node; place = top.place; next = next; end = end } ∷ below }
+    {
+        let last = self.frames.len() - 1;
+        let frame = &mut self.frames[last];
+        frame.next = next;
+        frame.end = end;
+    }
+}

@@ -1,0 +1,48 @@
+//! Where a byte stands in an input.
+ghost use Rattle.std.specs.Prelude.{◌≡◌, ℕ, ◌+◌, ◌^◌, ◌<◌, ◌++◌, [], List, length};
+ghost use Rattle.matchfailure.specs.InputPlaces.{place_behind};
+
+use diagnostics::line_around;
+use ruletable::{LineRule, line_of};
+
+/// Where a byte stands in an input, whose lines end with LF.
+#[derive(Clone, Copy, PartialEq, Eq, Debug)]
+pub struct TextPlace {
+    /// How many bytes stand before it.
+    pub byte: usize,
+    /// Its line, from 1.
+    pub line: usize,
+    /// Its column, which counts the bytes of the line from 1.
+    pub column: usize,
+}
+
+impl TextPlace {
+    /// Returns the place of an input's first byte.
+    pub fn front() -> TextPlace
+        ensures { result ≡ place_behind [] }
+    {
+        TextPlace {
+            byte: 0,
+            line: 1,
+            column: 1,
+        }
+    }
+
+    /// Returns the place behind these bytes, which stand at this one.
+    pub fn behind(self, bytes: &[u8]) -> TextPlace
+        requires { (front : List ℕ) × (self ≡ place_behind front) × (length front + length bytes.now < 2 ^ 63) }
+        ensures { (front : List ℕ) → self ≡ place_behind front → result ≡ place_behind (front ++ bytes.now) }
+    {
+        let lines = line_of(bytes, bytes.len(), LineRule::Lf);
+        let before = line_around(bytes, bytes.len(), LineRule::Lf).before;
+        TextPlace {
+            byte: self.byte + bytes.len(),
+            line: self.line + (lines - 1),
+            column: if before < bytes.len() {
+                before + 1
+            } else {
+                self.column + before
+            },
+        }
+    }
+}

@@ -1,0 +1,21 @@
+//! Where the comparisons of a unit fail, outside of what stands behind a `!`: the farthest such place, and what was
+//! expected there.
+
+mod asked;
+mod evaluated;
+mod failures;
+mod greatest;
+mod laws;
+mod order;
+mod outside;
+mod stop;
+mod told;
+mod visit;
+
+pub use failures::{Farthest, farthest_failure};
+pub use laws::{
+    failing_leaf_stops, farthest_is_within, farthest_or_none, one_farthest, same_on_longer,
+    stops_fail,
+};
+pub use told::{Told, told_unit};
+pub use visit::Visit;

@@ -1,0 +1,14 @@
+//! Pairs in the grammar's order.
+ghost use Rattle.std.specs.Prelude.{◌↔◌};
+ghost use Rattle.matchfailure.specs.VisitLists.{ListsVisit, AreOnce, Ascends};
+
+use crate::farthest::visit::Visit;
+
+/// Sorts pairs by the node, and then by the place.
+pub(crate) fn put_in_order(visits: &mut Vec<Visit>)
+    requires { AreOnce visits.old.items }
+    ensures ordered { Ascends visits.new.items }
+    ensures same { (v : Visit) → ListsVisit visits.new.items v ↔ ListsVisit visits.old.items v }
+{
+    visits.sort_unstable();
+}

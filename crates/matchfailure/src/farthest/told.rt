@@ -1,0 +1,32 @@
+//! Of which unit the farthest failure is told.
+ghost use Rattle.std.specs.Prelude.{◌≡◌};
+ghost use Rattle.matchfailure.specs.ToldUnit.{told_unit_of};
+
+/// One of the last two units of a run.
+#[derive(Clone, Copy, PartialEq, Eq, Debug)]
+pub enum Told {
+    /// The last unit, which does not match.
+    Last,
+    /// The unit before it, which matched and may have stopped early.
+    Before,
+}
+
+/// Returns the unit whose farthest failing comparison stands farther in the input: the last one if both stand at one
+/// byte, or if neither has one.
+///
+/// Each place is that of the unit's farthest failing comparison, in bytes from the front of the input, if it has one.
+pub fn told_unit(before: Option<u128>, last: Option<u128>) -> Told
+    ensures { result ≡ told_unit_of before last }
+{
+    match (before, last) {
+        (Some(before), Some(last)) => {
+            if last < before {
+                Told::Before
+            } else {
+                Told::Last
+            }
+        }
+        (Some(_), None) => Told::Before,
+        (None, _) => Told::Last,
+    }
+}

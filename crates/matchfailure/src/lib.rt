@@ -1,0 +1,15 @@
+//! Explains where a unit does not match: the plain packrat machine, the farthest failures, and the lines that report them.
+#![tactic(auto)]
+
+mod desk;
+mod explain;
+mod farthest;
+
+pub use desk::Desk;
+pub use explain::{
+    TextPlace, explain_long_unit, explain_no_match, fails_so_in_input, one_no_match,
+};
+pub use farthest::{
+    Told, Visit, failing_leaf_stops, farthest_failure, farthest_or_none, one_farthest, stops_fail,
+    told_unit,
+};

@@ -1,7 +1,0 @@
-mod LineEndsLemmas
-mod HeadsTakenLemmas
-mod MentionsTakenLemmas
-pub mod AgainLinesLemmas
-pub mod ExplainedNoteLemmas
-mod MentionOrderLemmas
-mod FirstMentionLemmas

@@ -1,9 +1,0 @@
-pub mod BodyMentions
-pub mod DefinitionHeads
-pub mod ExplainedNotes
-pub mod FirstMentions
-pub mod FoundMentions
-pub mod NoteLines
-pub mod Openings
-pub mod MentionLines
-pub mod UseLines

@@ -1,0 +1,24 @@
+//! Laws of hints.
+ghost use Rattle.std.specs.Prelude.{◌≡◌, ℕ, List, Some};
+ghost use Rattle.pegread.specs.Pattern.{Pattern, Rule};
+ghost use Rattle.pegexplain.specs.NeverTaken.{IsTaken, NeverTaken, TellsNeverTaken};
+ghost use Rattle.pegexplain.specs.PegHints.{ArePegHints};
+
+use lexer::one_list;
+use pegread::{Kind, one_reading};
+
+/// Says that the hints on the grammar of a text are one text.
+pub fn one_text_of_hints()
+    ensures { (text a b : List ℕ) → ArePegHints text a → ArePegHints text b → a ≡ b }
+{
+    one_list::<Kind>();
+    one_reading();
+}
+
+/// Says that a literal of an alternative is hidden exactly if the alternative is never taken by a literal before it,
+/// and that no choice then comes to it on any input.
+pub fn never_taken()
+    ensures tells { TellsNeverTaken }
+    ensures never { (rules : List Rule) (x : List ℕ) (alternatives : List Pattern) (k p : ℕ) (earlier : List ℕ) →
+        NeverTaken alternatives k earlier → IsTaken rules x alternatives k p → ⊥ }
+{}

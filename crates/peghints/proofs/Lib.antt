@@ -1,3 +1,0 @@
-mod BodyHintsLemmas
-mod NeverTakenLemmas
-mod PegHintsLemmas

@@ -1,9 +1,0 @@
--- The hints on the rules so far.
-use Rattle.std.proofs.Common.{◌≡◌, map, take}
-use Rattle.pegread.specs.PegViews.{rules_of}
-use Rattle.peghints.specs.CodeHints.{hint_found}
-use Rattle.peghints.specs.PegHints.{hints_of}
-use Rattle.peghints.proofs.hints.all_hints.Given as goal
-
-abbrev pub invariant-loop-id : goal.invariant-loop-id
-invariant-loop-id l = map hint_found l.found.items ≡ hints_of (take l.id (rules_of l.rules))

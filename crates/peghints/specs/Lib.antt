@@ -1,4 +1,0 @@
-pub mod CodeHints
-pub mod HiddenLiterals
-pub mod NeverTaken
-pub mod PegHints

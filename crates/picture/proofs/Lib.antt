@@ -1,5 +1,0 @@
-pub mod TakenPartLemmas
-pub mod PictureLemmas
-pub mod FirstToldLemmas
-pub mod PhraseLemmas
-pub mod OneToldLemmas

@@ -1,5 +1,0 @@
-use Rattle.picture.proofs.TakenPartLemmas.{cut-pushed}
-use Rattle.picture.proofs.shown.push_cut.Goals as goal
-
-pub returns : goal.returns
-returns c = cut-pushed _ _ _ _ _ c.min-end.ensures c.in_ok-push_shown.ensures c.in_ok-push_dots.ensures

@@ -1,0 +1,42 @@
+//! From a sound grammar to a flat one of its productive parts.
+ghost use Rattle.std.specs.Prelude.{◌≡◌, ◌+◌, ◌≤◌, IfOk};
+ghost use Rattle.abnfread.specs.Element.{bodies};
+ghost use Rattle.abnfread.specs.AbnfViews.{rules_of};
+ghost use Rattle.flatgrammar.specs.Places.{places, sizes};
+ghost use Rattle.flatgrammar.specs.ToldBeginnings.{TellsBeginnings};
+ghost use Rattle.letters.specs.Letters.{has};
+ghost use Rattle.prune.specs.Pruned.{SpellsProductive};
+
+use crate::pruned::prune_rules;
+use abnfcheck::{SoundAbnf, productive};
+use flatgrammar::{Flat, lower_rules};
+use letters::Alphabet;
+use ruletable::Memory;
+use std::alloc::Global;
+
+/// Lowers the productive parts of a grammar to numbered nodes, for lines of at most `limit` letters: those that derive
+/// some list of letters of the alphabet. The judged rule derives a list of so many letters exactly if the set after
+/// them holds the whole's end with origin 0; and the set after the first letters of such a list, one or more, is not
+/// empty exactly if they begin a list that the rule derives, of whatever length. The nodes spell the productive parts
+/// alone, with at most as many places as these have on such lines, and two.
+///
+/// `Memory` if an allocation fails.
+pub fn lower_viable(
+    alloc: Global,
+    grammar: &SoundAbnf,
+    alphabet: Alphabet,
+    limit: usize,
+) -> Result<Flat, Memory>
+    ensures limit { IfOk result (λ flat. flat.limit ≡ limit) }
+    ensures tells { IfOk result (λ flat. TellsBeginnings (has alphabet) (rules_of grammar.now.rules) grammar.now.judged
+        flat) }
+    ensures parts { IfOk result (SpellsProductive (has alphabet) (rules_of grammar.now.rules) grammar.now.judged) }
+    ensures places { IfOk result (λ flat. places flat.nodes ≤ sizes limit (bodies (rules_of grammar.now.rules)) + 2) }
+{
+    // The contract of `judged` says that names compare without case.
+    let _judged = grammar.judged();
+    let marks = productive(alloc, grammar, alphabet)?;
+    let pruned = prune_rules(alloc, alphabet, grammar.rules(), &marks)?;
+    let flat = lower_rules(alloc, grammar, &pruned, limit)?;
+    Ok(flat)
+}

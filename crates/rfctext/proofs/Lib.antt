@@ -1,4 +1,0 @@
-pub mod CutBlanksLemmas
-pub mod FurnitureLemmas
-pub mod KeptLemmas
-pub mod CutPartLemmas

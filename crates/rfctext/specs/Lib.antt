@@ -1,4 +1,0 @@
-pub mod Furniture
-pub mod KeptSteps
-pub mod LineKinds
-pub mod TextLines

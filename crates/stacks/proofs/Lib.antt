@@ -1,4 +1,0 @@
-pub mod StacksLemmas
-pub mod LeadOnLemmas
-pub mod LiftLemmas
-pub mod FrontLemmas

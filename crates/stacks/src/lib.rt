@@ -1,6 +1,0 @@
-//! Laws of stacks of places.
-#![tactic(auto)]
-
-mod laws;
-
-pub use laws::{a_letter_leads_on, parts_are_moved, stacks_tell};

@@ -1,9 +1,0 @@
-use Rattle.std.proofs.Common.{◌≡◌, ℕ, length}
-use Rattle.leastset.specs.StepRows.{slices_of}
-use Rattle.stepchains.specs.Distances.{AreDistances}
-use Rattle.stepchains.specs.Fills.{AreBacksTo}
-use Rattle.stepchains.proofs.backs.backs_of.Given as goal
-
-abbrev pub invariant-loop-n : goal.invariant-loop-n
-invariant-loop-n l = (length l.backs.items ≡ length l.steps)
-    × ((s : ℕ) → AreDistances (slices_of l.steps) s l.far → AreBacksTo (slices_of l.steps) s l.backs.items l.n)

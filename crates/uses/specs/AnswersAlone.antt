@@ -1,0 +1,16 @@
+-- Answers of an open grammar, as runs tell them.
+use Rattle.std.specs.Prelude.{◌≡◌, ℕ, false, List, []}
+use Rattle.abnfrun.specs.AbnfAnswers.{AbnfStates}
+use Rattle.abnfrun.specs.AbnfReply.{form_of}
+use Rattle.abnfrun.specs.OpenAbnf.{answer_alone, line_alone}
+use Rattle.linejudge.specs.InputLines.{HasNoEnd}
+use Rattle.linejudge.specs.declared.answers.Answer.{Answer}
+use Rattle.toolrun.specs.declared.settings.Mode.TheVariants.{Run}
+use Rattle.toolrun.specs.declared.settings.Settings.{Settings}
+
+-- A run of the grammar on the line alone answers so, behind what it tells of the grammar. The line does not hold the
+-- byte that ends lines, and the settings ask for a run whose messages are not explained.
+abbrev pub AnswersAlone : List ℕ → Settings → List ℕ → Answer → Type 0
+AnswersAlone text settings line said = settings.mode ≡ Run → settings.explain ≡ false
+    → HasNoEnd (form_of settings).end line
+    → (told : List ℕ) × AbnfStates text settings (line_alone settings line) told (answer_alone settings line said [])

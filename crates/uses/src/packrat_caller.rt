@@ -1,0 +1,45 @@
+//! A caller of `packrat`, and how its matcher stands to the plain machine.
+ghost use Rattle.std.specs.Prelude.{◌≡◌, ℕ, Bool, List, IfOk};
+ghost use Rattle.std.specs.Option.{option_map};
+ghost use Rattle.matchfailure.specs.Desk as desk;
+ghost use Rattle.gramcheck.specs.Grammar.{Grammar, IsSoundGrammar};
+ghost use Rattle.memo.specs.Entries.{Entry, found_at};
+ghost use Rattle.memo.specs.KeyLog.{spots_of};
+ghost use Rattle.packrat.specs.Done as packrat;
+ghost use Rattle.packrat.specs.View.{AreImplied};
+ghost use Rattle.pegnodes.specs.KeyLists.{node_marks, tail_marks};
+ghost use Rattle.pegnodes.specs.Nodes.{shapes_of};
+ghost use Rattle.pegread.specs.PegViews.{rules_of};
+ghost use Rattle.uses.specs.Printed.{IsPrinted};
+
+use crate::unit_caller::print_text;
+use gramcheck::SoundPeg;
+use packrat::Packrat;
+use pegmatch::ReplayFault;
+use std::alloc::Global;
+
+/// Returns what the actions of the start rule print at the front of a text, each node evaluated once at each place;
+/// none if the rule fails there.
+pub fn print_once(
+    alloc: Global,
+    peg: &SoundPeg,
+    text: &[u8],
+) -> Result<Option<Vec<u8>>, ReplayFault>
+    ensures { IfOk result (λ printed. IsPrinted peg.now text.now (option_map (λ v. v.items) printed)) }
+{
+    let mut matcher = Packrat::new(alloc);
+    print_text(alloc, &mut matcher, peg, text)
+}
+
+/// Where the packrat matcher and the plain machine have ended on a unit, the cells that the stored keys of the first
+/// imply are those of the second, pair for pair, and both have begun as many evaluations.
+pub fn same_cells()
+    ensures cells { (g : Grammar) (x : List ℕ) (more : Bool) → IsSoundGrammar g → (matched : packrat.Contents)
+        (stepped : desk.View) → packrat.IsDone g x more g.keys matched → desk.IsDone g x more stepped →
+        (cells : List Entry) → AreImplied (rules_of g.rules) g.start (shapes_of g.nodes) g.bodies x more
+        (node_marks g.keys) (tail_marks g.keys) (spots_of matched.stored) cells → (n p : ℕ) →
+        found_at cells n p ≡ found_at stepped.cells n p }
+    ensures begun { (g : Grammar) (x : List ℕ) (more : Bool) → IsSoundGrammar g → (matched : packrat.Contents)
+        (stepped : desk.View) → packrat.IsDone g x more g.keys matched → desk.IsDone g x more stepped →
+        matched.begun ≡ stepped.begun }
+{}

@@ -1,6 +1,0 @@
-//! The pairs of a node and a place that the start rule's outcome asks for: the evaluations of a packrat matcher.
-#![tactic(auto)]
-
-mod laws;
-
-pub use laws::visits_are_within;
