@@ -1,18 +1,23 @@
 # Proves, builds and tests the tools. Needs the Rattle toolchain's command `rt` and Python 3.
 
-.PHONY: all try programs lib example examples install put put-lib dist deb test check edits clean
+.PHONY: all try programs pegi abnfi abnfx lib example examples install put put-lib dist deb test check edits clean
 
 all: programs example
 
-# Runs an example of each program before anything is proved, in about a minute; or a program on a grammar and an input
-# of your own: make try TOOL=pegi GRAMMAR=f INPUT=g, and OPTIONS='-m check' if it is to have some.
+# Runs an example of each program before anything is proved, in about a minute; or a program on files of your own:
+# make try TOOL=pegi GRAMMAR=f INPUT=g, and OPTIONS='-m check' if it is to have some; make try TOOL=abnfx TEXTS=f.
+# With CASES=folder in place of INPUT or TEXTS it builds the program once and runs it on each file of the folder.
 try:
 	@python3 -B scripts/build/try_tools.py
 
 # Proves the crates that the programs stand on, as many side by side as processors and memory allow (JOBS=n says how
-# many), builds the programs, and puts them into bin/.
+# many), builds the programs, and puts each into bin/ as soon as it is built.
 programs:
 	@python3 -B scripts/build/prove.py pegi abnfi abnfx
+
+# One program alone: what the others stand on is not proved.
+pegi abnfi abnfx:
+	@python3 -B scripts/build/prove.py $@
 
 # The library for C: proves what it stands on, and puts it into bin/, static and shared. It needs a C compiler.
 lib:
@@ -90,4 +95,4 @@ check:
 	rt all check
 
 clean:
-	rm -rf bin crates/*/out .prove-*
+	rm -rf bin crates/*/out

@@ -3,9 +3,15 @@
 
 usage: try_tools.py
 
-With no TOOL in the environment it runs an example of each program. With TOOL (pegi or abnfi) and GRAMMAR, a file, it
-runs that program on that grammar and on the file INPUT, or on standard input if INPUT is not set. OPTIONS are further
-arguments of the program. The status is that of the program. RT names the command, `rt` if not set.
+With no TOOL in the environment it runs an example of each program. TOOL is pegi, abnfi or abnfx; OPTIONS are further
+arguments of the program.
+
+- pegi and abnfi: GRAMMAR is a file. The program runs on the file INPUT, or on standard input if INPUT is not set.
+- abnfx: TEXTS are the files of the texts.
+- CASES is a folder in place of INPUT or TEXTS. The program is built once and run on each file of it. What it prints is
+  compared with the file of the same name that ends in .stdout; if there is none, it is shown.
+
+The status is that of the program; with CASES, that of `rt try`. RT names the command, `rt` if not set.
 """
 import os
 import pathlib
@@ -17,29 +23,38 @@ import tempfile
 
 TOP = pathlib.Path(__file__).resolve().parents[2]
 RT = os.environ.get("RT", "rt").split()
-TOOLS = ("pegi", "abnfi")
-EXAMPLES = (
-    ("pegi", "examples/username/username.peg", "examples/username/letter.txt", []),
-    ("abnfi", "examples/rfc3339/rfc3339.abnf", "examples/rfc3339/lines.txt", ["-s", "date-time"]),
-)
-# What `rt try` tells on standard error behind what the program tells: the last line has the program's status.
+TOOLS = ("pegi", "abnfi", "abnfx")
+USAGE = """usage: make try TOOL=pegi|abnfi GRAMMAR=file [INPUT=file | CASES=folder] [OPTIONS='..']
+       make try TOOL=abnfx TEXTS='file ..' | CASES=folder [OPTIONS='..']"""
+# What `rt try` tells on standard error after what the program tells: the last line has the program's status.
 ENDED = re.compile(r"(checked: .*\n|interpreter: .*\n)*run=ended status=(\d+) .*\n\Z")
 
 
-class Trial:
-    """A run of a program by `rt try`."""
+def names_of(files):
+    """Returns the names under which the program finds these files: their last parts, with a number where two are alike."""
+    names = [pathlib.Path(it).name for it in files]
+    return [it if names.count(it) == 1 else f"{number}-{it}" for number, it in enumerate(names, 1)]
 
-    def __init__(self, tool, grammar, given, options):
-        self.shown = shlex.join([tool, *options, grammar]) + (f" < {shlex.quote(given)}" if given else "")
+
+class Trial:
+    """A run of a program by `rt try`: its files as the program names them, its standard input, and its options."""
+
+    def __init__(self, tool, files, given="", options=(), cases=""):
+        named = [*files, "{}"] if cases and tool == "abnfx" else files
+        shown = [tool, *options, *named]
+        self.shown = shlex.join(shown) + (f" < {shlex.quote(given)}" if given else "")
         self.out, self.err = tempfile.TemporaryFile(), tempfile.TemporaryFile()
-        words = ["try", "--data", f"grammar={pathlib.Path(grammar).resolve()}", "--", *options, "grammar"]
+        names = names_of(files)
+        words = [word for it, file in zip(names, files) for word in ("--data", f"{it}={pathlib.Path(file).resolve()}")]
+        words += ["--cases", os.path.abspath(cases)] if cases else []
+        words = ["try", *words, "--", *options, *names, *named[len(files):]]
         with open(given, "rb") if given else os.fdopen(os.dup(0), "rb") as text:
             self.run = subprocess.Popen([*RT, *words], cwd=TOP / "crates" / tool, stdin=text, stdout=self.out,
                                         stderr=self.err)
 
     def show(self):
         """Waits for the end, shows what the program wrote, and returns its status."""
-        self.run.wait()
+        status = self.run.wait()
         self.out.seek(0)
         self.err.seek(0)
         print(f"\n$ {self.shown}", flush=True)
@@ -48,22 +63,33 @@ class Trial:
         told = self.err.read().decode(errors="replace")
         ended = ENDED.search(told)
         print(told[: ended.start()] if ended else told, end="", file=sys.stderr, flush=True)
-        return int(ended[2]) if ended else 1
+        return int(ended[2]) if ended else status
+
+
+def examples():
+    """Returns an example of each program."""
+    os.chdir(TOP)
+    return [
+        ("pegi", ["examples/username/username.peg"], "examples/username/letter.txt"),
+        ("abnfi", ["examples/rfc3339/rfc3339.abnf"], "examples/rfc3339/lines.txt", ["-s", "date-time"]),
+        ("abnfx", ["crates/abnfx/data/pages.txt"]),
+    ]
 
 
 def asked():
     """Returns the runs that are asked for, or ends the script with what is wrong with the words."""
-    tool, grammar = os.environ.get("TOOL"), os.environ.get("GRAMMAR")
-    if not tool and not grammar:
-        os.chdir(TOP)
-        return EXAMPLES
-    if tool not in TOOLS or not grammar:
-        sys.exit("usage: make try TOOL=pegi|abnfi GRAMMAR=file [INPUT=file] [OPTIONS='..']")
-    given = os.environ.get("INPUT", "")
-    for it in filter(None, (grammar, given)):
+    tool, grammar, texts, given, cases = (os.environ.get(it, "") for it in ("TOOL", "GRAMMAR", "TEXTS", "INPUT", "CASES"))
+    if not any((tool, grammar, texts, given, cases)):
+        return examples()
+    files = shlex.split(texts) if tool == "abnfx" else [grammar]
+    if tool not in TOOLS or (tool != "abnfx" and not grammar) or (tool == "abnfx" and not (texts or cases)):
+        sys.exit(USAGE)
+    for it in filter(None, (*files, given)):
         if not pathlib.Path(it).is_file():
             sys.exit(f"{it}: there is no such file")
-    return [(tool, grammar, given, shlex.split(os.environ.get("OPTIONS", "")))]
+    if cases and not pathlib.Path(cases).is_dir():
+        sys.exit(f"{cases}: there is no such folder")
+    return [(tool, files, given, shlex.split(os.environ.get("OPTIONS", "")), cases)]
 
 
 def main():
