@@ -6,7 +6,7 @@ ghost use Rattle.abnfprint.specs.CanonicalAbnf as canon;
 use abnfread::Elem;
 
 /// Where an element stands within another.
-#[derive(Clone, Copy, Debug)]
+#[derive(Clone, Copy)]
 pub(crate) enum Place {
     Alternative,
     Member,

@@ -16,7 +16,7 @@ pub const MAX_REPEAT: u32 = 4294967295;
 pub const MAX_VALUE: u32 = 4294967295;
 
 /// Why no number is given.
-#[derive(Clone, Copy, Debug)]
+#[derive(Clone, Copy)]
 pub(crate) enum NumberFault {
     /// One is over the limit.
     TooLarge,

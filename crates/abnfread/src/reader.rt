@@ -19,7 +19,7 @@ use std::alloc::{AllocError, AllocFailed, Global};
 use std::mem;
 
 /// Why the reader takes no further token.
-#[derive(Clone, Copy, Debug)]
+#[derive(Clone, Copy)]
 pub(crate) enum Stop {
     /// With this token the tokens so far begin no rules.
     Hopeless,
@@ -50,13 +50,13 @@ impl<T: Drop> From<AllocFailed<T>> for Stop {
 }
 
 /// How often the next element stands.
-#[derive(Clone, Copy, Debug)]
+#[derive(Clone, Copy)]
 pub(crate) enum Times {
     Once,
     Repeated(u32, Option<u32>),
 }
 
-#[derive(Clone, Copy, Debug, PartialEq, Eq)]
+#[derive(Clone, Copy)]
 pub(crate) enum Bracket {
     Paren,
     Brack,
@@ -82,7 +82,7 @@ pub(crate) struct Level {
 }
 
 /// What the reader has come to.
-#[derive(Clone, Copy, Debug)]
+#[derive(Clone, Copy)]
 pub(crate) enum At {
     /// The beginning of the text.
     Start,

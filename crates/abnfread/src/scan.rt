@@ -11,7 +11,7 @@ use crate::kind::AbnfKind;
 use lexer::after_byte;
 
 /// Bytes that stand together.
-#[derive(Clone, Copy, Debug)]
+#[derive(Clone, Copy)]
 pub(crate) enum Class {
     /// What goes on with a name.
     Inner,

@@ -53,7 +53,7 @@ fn alphabet_of(letters: u8) -> Option<Alphabet>
 }
 
 /// The name of a rule is no UTF-8.
-#[derive(Clone, Copy, Debug, Drop)]
+#[derive(Clone, Copy, Drop)]
 struct NotUtf8;
 
 fn start_of<'a>(named: bool, name: &'a [u8]) -> Result<Option<&'a str>, NotUtf8>

@@ -10,7 +10,7 @@ use ruletable::Memory;
 use std::alloc::Global;
 
 /// How the root of a node is known.
-#[derive(Clone, Copy, Debug, PartialEq, Eq)]
+#[derive(Clone, Copy)]
 pub(crate) enum Way {
     /// It is that of this node.
     On(usize),

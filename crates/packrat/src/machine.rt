@@ -30,7 +30,7 @@ use pegnodes::Node;
 use ruletable::Memory;
 
 /// A spot is to be evaluated, or one gave this.
-#[derive(Clone, Copy, PartialEq, Eq, Debug)]
+#[derive(Clone, Copy)]
 pub(crate) enum Turn {
     Ask(Spot),
     Answer(Given),

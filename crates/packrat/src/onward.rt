@@ -16,7 +16,7 @@ use pegmatch::{Kept, Tried, match_any, match_bytes, match_set};
 use pegnodes::Node;
 
 /// The tail of a node from a member on, at a place, with that member, and whether it is the last one.
-#[derive(Clone, Copy, PartialEq, Eq, Debug)]
+#[derive(Clone, Copy)]
 pub(crate) struct Entering {
     pub(crate) node: usize,
     pub(crate) index: usize,
@@ -28,7 +28,7 @@ pub(crate) struct Entering {
 /// How a spot begins: it gives something without events; or takes nothing, and leaves an event behind; or leads to
 /// another spot; or to its only one, or to a tail that is its only one, and passes on what that one gives; or its
 /// comparison reaches the last byte of a window behind which there is more.
-#[derive(Clone, Copy, PartialEq, Eq, Debug)]
+#[derive(Clone, Copy)]
 pub(crate) enum Begun {
     Gives(Found),
     Marks(Kept),
@@ -40,7 +40,7 @@ pub(crate) enum Begun {
 
 /// How a spot goes on: it gives something without events; or the same as its first one; or it leads to its last one, or
 /// to a tail that is its last one, and gives what that one gives, with the events of its first one before those.
-#[derive(Clone, Copy, PartialEq, Eq, Debug)]
+#[derive(Clone, Copy)]
 pub(crate) enum Onward {
     Gives(Found),
     Same,

@@ -16,7 +16,7 @@ use pegnodes::{RunTable, Verdict};
 
 /// Names a repetition, its operand, and two places between which it takes the bytes by turns that the bytes decide.
 /// So many pairs begin with that. If `whole` is true, the byte behind them decides that it ends there.
-#[derive(Clone, Copy, PartialEq, Eq, Debug)]
+#[derive(Clone, Copy)]
 pub(crate) struct Turns {
     pub(crate) star: usize,
     pub(crate) operand: usize,
