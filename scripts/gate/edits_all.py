@@ -4,12 +4,12 @@
 usage: edits_all.py [--anew] [NAME ..]
 
 The names are those of crates; with none, each crate that has an edit. The script copies crates/, crates.txt and HANDLES
-into a temporary folder, puts the edits of both folders beside each other there, and runs `rt must-fail`. That begins
-with what `rt` proved of the same text in any checkout on this machine, and proves what is lacking. It tries no edit a
-second time over the same text, unless `--anew` is given. RT names the command, `rt` if not set.
+into a temporary folder, puts the edits of both folders beside each other there, and runs `rt ci NAME ..`. That takes
+what the gate proved on this machine, and the edits that it tried, if nothing has changed since; it proves and tries the
+rest. With `--anew` it proves and tries all. RT names the command, `rt` if not set.
 
-The status is that of `rt must-fail`: 0 if the prover refuses each edit. It is 2 where a name is no crate's, or has no
-edit.
+The status is 0 if the prover refuses each edit, and that of `rt ci` if not. An edit that cannot be applied or compiled
+fails too, with status 1. The status is 2 where a name is no crate's, or the crate has no edit.
 """
 import os
 import pathlib
@@ -23,6 +23,8 @@ from crates import in_order
 
 TOP = pathlib.Path(__file__).resolve().parents[2]
 RT = os.environ.get("RT", "rt").split()
+# What `rt ci` says of an edit that it could not try. It does not fail for that.
+BAD = ": BAD EDIT"
 
 
 def edits_of(crate):
@@ -42,6 +44,18 @@ def make_tree(to, crates):
             shutil.copy(edit, folder / edit.name)
 
 
+def ci(words, folder):
+    """Runs `rt ci` in a folder, shows what it prints, and returns its status, or 1 if it could not try an edit."""
+    has_bad = False
+    with subprocess.Popen(
+        [*RT, "ci", *words], cwd=folder, stdout=subprocess.PIPE, stderr=subprocess.STDOUT, text=True, errors="replace"
+    ) as run:
+        for line in run.stdout:
+            print(line, end="", flush=True)
+            has_bad = has_bad or BAD in line
+    return run.returncode or int(has_bad)
+
+
 def main(words):
     names = [it for it in words if it != "--anew"]
     having = [it for it in in_order(TOP) if edits_of(it)]
@@ -52,8 +66,9 @@ def main(words):
     crates = names or having
     with tempfile.TemporaryDirectory(prefix="edits-all-") as room:
         make_tree(pathlib.Path(room), crates)
-        flags = ["--anew"] * ("--anew" in words)
-        return subprocess.run([*RT, "must-fail", *flags, *crates], cwd=room, check=False).returncode
+        status = ci([*["--anew"] * ("--anew" in words), *crates], room)
+    print("edits_all.py:", "an edit was not refused, or not tried: see above" if status else "each edit was refused")
+    return status
 
 
 sys.exit(main(sys.argv[1:]))
