@@ -1,6 +1,6 @@
 # Proves, builds and tests the tools. Needs the Rattle toolchain's command `rt` and Python 3.
 
-.PHONY: all try programs pegi abnfi abnfx lib example examples install put put-lib dist deb test check edits clean
+.PHONY: all try programs pegi abnfi abnfx lib example examples install put put-lib dist deb test check edits edits-all clean
 
 all: programs example
 
@@ -86,9 +86,14 @@ deb: programs
 test:
 	@python3 -B scripts/gate/gate.py
 
-# The edits that the prover must refuse, crate by crate.
+# The edits that the prover must refuse, crate by crate; `-` marks those that the gate does not try.
 edits:
 	@python3 -B scripts/gate/edit_index.py
+
+# Tries every edit, those of the gate and those in must-fail/, before a release; or those of some crates:
+# make edits-all CRATES='feed toolrun'.
+edits-all:
+	@python3 -B scripts/gate/edits_all.py $(CRATES)
 
 # Every proof, over what earlier checks kept.
 check:

@@ -1,9 +1,12 @@
 #!/usr/bin/env python3
 """Prints the must-fail edits crate by crate: the function, what the edit changes, and the clause that refuses it.
 
-Ends with status 1 where an edit's name or first line lacks its form, the text that it changes does not stand once in
-its file, or a public function that needs an edit has none (CONTRIBUTING.md). A function needs one if a clause is not an
-equation. The script judges that by the form of the clauses. With -q it prints only what is wrong.
+The edits of the gate stand in crates/NAME/must-fail/, the others in must-fail/NAME/; the list marks the others by `-`.
+The script ends with status 1 where an edit's name or first line lacks its form, where the text that it changes does not
+stand once in its file, or where a public function that needs an edit has none in either folder (CONTRIBUTING.md). A
+function needs one if a clause is not an equation. The script judges that by the form of the clauses. It also ends with
+status 1 where a crate has too few edits in the gate, where the gate has too many, where a program or a static library
+has some, and where a name below is exempt without need. With -q it prints only what is wrong.
 """
 import dataclasses
 import pathlib
@@ -11,16 +14,19 @@ import re
 import sys
 
 sys.path.insert(0, str(pathlib.Path(__file__).resolve().parents[1]))  # scripts/, for what groups share
-from crates import in_order
+from crates import in_order, is_static
 
 TOP = pathlib.Path(__file__).resolve().parents[2]
+# The most edits that the gate has, and the fewest of a crate that has some: its first costs a proof of the crate.
+MOST_EDITS = 95
+FEWEST_EDITS = 4
 # What a first line names where no clause of the function refuses the edit.
 OTHERS = r"ensures|invariant|loop|safe|ends|requires of [\w.]+"
 # Traits whose methods need no edit of their own. A method of a `Language` hands on what one function of a crate below
 # says, where that function has its edit.
 PLAIN_TRAITS = ("From", "Model", "Display", "Drop", "Language")
 # Crates that show how to call the others, or that tests alone call: they need no edits.
-EXAMPLES = ("callers", "fakes")
+EXAMPLES = ("uses", "testio")
 # Words that equate what they speak of.
 # Writes: the bytes that a writer took; at an error, a beginning of them. Keeps: a stream's bytes are those of before.
 # Flags: a stream's flag is the one of before; at an error, it is set. Defines: the new table and the id of a rule.
@@ -31,19 +37,17 @@ EXACT = r"(Writes|Keeps|Flags|Defines|SameLoan|SameFeed|sem 𝓛 \(Lends(Body|Wi
 EXEMPT = (
     # It lends a field of a type of which no other value is at hand.
     "flatgrammar: Flat.share",
-    # It returns marks without entries, which take no memory; no other such value is at hand.
-    "packrat: Marks.all",
     # Its equation stands behind a premise, and `requires` says that something meets the premise.
-    "pegmatch: Plain.replay", "pegmatch: writing.write_event", "matchexplain: TextPlace.behind",
+    "pegmatch: Plain.replay", "pegmatch: writing.write_event", "matchfailure: TextPlace.behind",
     # It passes on what `KeyLog::get` finds.
     "packrat: Packrat.found",
-    # It passes on what `noteplaces::explain_note` returns, whose clause equates.
+    # It passes on what `diagnostics::explain_note` returns, whose clause equates.
     "abnfexplain: notes.explain_abnf_note",
     # It does so too, and adds the line that `first_loop` finds, which has an edit, or those of `push_steps`, whose
     # clause equates.
     "pegexplain: notes.explain_peg_note",
     # It passes on what its helpers return, whose clauses equate.
-    "peghints: told.peg_hints",
+    "pegexplain: told.peg_hints",
     # It tells what its helpers find, of which `is_barren` has an edit.
     "abnfhints: hints.abnf_hints",
     # It passes on what `nullable` marks, and `need` has an edit.
@@ -52,19 +56,18 @@ EXEMPT = (
     "gramcheck: analysis.left_recursive_rules",
     # It passes on what `Chains::way_back` returns, which has an edit.
     "pegexplain: ways.left_way",
-    # They pass on what `stepchains::chains_from` and `Chains::chain_to` return, which have their edits.
+    # They pass on what `shortestpaths::chains_from` and `Chains::chain_to` return, which have their edits.
     "abnfcheck: reached_names.name_chains", "abnfcheck: NameChains.chain_to",
     # It passes on what `conclude` does, which has its edit.
     "toolrun: finish.finish",
     # Another function of the crate has such a body, and its edit shows the same mistake.
-    "commands: command.abnfi_command", "mains: mains.abnfi_main", "leastset: needs.are_needs_within",
-    "abnfcheck: table_marks.productive_rules", "toolrun: told.told_notes", "rulenames: used_names.add_use",
-    "pegmatch: leaves.match_any", "feed: Feed.front", "pegnodes: cut.cut_grammar", "pegnodes: star_tables.find_tables",
-    "pegnodes: template.cut_templates", "fanquber_c: exports.fanquber_abnf",
-    "fanquber_c: run_exports.fanquber_peg_open",
+    "cli: command.abnfi_command", "fixpoint: needs.are_needs_within", "abnfcheck: table_marks.productive_rules",
+    "toolrun: told.told_notes", "rulenames: used_names.add_use", "pegmatch: leaves.match_any", "feed: Feed.front",
+    "pegnodes: cut.cut_grammar", "pegnodes: star_tables.find_tables", "pegnodes: template.cut_templates",
+    "fanquber_c: exports.fanquber_abnf", "fanquber_c: run_exports.fanquber_peg_open",
     # A crate above has such an edit.
     "abnfrun: AbnfJudge.judge", "memoryrun: whole_run.abnf_in_memory", "memoryrun: whole_run.peg_in_memory",
-    "itemsets: Chart.spots", "toolrun: plan.plan_of", "toolrun: tool.act", "noteplaces: places.places_of",
+    "earleyitems: Chart.spots", "toolrun: plan.plan_of", "toolrun: tool.act", "diagnostics: places.places_of",
     "abnfcheck: table_marks.sound_rules",
 )
 
@@ -177,11 +180,11 @@ def functions_of(folder, promises):
     return [it for file in files for it in functions_in(file, public, promises)]
 
 
-def applies(file):
-    """Tells whether each text that an edit changes stands once in the source file that it names, as `rt` asks."""
+def applies(file, folder):
+    """Tells whether each text that an edit changes stands once in the crate's file that it names, as `rt` asks."""
     text = file.read_text()
     named = re.search(r"^file: (.+)$", text, re.M)
-    source = file.parent.parent / named[1] if named else None
+    source = folder / named[1] if named else None
     changes = re.findall(r"(?m)^old: (.*)\nnew: ?(.*)$", text)
     if not (source and source.is_file() and changes):
         return False
@@ -193,13 +196,13 @@ def applies(file):
     return True
 
 
-def faults_of(file, functions, covered):
-    """Returns what is wrong with an edit, and adds the functions that it names to those that have one."""
+def faults_of(file, folder, functions, covered):
+    """Returns what is wrong with an edit of a crate, and adds the functions that it names to those that have one."""
     called, _, change = file.stem.rpartition(".")
     by = re.match(r"refused by: ([\w.]+), (.+)\n", file.read_text())
     if not by or not called or not re.fullmatch(r"\w+", change):
         return ["not of the form FUNCTION.CHANGE.edit with a first line 'refused by: FUNCTION, CLAUSE'"]
-    faults = [] if applies(file) else ["the text that it changes does not stand once in the file that it names"]
+    faults = [] if applies(file, folder) else ["the text that it changes does not stand once in the file that it names"]
     for name in {called, by[1]}:
         fit = [it for it in functions if it.is_called(name)]
         covered += fit
@@ -210,28 +213,57 @@ def faults_of(file, functions, covered):
     return faults
 
 
-def check(folder, promises, is_quiet):
-    """Prints the index of a crate, and returns what is wrong with it."""
-    functions, covered, faults = functions_of(folder, promises), [], []
+def faults_of_count(crate, edits):
+    """Returns what is wrong with how many edits of a crate the gate has."""
+    if edits and ((TOP / "crates" / crate / "src/main.rt").is_file() or is_static(TOP, crate)):
+        return [f"{crate}: edits of a program or of a static library stand in must-fail/{crate}/"]
+    if 0 < len(edits) < FEWEST_EDITS:
+        return [f"{crate}: a crate with fewer than {FEWEST_EDITS} edits has them in must-fail/{crate}/"]
+    return []
+
+
+def check(crate, promises, exempt, is_quiet):
+    """Prints the index of a crate, and returns what is wrong with it. Adds the exempt functions that need to be so."""
+    folder, covered = TOP / "crates" / crate, []
+    functions = functions_of(folder, promises)
+    in_gate, others = [sorted(it.glob("*.edit")) for it in (folder / "must-fail", TOP / "must-fail" / crate)]
+    faults = faults_of_count(crate, in_gate)
+    twice = {it.name for it in in_gate} & {it.name for it in others}
+    faults += [f"{crate}/{it}: crates/{crate}/must-fail/ and must-fail/{crate}/ both have it" for it in sorted(twice)]
     if not is_quiet:
-        print(folder.name)
-    for file in sorted(folder.glob("must-fail/*.edit")):
-        faults += [f"{folder.name}/{file.name}: {it}" for it in faults_of(file, functions, covered)]
+        print(crate)
+    for file in in_gate + others:
+        faults += [f"{crate}/{file.name}: {it}" for it in faults_of(file, folder, functions, covered)]
         if not is_quiet:
             called, _, change = file.stem.rpartition(".")
-            print(f"  {called:24} {change.replace('_', ' '):34} {file.read_text().partition(chr(10))[0]}")
-    bare = [f"{it.owner}.{it.name}" for it in functions if it.needs_edit and it not in covered]
+            mark, by = "-" if file in others else " ", file.read_text().partition("\n")[0]
+            print(f"{mark} {called:24} {change.replace('_', ' '):34} {by}")
+    bare = [f"{crate}: {it.owner}.{it.name}" for it in functions if it.needs_edit and it not in covered]
+    exempt.update(it for it in bare if it in EXEMPT)
     return faults + [
-        f"{folder.name}: the public function {it} has no edit, and not all of its clauses are equations"
+        f"{it}: the public function has no edit, and not all of its clauses are equations"
         for it in bare
-        if f"{folder.name}: {it}" not in EXEMPT
+        if it not in EXEMPT
     ]
 
 
+def faults_of_folders(crates, exempt):
+    """Returns what is wrong beside the crates: files that no one tries, too many edits, and names that are exempt
+    without need."""
+    strange = [it for it in sorted((TOP / "must-fail").rglob("*")) if it.is_file() and it.suffix != ".edit"]
+    strange += [it for it in sorted((TOP / "must-fail").glob("*")) if it.name not in crates]
+    count = len([*TOP.glob("crates/*/must-fail/*.edit")])
+    faults = [f"{it.relative_to(TOP)}: must-fail/ holds nothing but edits, in folders of crates" for it in strange]
+    if count > MOST_EDITS:
+        faults.append(f"the gate has {count} edits, and at most {MOST_EDITS}: move one to must-fail/, or drop one")
+    return faults + [f"edit_index.py: '{it}' is exempt without need" for it in EXEMPT if it not in exempt]
+
+
 def main(words):
-    crates = [it for it in in_order(TOP) if it not in EXAMPLES]
+    crates, exempt = [it for it in in_order(TOP) if it not in EXAMPLES], set()
     promises = promises_of_traits(TOP / "crates" / it for it in crates)
-    faults = [it for crate in crates for it in check(TOP / "crates" / crate, promises, "-q" in words)]
+    faults = [it for crate in crates for it in check(crate, promises, exempt, "-q" in words)]
+    faults += faults_of_folders(crates, exempt)
     for it in faults:
         print(it, file=sys.stderr)
     return 1 if faults else 0
