@@ -17,7 +17,7 @@ LONGEST_FILE = 800
 # A file of a function's proof has its name from the prover, and the head of a folder from the language.
 MIRRORS = {"Answers.antt", "Invariants.antt", "Proof.antt", "Lib.antt"}
 # Nouns that end as gerunds do.
-NOUNS = {"Nothing", "Spelling", "String"}
+NOUNS = {"Nothing", "Spelling"}
 # Participles that do not end in `ed`.
 PARTICIPLES = {"Begun", "Chosen", "Kept", "Left", "Made", "Read", "Said", "Taken", "Told", "Written"}
 # What begins a block: its lines stand further in.
