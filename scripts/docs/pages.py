@@ -26,6 +26,7 @@ PAGES = TOP / "docs" / "crates"
 NO_LIBRARY = re.compile(r"testio|tests_\w+|uses")
 BLOCK = re.compile(r"<!-- (contracts:[^>]*|callers|laws|definitions) -->\n.*?<!-- end -->", re.S)
 EXPORT = re.compile(r"^pub use (\w+)::(?:(\w+(?: as \w+)?);|\{(.*?)\};)", re.M | re.S)
+FUNCTION = re.compile(r'^pub (?:extern "C" )?fn (\w+)', re.M)
 DECLARED = r"^pub (?:struct|enum|trait|const|static) {}\b"
 LAW = re.compile(r"(?:pub )?fn \w+(?:<[^<>]*>)?\(\)(?! *->)")
 
@@ -51,9 +52,10 @@ def given_by(file, folder):
 
 
 def exports(crate):
-    """Returns what a library gives out, as `given_by` does."""
+    """Returns what a library gives out, as `given_by` does, and the functions of its root file."""
     source = TOP / "crates" / crate / "src"
-    return given_by(source / "lib.rt", source)
+    root = source / "lib.rt"
+    return given_by(root, source) | {it: (root, it) for it in FUNCTION.findall(root.read_text())}
 
 
 def with_docs(text, start):
@@ -210,7 +212,8 @@ def filled(crate, page):
 
 def new_page(crate):
     """Returns the page of a library that has none: its first sentence, and empty blocks."""
-    said = re.match(r"//! (.*)", (TOP / "crates" / crate / "src/lib.rt").read_text()).group(1)
+    rows = re.match(r"(?://! .*\n)+", (TOP / "crates" / crate / "src/lib.rt").read_text()).group()
+    said = re.split(r"(?<=\.) ", rows.replace("//! ", "").replace("\n", " ").strip())[0]
     parts = ["Types and functions", "contracts: ", "A caller", "callers", "Laws", "laws", "Definitions", "definitions"]
     blocks = [f"## {title}\n\n<!-- {kind} -->\n<!-- end -->\n" for title, kind in zip(parts[::2], parts[1::2])]
     return f"# `{crate}`\n\n{said}\n\n" + "\n".join(blocks)
