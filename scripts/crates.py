@@ -1,5 +1,6 @@
 """The crates of crates.txt, for the other scripts."""
 import pathlib
+import re
 
 
 def listed(top):
@@ -46,4 +47,23 @@ def below(top, crate):
             if it not in found:
                 found.add(it)
                 left.append(it)
+    return found
+
+
+def longest_chain(top, crate):
+    """Returns the longest chain of uses from a crate down, with the crate itself."""
+    direct, chains = uses(top), {}
+    for it in in_order(top):
+        chains[it] = [it, *max((chains[low] for low in direct[it]), key=len, default=[])]
+    return chains[crate]
+
+
+def parts(top):
+    """Returns the crates of each part of crates.txt, by the comment before them; those before the first by none."""
+    found, part = {}, None
+    for row in (pathlib.Path(top) / "crates.txt").read_text().splitlines():
+        if re.fullmatch(r"# [\w ]+", row):
+            part = row[2:]
+        elif row and not row.startswith("#"):
+            found.setdefault(part, []).append(row.partition(":")[0].split()[0])
     return found

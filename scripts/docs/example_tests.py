@@ -1,5 +1,5 @@
 #!/usr/bin/env python3
-"""Writes the tests of the folders of examples/, which hold their texts word for word: in crates/known_runs/src/ the
+"""Writes the tests of the folders of examples/, which hold their texts word for word: in crates/tests_runs/src/ the
 file run_peg_rows/examples.rt for those of pegi, and run_abnf_examples.rt for those of abnfi.
 
 With the word `check` it compares the files with what it would write, and writes nothing.
@@ -9,8 +9,8 @@ import re
 import sys
 
 top = pathlib.Path(__file__).resolve().parents[2]
-peg_file = top / "crates/known_runs/src/run_peg_rows/examples.rt"
-abnf_file = top / "crates/known_runs/src/run_abnf_examples.rt"
+peg_file = top / "crates/tests_runs/src/run_peg_rows/examples.rt"
+abnf_file = top / "crates/tests_runs/src/run_abnf_examples.rt"
 inputs = {
     "calculator": "input.txt",
     "csv": "input.txt",
@@ -23,7 +23,7 @@ abnf_names = ["abnf", "rfc3339", "rfc3986", "rfc5322", "rfc8259"]
 HEAD = '''//! The folders of `examples/`, word for word: `scripts/docs/example_tests.py` wrote this file.
 
 use super::{Row, check_rows};
-use gramtools::{DEFAULT_LIMIT, Status};
+use fanquber::{DEFAULT_LIMIT, Status};
 use std::process::Abort;
 
 /// Checks that a grammar takes all of an input, prints this and tells nothing.
@@ -47,7 +47,7 @@ fn examples_print_what_they_must(rt: HostRuntime) {{
 ABNF_HEAD = '''//! The folders of `examples/` in ABNF, word for word: `scripts/docs/example_tests.py` wrote this file.
 
 use crate::run_abnf_rows::{AbnfRow, check_row};
-use gramtools::{DEFAULT_LIMIT, Status};
+use fanquber::{DEFAULT_LIMIT, Status};
 '''
 
 ABNF_TEST = '''

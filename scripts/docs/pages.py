@@ -6,7 +6,7 @@ usage: pages.py [--check]
 A page has sentences written by hand, and blocks between two markers, of which the first says what the block quotes:
 
     contracts: NAME ..   the public types and functions of the library: those named, in that order, and then the others
-    callers              the callers of the library in the crate `callers`
+    callers              the callers of the library in the crate `uses`
     laws                 the laws of the library: functions that take nothing and return nothing
     definitions          the files of specs/ whose definitions the contracts cite
 
@@ -23,28 +23,39 @@ from crates import in_order
 
 PAGES = TOP / "docs" / "crates"
 # Crates that show how to call the others, or test them.
-NO_LIBRARY = ("callers", "fakes", "known_abnf", "known_answers", "known_peg", "known_runs")
+NO_LIBRARY = re.compile(r"testio|tests_\w+|uses")
 BLOCK = re.compile(r"<!-- (contracts:[^>]*|callers|laws|definitions) -->\n.*?<!-- end -->", re.S)
 EXPORT = re.compile(r"^pub use (\w+)::(?:(\w+(?: as \w+)?);|\{(.*?)\};)", re.M | re.S)
+FUNCTION = re.compile(r'^pub (?:extern "C" )?fn (\w+)', re.M)
 DECLARED = r"^pub (?:struct|enum|trait|const|static) {}\b"
 LAW = re.compile(r"(?:pub )?fn \w+(?:<[^<>]*>)?\(\)(?! *->)")
 
 
 def libraries():
     """Returns the names of the libraries, each behind those that it uses."""
-    return [it for it in in_order(TOP) if it not in NO_LIBRARY and (TOP / "crates" / it / "src/lib.rt").is_file()]
+    has_source = lambda it: (TOP / "crates" / it / "src/lib.rt").is_file()
+    return [it for it in in_order(TOP) if has_source(it) and not NO_LIBRARY.fullmatch(it)]
+
+
+def given_by(file, folder):
+    """Returns what a module gives out, where its own modules stand in the folder: by the name outside, the source file
+    and the name there; None for another crate's."""
+    given = {}
+    for module, one, many in EXPORT.findall(file.read_text()):
+        source = folder / f"{module}.rt"
+        nested = given_by(source, folder / module) if (folder / module).is_dir() else {}
+        for it in re.split(r",\s*", (one or many).strip(", \n")):
+            inside, _, outside = it.partition(" as ")
+            own = (source, inside) if source.is_file() else (None, f"{module}::{inside}")
+            given[outside or inside] = nested.get(inside, own)
+    return given
 
 
 def exports(crate):
-    """Returns what a library gives out: by the name outside, the source file and the name there; None for another
-    crate's."""
-    source, given = TOP / "crates" / crate / "src", {}
-    for module, one, many in EXPORT.findall((source / "lib.rt").read_text()):
-        for it in re.split(r",\s*", (one or many).strip(", \n")):
-            inside, _, outside = it.partition(" as ")
-            file = source / f"{module}.rt"
-            given[outside or inside] = (file, inside) if file.is_file() else (None, f"{module}::{inside}")
-    return given
+    """Returns what a library gives out, as `given_by` does, and the functions of its root file."""
+    source = TOP / "crates" / crate / "src"
+    root = source / "lib.rt"
+    return given_by(root, source) | {it: (root, it) for it in FUNCTION.findall(root.read_text())}
 
 
 def with_docs(text, start):
@@ -164,9 +175,9 @@ def laws(crate):
 
 
 def callers(crate):
-    """Returns the files of the crate `callers` whose first row names the library."""
+    """Returns the files of the crate `uses` whose first row names the library."""
     texts = []
-    for file in sorted((TOP / "crates/callers/src").glob("*_caller.rt")):
+    for file in sorted((TOP / "crates/uses/src").glob("*_caller.rt")):
         first, _, rest = file.read_text().partition("\n")
         if f"`{crate}`" in first:
             texts.append(f"// {file.relative_to(TOP)}\n{rest.strip()}")
@@ -201,7 +212,8 @@ def filled(crate, page):
 
 def new_page(crate):
     """Returns the page of a library that has none: its first sentence, and empty blocks."""
-    said = re.match(r"//! (.*)", (TOP / "crates" / crate / "src/lib.rt").read_text()).group(1)
+    rows = re.match(r"(?://! .*\n)+", (TOP / "crates" / crate / "src/lib.rt").read_text()).group()
+    said = re.split(r"(?<=\.) ", rows.replace("//! ", "").replace("\n", " ").strip())[0]
     parts = ["Types and functions", "contracts: ", "A caller", "callers", "Laws", "laws", "Definitions", "definitions"]
     blocks = [f"## {title}\n\n<!-- {kind} -->\n<!-- end -->\n" for title, kind in zip(parts[::2], parts[1::2])]
     return f"# `{crate}`\n\n{said}\n\n" + "\n".join(blocks)

@@ -29,8 +29,8 @@ LISTED = re.compile(r"`(\w+/specs/)(?:\w+(?:\.antt)?)?`:?((?:,?\s`[A-Z]\w+`)+)")
 # What begins a comment, by a file's ending.
 COMMENTS = {".rt": "//", ".antt": "--", ".py": "#", ".sh": "#"}
 CODE = {".rt", ".antt", ".py", ".sh", ".peg", ".abnf", ".edit", ".c"}
-# What only a build or a reader makes, and examples of names.
-ELSEWHERE = {"bin/", "bin/abnfi", "bin/pegi", "rfc.txt", "stream.sh", "ClassLemmas", "pushes_keep_order"}
+# What only a build, the prover or a reader makes, and examples of names.
+ELSEWHERE = {"Lts", "bin/", "bin/abnfi", "bin/pegi", "rfc.txt", "stream.sh", "ClassLemmas", "pushes_keep_order"}
 # Capitals that stand for a name.
 ANY = re.compile(r"[A-Z]{4}")
 

@@ -9,12 +9,15 @@ import pathlib
 import re
 import sys
 
+sys.path.insert(0, str(pathlib.Path(__file__).resolve().parents[1]))  # scripts/, for what groups share
+from crates import below, longest_chain, parts
+
 LONGEST_LINE = 120
 LONGEST_FILE = 800
 # A file of a function's proof has its name from the prover, and the head of a folder from the language.
 MIRRORS = {"Answers.antt", "Invariants.antt", "Proof.antt", "Lib.antt"}
 # Nouns that end as gerunds do.
-NOUNS = {"Nothing", "Spelling", "String"}
+NOUNS = {"Nothing", "Spelling"}
 # Participles that do not end in `ed`.
 PARTICIPLES = {"Begun", "Chosen", "Kept", "Left", "Made", "Read", "Said", "Taken", "Told", "Written"}
 # What begins a block: its lines stand further in.
@@ -28,25 +31,34 @@ DEFINITION = re.compile(r"(?:(?:unfoldable|abbrev|pub|data|record) )+([^\s(){}:.
 LANGUAGES = (
     {"abnfread", "abnfprint", "abnfexplain", "abnfcheck", "abnfrun", "flatgrammar"},
     {"pegread", "pegexplain", "pegnodes", "gramcheck", "pegrun", "pegmatch"},
-    {"lexer", "picture", "rulenames", "ruletable", "toolrun"},
+    {"diagnostics", "lexer", "rulenames", "ruletable", "toolrun"},
 )
 # Names that stand in crates of one language, or in crates that speak of something else each; agreed, and not to grow.
 TWINS = set(
     """
-    Adds allows AreBelow AreCallers AreDifferent AreGrown AreOrdered AreReaders AreRows AreWaiting AreWithin behind
+    Adds allows AreBelow AreCallers AreDifferent AreGrown AreOrdered AreReaders AreWaiting AreWithin behind
     Begins
     Chain Closes Drops ended Finishes GoesOn Grammar Grows IsAdded IsBegun IsBuilt IsClosing IsCut IsFirst IsHead IsIn
-    IsLast IsNext IsOver IsPart IsPassed IsPrinted IsRanked IsRead IsStart IsStep IsTable IsTaken Names Piece
+    IsLast IsNext IsOver IsPart IsPrinted IsRanked IsStart IsStep IsTable IsTaken Names Piece
     Place Reads Says Way Writes empty head_of is_blank key_of members_of node_of pair place_of places_of row_of
     run_text spots_of steps_of taken_at unit_of unmarked way_of
     """.split()
 )
+# The most crates of the workspace, and the most that a chain of uses has which ends in a program.
+MOST_CRATES = 49
+LONGEST_CHAIN = 10
+# The programs, each with the parts of crates.txt of which it uses nothing, and the most crates below it.
+PROGRAMS = {
+    "pegi": ({"ABNF", "RFCs"}, None),
+    "abnfi": ({"peg", "RFCs"}, None),
+    "abnfx": ({"peg"}, 15),
+}
 # The most functions that a crate has, and the crates that have more: so many each. Tests count for nothing.
 LARGEST_CRATE = 105
 LARGER = {}
 # The most entries that a folder has, and the folders that have more.
 LARGEST_FOLDER = 40
-WIDER = {"crates": 60, "docs/crates": 50}
+WIDER = {"crates": MOST_CRATES}
 # Folders that hold no sources.
 BUILT = {".git", "__pycache__", "bin", "out"}
 TEXTS = {".antt", ".edit", ".md", ".py", ".rt", ".sh"}
@@ -207,6 +219,25 @@ def of_large_crates(top, files):
             yield f"{crate}: {functions_of_it} functions"
 
 
+def of_uses(top):
+    """Yields what breaks the rules of the crates' number and of what the programs stand on."""
+    of_part = parts(top)
+    count = sum(map(len, of_part.values()))
+    if count > MOST_CRATES:
+        yield f"{count} crates, of at most {MOST_CRATES}"
+    for program, (others, most) in PROGRAMS.items():
+        used = below(top, program)
+        chain = longest_chain(top, program)
+        if len(chain) > LONGEST_CHAIN:
+            yield f"{program}: a chain of {len(chain)} crates: {' '.join(chain)}"
+        for part in sorted(others):
+            wrong = sorted(used.intersection(of_part[part]))
+            if wrong:
+                yield f"{program} uses crates of {part}: {' '.join(wrong)}"
+        if most is not None and len(used) > most:
+            yield f"{program} uses {len(used)} crates, of at most {most}"
+
+
 def of_wide_folders(files):
     """Yields the folders that have too many entries."""
     entries = collections.defaultdict(set)
@@ -251,6 +282,7 @@ def main():
         "lemmas whose name is one word": of_short_names(top, files),
         "names that stand more than once": of_twins(files),
         "definitions whose name stands in two crates": of_twin_definitions(top, files),
+        "the number of crates, and what programs use": of_uses(top),
         f"crates of more than {LARGEST_CRATE} functions": of_large_crates(top, files),
         f"folders of more than {LARGEST_FOLDER} entries": of_wide_folders(files),
         f"files of more than {LONGEST_FILE} lines": of_long_files(top, files),

@@ -47,7 +47,7 @@ fn place_of<'a>(
     })
 }
 
-// TakesMore the lines of a rule.
+// Takes the lines of a rule.
 fn take_rule<'a>(
     alloc: Global,
     gathered: &mut Gathered<'a>,
@@ -81,7 +81,7 @@ fn margin_in(lines: &[TextLine<'_>]) -> usize
     }
 }
 
-// TakesMore the lines of a piece, rule by rule.
+// Takes the lines of a piece, rule by rule.
 fn take_piece<'a>(
     alloc: Global,
     gathered: &mut Gathered<'a>,
@@ -116,7 +116,7 @@ fn lines_before<'a, 'b>(lines: &'b [TextLine<'a>], count: usize) -> &'b [TextLin
     &lines[..count.min(lines.len())]
 }
 
-// TakesMore what is found there among the lines that are kept of a text.
+// Takes what is found there among the lines that are kept of a text.
 fn take_found<'a>(
     alloc: Global,
     gathered: &mut Gathered<'a>,
@@ -141,7 +141,7 @@ fn take_found<'a>(
     Ok(())
 }
 
-// TakesMore a text.
+// Takes a text.
 fn take_text<'a>(
     alloc: Global,
     gathered: &mut Gathered<'a>,

@@ -1,6 +1,6 @@
 //! Least sets over numbers: what comes in by needs, what steps reach, and which numbers come back to themselves.
 //!
-//! A table of rows gives each number the numbers that its steps lead to. `docs/crates/leastset.md` quotes the
+//! A table of rows gives each number the numbers that its steps lead to. `docs/crates/fixpoint.md` quotes the
 //! contracts.
 #![tactic(auto)]
 

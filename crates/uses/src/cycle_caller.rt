@@ -1,4 +1,4 @@
-//! A caller of `leastset`.
+//! A caller of `fixpoint`.
 ghost use Rattle.std.specs.Prelude.{◌≡◌, ◌↔◌, ◌<◌, Bool, length, IfOk};
 ghost use Rattle.fixpoint.specs.Leads.{Leads};
 ghost use Rattle.fixpoint.specs.StepRows.{slices_of, AreStepsWithin};

@@ -1,4 +1,4 @@
-//! A caller of `lines`.
+//! A caller of `linejudge`.
 ghost use Rattle.std.specs.Prelude.{◌≡◌, false, true};
 ghost use Rattle.uses.specs.CommentLines.{IsCommentAnswer, LacksSign, comment_form};
 ghost use Rattle.linejudge.specs.LineRefusals.{LinesStates};
