@@ -18,6 +18,7 @@ mod uses;
 pub use gathered::SourceText;
 pub use join::{
     Clash, Fate, GivenRule, find_clashes, find_fates, find_order, is_only_prose, is_same_element,
+    linked_reading,
 };
 pub use joined::{JoinedTexts, join_texts};
 pub use laws::{joined_reading, one_joining};

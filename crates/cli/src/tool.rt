@@ -16,8 +16,8 @@ use ruletable::Sink;
 use std::rt::Files;
 use toolrun::{Language, Status, run_tool};
 
-/// Runs a program of the language `L`, whose words are its own name and those of its command. It runs the grammar in the
-/// file GRAMMAR on what the reader gives, as `run_tool` says, with the settings of the words.
+/// Runs a program of the language `L`, whose words are its own name and those of its command. It runs the grammar in
+/// the file GRAMMAR on what the reader gives, as `run_tool` says, with the settings of the words.
 ///
 /// - `-h`: the help on `out`, `Done`.
 /// - Other words, or a value out of its range: what is wrong with them on `err`, `Refused`, and nothing is read.

@@ -7,7 +7,8 @@ use Rattle.ruletable.specs.Lines.{line_at}
 use Rattle.ruletable.specs.declared.lines.LineRule.{LineRule}
 use Rattle.lexer.specs.Pieces.{AreInOrder, LiesIn}
 use Rattle.lexer.specs.TokenLists.{AreTokens, Tok, kind_of, slice_of, start_of}
-use Rattle.diagnostics.specs.DefinitionHeads.{AreDefinitions, DefinedAt, SignAt, begun_by, definition_of, definitions_in}
+use Rattle.diagnostics.specs.DefinitionHeads.{AreDefinitions, DefinedAt, SignAt, begun_by, definition_of}
+use Rattle.diagnostics.specs.DefinitionHeads.{definitions_in}
 use Rattle.diagnostics.specs.DefinitionHeads.{sign_at}
 use Rattle.diagnostics.specs.Openings.{BeginsHead, opens}
 use Rattle.diagnostics.specs.declared.noteplaces.sign.Sign.{Sign}

@@ -19,7 +19,8 @@ use Rattle.earleyitems.specs.Closed.{Hold, HoldAll, IsClosed, Keeps}
 use Rattle.earleyitems.specs.Worklist.{IsWork, IsWorked}
 use Rattle.flatgrammar.specs.Blocks.{item_at, begin_count, Inside, begun, called, IsBlock, block_of, IsHead, IsLate}
 use Rattle.flatgrammar.specs.Blocks.{AreTables}
-use Rattle.earleyitems.specs.SetViews.{expand, full, AreBlocks, IsPredictedRoot, MovesOverNullable, IsAddedFor, IsWorklist}
+use Rattle.earleyitems.specs.SetViews.{expand, full, AreBlocks, IsPredictedRoot, MovesOverNullable, IsAddedFor}
+use Rattle.earleyitems.specs.SetViews.{IsWorklist}
 use Rattle.earleyitems.proofs.SetAtMostLemmas.{set_at_most}
 use Rattle.flatgrammar.proofs.CallOfLemmas.{equal_or, root_stands, calls_late, called_of, get_below}
 use Rattle.earleyitems.proofs.ScanLastLemmas.{predicted_holds, completed_holds}

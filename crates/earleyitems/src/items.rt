@@ -7,7 +7,8 @@ ghost use Rattle.flatgrammar.specs.declared.tables.Tables as code_flat;
 ghost use Rattle.earleyitems.specs.ItemHomes.{IsHome, AreItemsHomed};
 ghost use Rattle.earleyitems.specs.ItemSets.{Adds, IsOneMore};
 ghost use Rattle.earleyitems.specs.Waiting.{Chain, IsSkippedTo};
-ghost use Rattle.earleyitems.specs.ItemBuckets.{item_bucket as the_item_bucket, IsLast, AreLinked, IsLinkedTo, AreWithin};
+ghost use Rattle.earleyitems.specs.ItemBuckets.{item_bucket as the_item_bucket, IsLast, AreLinked, IsLinkedTo};
+ghost use Rattle.earleyitems.specs.ItemBuckets.{AreWithin};
 ghost use Rattle.earleyitems.specs.ItemBuckets.{AreBuckets};
 
 use crate::item::{holds, same};

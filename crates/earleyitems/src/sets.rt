@@ -3,7 +3,8 @@ ghost use Rattle.std.specs.Prelude.{◌≡◌, ◌++◌, ◌∷◌, ℕ, List, [
 ghost use Rattle.flatgrammar.specs.Blocks.{block_of, AreHomes, AreSpotLists};
 ghost use Rattle.earleyitems.specs.Chosen.{AreCallers};
 ghost use Rattle.earleyitems.specs.SetViews.{expand};
-ghost use Rattle.earleyitems.specs.EarleySets.{EarleySet as kept_set, set_in, sets_in, AreBounds, AreStored, GoesOn, GoOn};
+ghost use Rattle.earleyitems.specs.EarleySets.{EarleySet as kept_set, set_in, sets_in, AreBounds, AreStored, GoesOn};
+ghost use Rattle.earleyitems.specs.EarleySets.{GoOn};
 ghost use Rattle.earleyitems.specs.EarleySets.{IsAppended};
 ghost use Rattle.earleyitems.specs.ItemHomes.{head_rows_with, AreCallersHomed, AreSetsHomed, AreWaitersHomed};
 ghost use Rattle.earleyitems.specs.Waiting.{IsKept};

@@ -15,7 +15,8 @@ use Rattle.flatgrammar.proofs.CallOfLemmas.{begun_starts}
 use Rattle.lazydfa.specs.declared.conts.Cont.{Cont}
 use Rattle.lazydfa.specs.declared.cache.State.{State}
 use Rattle.letterclasses.specs.Stacks as st
-use Rattle.letterclasses.specs.Stacks.{IsDoneAt, Moves, Led, led, moves, Reach, Accepts, ReadBy, IsReading, reading, Lifted}
+use Rattle.letterclasses.specs.Stacks.{IsDoneAt, Moves, Led, led, moves, Reach, Accepts, ReadBy, IsReading, reading}
+use Rattle.letterclasses.specs.Stacks.{Lifted}
 use Rattle.letterclasses.specs.Stacks.{IsFront, IsPlain, AreAlike, Empties}
 use Rattle.lazydfa.specs.Conts.{stack_of, last_of, AreKept, Adds, Begun}
 use Rattle.lazydfa.specs.Conts.{IsStackOf, TopReads, GoesOn, here, on, EndsAlone}

@@ -9,7 +9,8 @@ use Rattle.ruletable.specs.declared.sink.WriteFault.{WriteFault}
 use Rattle.toolrun.specs.Input.{Input}
 use Rattle.toolrun.specs.declared.stop.Stop.TheVariants.{Quiet, LongLine}
 use Rattle.toolrun.specs.declared.stop.Stop.TheVariants as stop
-use Rattle.linejudge.specs.InputLines.{IsNext, StandsAt, with_end, without_end, status_after, broken, overlong, finished}
+use Rattle.linejudge.specs.InputLines.{IsNext, StandsAt, with_end, without_end, status_after, broken, overlong}
+use Rattle.linejudge.specs.InputLines.{finished}
 use Rattle.linejudge.specs.LineSteps.{Answered, IsStep, step_behind}
 use Rattle.linejudge.specs.declared.answers.Answer.{Answer}
 use Rattle.linejudge.specs.declared.line.Line.TheVariants as line

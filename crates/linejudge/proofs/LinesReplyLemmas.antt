@@ -17,7 +17,8 @@ use Rattle.toolrun.specs.Status.{code_of}
 use Rattle.toolrun.specs.Stop.{message_of, status_of}
 use Rattle.toolrun.specs.declared.stop.Stop.{Stop}
 use Rattle.linejudge.specs.InputLines.{HasNoEnd, answer_text, behind, place_taken, IsLine, IsLastAt, StandsAt}
-use Rattle.linejudge.specs.InputLines.{with_end, without_end, Lines, none, one_more, LinesEnd, broken, overlong, finished}
+use Rattle.linejudge.specs.InputLines.{with_end, without_end, Lines, none, one_more, LinesEnd, broken, overlong}
+use Rattle.linejudge.specs.InputLines.{finished}
 use Rattle.linejudge.specs.LineRefusals.{LinesReply, Refusals, count_untold, is_told, none_told, one_told, stop_lines}
 use Rattle.linejudge.specs.declared.answers.Answer.{Answer}
 use Rattle.linejudge.specs.declared.line.LineForm.{LineForm}

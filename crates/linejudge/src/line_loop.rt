@@ -11,7 +11,8 @@ ghost use Rattle.toolrun.specs.RunSteps.{HasToldRun};
 ghost use Rattle.toolrun.specs.Stopped.{Fulfils};
 ghost use Rattle.toolrun.specs.Stream.{passed};
 ghost use Rattle.linejudge.specs.InputLines.{LinesEnd, Lines, place_taken, taken_at};
-ghost use Rattle.linejudge.specs.LineRefusals.{IsLong, LinesStates, MayLack, Tells, WhyStopped, count_untold, stop_lines};
+ghost use Rattle.linejudge.specs.LineRefusals.{IsLong, LinesStates, MayLack, Tells, WhyStopped, count_untold};
+ghost use Rattle.linejudge.specs.LineRefusals.{stop_lines};
 ghost use Rattle.linejudge.specs.LineSteps.{FitsIn, IsStep, IsToldEnding, step_behind};
 ghost use Rattle.toolrun.specs.declared.settings.TheConstants.{MAX_LIMIT};
 

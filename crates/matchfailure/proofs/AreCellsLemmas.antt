@@ -9,7 +9,8 @@ use Rattle.matchfailure.specs.declared.desk.frame.Frame.{Frame}
 use Rattle.matchfailure.specs.State.{IsStack, no_frame, bottom, above, AreCells}
 use Rattle.pegmatch.specs.CellOutcomes.{HasCell}
 use Rattle.pegmatch.proofs.AsksLemmas.{is_visited, visited_there}
-use Rattle.pegmatch.proofs.CodeLemmas.{In, in_cases, Differ, code, code_same, code_below, cell_codes, cell_of, not_among}
+use Rattle.pegmatch.proofs.CodeLemmas.{In, in_cases, Differ, code, code_same, code_below, cell_codes, cell_of}
+use Rattle.pegmatch.proofs.CodeLemmas.{not_among}
 use Rattle.pegmatch.proofs.CodeLemmas.{cells_differ, at_most_below}
 use Rattle.matchfailure.proofs.FrameCodesLemmas.{all_codes, length_codes}
 use Rattle.matchfailure.proofs.IsStackLemmas.{high, AreAbove, are_above, top_visits}

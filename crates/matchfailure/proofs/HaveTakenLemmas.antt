@@ -14,7 +14,8 @@ use Rattle.memo.specs.declared.found.Found.TheVariants.{Failed, Took}
 use Rattle.memo.specs.Entries.{Entry, found_at}
 use Rattle.matchfailure.specs.State.{HaveTaken, none_taken, one_taken, HaveFailed, none_failed, one_failed}
 use Rattle.pegmatch.specs.CellOutcomes.{HasCell, IsFound}
-use Rattle.pegmatch.specs.Visits.{NodeGives, NodeTakes, NodeFails, AsksMember, member_here, member_later, AsksAlternative}
+use Rattle.pegmatch.specs.Visits.{NodeGives, NodeTakes, NodeFails, AsksMember, member_here, member_later}
+use Rattle.pegmatch.specs.Visits.{AsksAlternative}
 use Rattle.pegmatch.specs.Visits.{alternative_here, alternative_later}
 use Rattle.pegmatch.proofs.NodeGivesLemmas.{gives_as, same_node}
 

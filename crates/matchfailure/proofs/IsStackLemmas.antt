@@ -10,7 +10,8 @@ use Rattle.memo.specs.declared.found.Found.{Found}
 use Rattle.memo.specs.Entries.{Entry, found_at}
 use Rattle.matchfailure.specs.declared.desk.frame.Frame.{Frame}
 use Rattle.matchfailure.specs.declared.desk.turn.Turn.TheVariants.{Ask, Answer}
-use Rattle.matchfailure.specs.State.{IsPut, none_taken, none_failed, HasCome, IsUnderWay, IsOpen, IsStack, no_frame, bottom}
+use Rattle.matchfailure.specs.State.{IsPut, none_taken, none_failed, HasCome, IsUnderWay, IsOpen, IsStack, no_frame}
+use Rattle.matchfailure.specs.State.{bottom}
 use Rattle.matchfailure.specs.State.{above, AreCells, HasNoFrame, AreUnderWay}
 use Rattle.pegmatch.specs.CellOutcomes.{HasCell}
 use Rattle.matchfailure.specs.Turns.{IsTurn}

@@ -19,7 +19,8 @@ use Rattle.matchfailure.specs.declared.desk.turn.Turn.{Turn}
 use Rattle.matchfailure.specs.declared.desk.turn.Turn.TheVariants.{Ask, Answer, Need}
 use Rattle.matchfailure.specs.State.{HasCome, IsUnderWay}
 use Rattle.pegmatch.specs.CellOutcomes.{HasCell, IsFound}
-use Rattle.matchfailure.specs.Turns.{same_turn, again_turn, opt_turn, and_turn, not_turn, star_turn, plus_turn, IsLeafTurn}
+use Rattle.matchfailure.specs.Turns.{same_turn, again_turn, opt_turn, and_turn, not_turn, star_turn, plus_turn}
+use Rattle.matchfailure.specs.Turns.{IsLeafTurn}
 use Rattle.matchfailure.specs.Turns.{IsWalk, IsSearch, IsTurn}
 use Rattle.pegmatch.specs.Visits.{AsksBy, Asks}
 use Rattle.pegmatch.proofs.AsksLemmas.{asks_body}
@@ -27,7 +28,8 @@ use Rattle.pegmatch.proofs.GivesLemmas.{name_gives, opt_gives_takes, opt_gives_n
 use Rattle.pegmatch.proofs.GivesLemmas.{not_gives_takes, not_gives_fails, star_gives_none, star_gives_more}
 use Rattle.pegmatch.proofs.GivesLemmas.{star_never_fails, plus_gives_fails, plus_gives_takes, plus_star}
 use Rattle.matchfailure.proofs.HaveTakenLemmas.{ends_alike, nor_both, takes_by, asks_member, asks_alternative, all_fail}
-use Rattle.matchfailure.proofs.HaveTakenLemmas.{fail_closed, all_take, take_closed, first_found, found_closed, none_found}
+use Rattle.matchfailure.proofs.HaveTakenLemmas.{fail_closed, all_take, take_closed, first_found, found_closed}
+use Rattle.matchfailure.proofs.HaveTakenLemmas.{none_found}
 use Rattle.matchfailure.proofs.HaveTakenLemmas.{none_closed}
 
 module _ (rules : List Rule) (start : ℕ) (nodes : List Shape) (bodies ranks x : List ℕ) (more : Bool)

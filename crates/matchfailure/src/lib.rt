@@ -1,4 +1,5 @@
-//! Explains where a unit does not match: the plain packrat machine, the farthest failures, and the lines that report them.
+//! Explains where a unit does not match: the plain packrat machine, the farthest failures, and the lines that report
+//! them.
 #![tactic(auto)]
 
 mod desk;
@@ -10,6 +11,6 @@ pub use explain::{
     TextPlace, explain_long_unit, explain_no_match, fails_so_in_input, one_no_match,
 };
 pub use farthest::{
-    Told, Visit, failing_leaf_stops, farthest_failure, farthest_or_none, one_farthest, stops_fail,
-    told_unit,
+    Farthest, Told, Visit, failing_leaf_stops, farthest_failure, farthest_is_within,
+    farthest_or_none, one_farthest, same_on_longer, stops_fail, told_unit,
 };

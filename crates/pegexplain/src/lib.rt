@@ -18,7 +18,7 @@ mod stand;
 mod ways;
 
 pub use explain::explain_fault;
-pub use hints::{MAX_HINTS, one_text_of_hints, peg_hints};
+pub use hints::{MAX_HINTS, never_taken, one_text_of_hints, peg_hints};
 pub use laws::one_explanation;
 pub use left_lines::{MAX_STEPS, push_steps};
 pub use left_notes::MAX_WAYS;

@@ -17,4 +17,5 @@ pub use laws::{answer_stands, need_stands, one_answer};
 pub use leaves::{Tried, match_any, match_bytes, match_set};
 pub use matcher::{Matcher, ReplayFault, Unit};
 pub use plain::Plain;
+pub use visits::visits_are_within;
 pub use writing::{Capture, NO_CAPTURE, capture_after, write_event};

@@ -7,7 +7,8 @@ use Rattle.fixpoint.specs.Way.{At}
 use Rattle.shortestpaths.specs.Distances.{Steps, no_step, Distance}
 use Rattle.shortestpaths.specs.Fills.{Down, top, below}
 use Rattle.shortestpaths.specs.ShortChains.{AreBacks, Back, ChainTo, at_start, behind, IsChainIfReached}
-use Rattle.shortestpaths.proofs.DistanceLemmas.{distance_is_one, last_is_nearer, last_step, no_step_stays, start_is_near}
+use Rattle.shortestpaths.proofs.DistanceLemmas.{distance_is_one, last_is_nearer, last_step, no_step_stays}
+use Rattle.shortestpaths.proofs.DistanceLemmas.{start_is_near}
 
 module _ (rows : List (List ℕ)) (s : ℕ) where
   none_before_start : (u : ℕ) → Back rows s s u → ⊥

@@ -1,6 +1,7 @@
 //! What is told of runs of letters.
 ghost use Rattle.std.specs.Prelude.{◌≡◌, ◌≤◌, ◌++◌, option_to_list, IfOk, IfSome, OnOk};
-ghost use Rattle.refusedlines.specs.ToldLetters.{is_short, is_single, other_case, told_letter, told_letters, told_plain};
+ghost use Rattle.refusedlines.specs.ToldLetters.{is_short, is_single, other_case, told_letter, told_letters};
+ghost use Rattle.refusedlines.specs.ToldLetters.{told_plain};
 ghost use Rattle.refusedlines.specs.ToldLetters.{told_run};
 
 use crate::letterruns::run::LetterRun;

@@ -1,6 +1,7 @@
 use Rattle.std.proofs.Common.{◌-◌, ◌<◌, arith, rules}
 use Rattle.earleyitems.proofs.AreBucketsLemmas.{get_index}
-use Rattle.earleyitems.proofs.ListAllLemmas.{chain_within, chain_next, along_start, along_next, along_skipped, along_end}
+use Rattle.earleyitems.proofs.ListAllLemmas.{chain_within, chain_next, along_start, along_next, along_skipped}
+use Rattle.earleyitems.proofs.ListAllLemmas.{along_end}
 use Rattle.earleyitems.proofs.fill.complete_listed.Goals as goal
 
 pub loop-at-init : goal.loop-at-init

@@ -2,7 +2,8 @@ use Rattle.std.proofs.Common.{refl}
 use Rattle.std.proofs.lemmas.Bool.{both_ways}
 use Rattle.std.proofs.lemmas.List.{length-map}
 use Rattle.pegnodes.specs.Nodes.{shape_of}
-use Rattle.matchfailure.proofs.IsStepLemmas.{read_top, some_frame, is_top, fits_at_most, pushed_step, dropped_step, ended_here}
+use Rattle.matchfailure.proofs.IsStepLemmas.{read_top, some_frame, is_top, fits_at_most, pushed_step, dropped_step}
+use Rattle.matchfailure.proofs.IsStepLemmas.{ended_here}
 use Rattle.matchfailure.proofs.IsStepLemmas.{ended_step}
 use Rattle.matchfailure.proofs.desk.desk.step_on.Goals as goal
 

@@ -5,7 +5,8 @@ use Rattle.pegnodes.specs.Nodes.{shapes_of, spells_any, spells_bytes, spells_set
 use Rattle.pegnodes.specs.Nodes.{spells_close}
 use Rattle.gramcheck.specs.Outcome.{act, open_at, close_at}
 use Rattle.pegmatch.proofs.NodeShapeLemmas.{shape_at}
-use Rattle.matchfailure.proofs.IsTurnLemmas.{leaf_turns, mark_turns, name_is_turn, opt_is_turn, and_is_turn, not_is_turn}
+use Rattle.matchfailure.proofs.IsTurnLemmas.{leaf_turns, mark_turns, name_is_turn, opt_is_turn, and_is_turn}
+use Rattle.matchfailure.proofs.IsTurnLemmas.{not_is_turn}
 use Rattle.matchfailure.proofs.IsTurnLemmas.{star_is_turn, plus_is_turn, seq_is_turn, choice_is_turn}
 use Rattle.matchfailure.proofs.desk.turn.next_turn.Goals as goal
 

@@ -3,7 +3,8 @@ use Rattle.pegnodes.specs.Nodes.{shapes_of}
 use Rattle.matchfailure.proofs.StoppedLemmas.{found_stops, none_stops, stopped_begins, stopped_same, stopped_more}
 use Rattle.matchfailure.proofs.StoppedLemmas.{stopped_ends, stops_once}
 use Rattle.matchfailure.proofs.farthest.greatest.stopped_at.Goals as goal
-use Rattle.matchfailure.proofs.farthest.greatest.stopped_at.Goals.{in-Some+then-stop-place+in_ok-push, in-Some+else-stop-place}
+use Rattle.matchfailure.proofs.farthest.greatest.stopped_at.Goals.{in-Some+then-stop-place+in_ok-push}
+use Rattle.matchfailure.proofs.farthest.greatest.stopped_at.Goals.{in-Some+else-stop-place}
 use Rattle.matchfailure.proofs.farthest.greatest.stopped_at.Goals.{in_default}
 
 pub loop-visit-init : goal.loop-visit-init
