@@ -222,39 +222,39 @@ module _ (rules : List Rule) (start : Option (List ℕ)) (names : Rules (Unit {0
       ∙ drop-append_seam (rule_names rules) (news Exact (rule_names rules) seen)
       ∙ news-start start rules (names_used rules)
 
-  -- all notes
-  told-of : (f : List ℕ → Said) (marks : List Bool) → map f (chosen marks (rule_names rules))
-      ≡ map (λ rule. f rule.name) (chosen marks rules)
-  told-of f marks = ap (map f) (chosen-map (λ rule. rule.name) marks rules)
-      ∙ map-map f (λ rule. rule.name) (chosen marks rules)
+-- all notes
+told-of : (rules : List Rule) (f : List ℕ → Said) (marks : List Bool) → map f (chosen marks (rule_names rules))
+    ≡ map (λ rule. f rule.name) (chosen marks rules)
+told-of rules f marks = ap (map f) (chosen-map (λ rule. rule.name) marks rules)
+    ∙ map-map f (λ rule. rule.name) (chosen marks rules)
 
-  pub are-notes : (redefined : List ℕ) (again unused recursive looping : List Bool) (notes : List Said)
-      → AreMarks (λ rule. Contains (names_at rules redefined) rule.name) rules again →
-      AreMarks (IsUnused start rules) rules unused → AreMarks (IsLeftRecursive rules) rules recursive
-      → AreMarks (Loops rules) rules looping →
-      notes ≡ map (said Redefined) (chosen again (rule_names rules))
-      ++ (map (said Undefined) (drop (length rules) (names_of names))
-      ++ (map (said Unused) (chosen unused (rule_names rules))
-      ++ (map (said LeftRecursion) (chosen recursive (rule_names rules))
-      ++ map (said Loop) (chosen looping (rule_names rules))))) →
-      AreNotes rules (names_at rules redefined) start notes
-  are-notes redefined again unused recursive looping notes agains outs lefts loops h = record {
-    redefined = chosen again rules;
-    unused = chosen unused rules;
-    recursive = chosen recursive rules;
-    looping = chosen looping rules;
-    are_redefined = those-chosen _ rules again agains;
-    are_unused = those-chosen _ rules unused outs;
-    are_recursive = those-chosen _ rules recursive lefts;
-    are_looping = those-chosen _ rules looping loops;
-    all = h ∙ rw (
-      told-of (said Redefined) again,
-      undefined-names,
-      told-of (said Unused) unused,
-      told-of (said LeftRecursion) recursive,
-      told-of (said Loop) looping,
-    ) refl;
-  }
+pub are-notes : (rules : List Rule) (start : Option (List ℕ)) (redefined : List ℕ)
+    (again unused recursive looping : List Bool) (notes : List Said)
+    → AreMarks (λ rule. Contains (names_at rules redefined) rule.name) rules again →
+    AreMarks (IsUnused start rules) rules unused → AreMarks (IsLeftRecursive rules) rules recursive
+    → AreMarks (Loops rules) rules looping →
+    notes ≡ map (said Redefined) (chosen again (rule_names rules))
+    ++ (map (said Undefined) (news Exact (rule_names rules) (option_to_list start ++ names_used rules))
+    ++ (map (said Unused) (chosen unused (rule_names rules))
+    ++ (map (said LeftRecursion) (chosen recursive (rule_names rules))
+    ++ map (said Loop) (chosen looping (rule_names rules))))) →
+    AreNotes rules (names_at rules redefined) start notes
+are-notes rules start redefined again unused recursive looping notes agains outs lefts loops h = record {
+  redefined = chosen again rules;
+  unused = chosen unused rules;
+  recursive = chosen recursive rules;
+  looping = chosen looping rules;
+  are_redefined = those-chosen _ rules again agains;
+  are_unused = those-chosen _ rules unused outs;
+  are_recursive = those-chosen _ rules recursive lefts;
+  are_looping = those-chosen _ rules looping loops;
+  all = h ∙ rw (
+    told-of rules (said Redefined) again,
+    told-of rules (said Unused) unused,
+    told-of rules (said LeftRecursion) recursive,
+    told-of rules (said Loop) looping,
+  ) refl;
+}
 
 -- the notes on rules that are defined again, alone
 pub redefinitions-are : (rules : List Rule) (redefined : List ℕ) (again : List Bool) (notes : List Said)
@@ -264,6 +264,5 @@ pub redefinitions-are : (rules : List Rule) (redefined : List ℕ) (again : List
 redefinitions-are rules redefined again notes marks h = record {
   redefined = chosen again rules;
   are_redefined = those-chosen _ rules again marks;
-  all = h ∙ ap (map (said Redefined)) (chosen-map (λ rule. rule.name) again rules)
-      ∙ map-map (said Redefined) (λ rule. rule.name) (chosen again rules);
+  all = h ∙ told-of rules (said Redefined) again;
 }

@@ -1,11 +1,17 @@
 //! The notes on a grammar.
-ghost use Rattle.std.specs.Prelude.{◌≡◌, ℕ, List, length, map, Option, IfOk, option_copied};
+ghost use Rattle.std.specs.Prelude.{◌≡◌, ◌++◌, ℕ, Bool, List, length, map, not, Contains, Option, IfOk};
+ghost use Rattle.std.specs.Prelude.{option_copied, option_to_list};
 ghost use Rattle.std.specs.List.{list_any};
-ghost use Rattle.ruletable.specs.Notes.{Said, said_of};
+ghost use Rattle.ruletable.specs.Notes.{Said, said, said_of};
+ghost use Rattle.ruletable.specs.Rules.{names_of};
+ghost use Rattle.rulenames.specs.FirstUses.{news};
+ghost use Rattle.rulenames.specs.IdMarks as id_marks;
+ghost use Rattle.rulenames.specs.IdMarks.{chosen};
 ghost use Rattle.pegread.specs.Pattern.{Rule};
 ghost use Rattle.pegread.specs.PegViews.{rules_of};
 ghost use Rattle.gramcheck.specs.Left.{IsLeftRecursive, Loops};
-ghost use Rattle.gramcheck.specs.GrammarNotes.{AreMarks, AreNotes, AreRedefinitions, names_at, said_refuses};
+ghost use Rattle.gramcheck.specs.GrammarNotes.{AreMarks, AreNotes, AreRedefinitions, IsUnused, names_at, said_refuses};
+ghost use Rattle.gramcheck.specs.Uses.{names_used, rule_names};
 
 use crate::uses::uses_of;
 use pegread::{Expr, Peg};
@@ -34,17 +40,66 @@ pub(crate) fn notes(
         AreNotes (rules_of rules.now) (names_at (rules_of rules.now) redefined.now) (option_copied start.entry)
         (map said_of notes.items)) }
 {
-    let uses = uses_of(alloc, rules, start)?;
-    let again = marks_at(alloc, redefined, rules.len())?;
-    let used = marks_at(alloc, &uses.ids, rules.len())?;
-    let unused = opposites(alloc, &used)?;
     let mut notes = Vec::new(alloc);
-    note_marked(alloc, rules, &again, NoteKind::Redefined, &mut notes)?;
-    note_undefined(alloc, &uses.names, rules.len(), &mut notes)?;
-    note_marked(alloc, rules, &unused, NoteKind::Unused, &mut notes)?;
+    note_redefined(alloc, rules, redefined, &mut notes)?;
+    note_uses(alloc, rules, start, &mut notes)?;
     note_marked(alloc, rules, recursive, NoteKind::LeftRecursion, &mut notes)?;
     note_marked(alloc, rules, looping, NoteKind::Loop, &mut notes)?;
     Ok(notes)
+}
+
+// Adds a note for each rule with an id in `redefined`.
+fn note_redefined(
+    alloc: Global,
+    rules: &RuleTable<Expr>,
+    redefined: &[usize],
+    notes: &mut Vec<Note>,
+) -> Result<(), Memory>
+    requires { rules.now.names ≡ NameCase.Exact }
+    ensures { IfOk result (λ _. (again : List Bool)
+        × AreMarks (λ rule. Contains (names_at (rules_of rules.now) redefined.now) rule.name) (rules_of rules.now) again
+        × (map said_of notes.new.items ≡ map said_of notes.old.items
+        ++ map (said NoteKind.Redefined) (chosen again (names_of rules.now)))) }
+{
+    let again = marks_at(alloc, redefined, rules.len())?;
+    note_marked(alloc, rules, &again, NoteKind::Redefined, notes)
+}
+
+// Adds the notes on names that no rule has, and then those on rules that are not used.
+fn note_uses(
+    alloc: Global,
+    rules: &RuleTable<Expr>,
+    start: Option<&str>,
+    notes: &mut Vec<Note>,
+) -> Result<(), Memory>
+    requires { rules.now.names ≡ NameCase.Exact }
+    ensures { IfOk result (λ _. (unused : List Bool)
+        × AreMarks (IsUnused (option_copied start.entry) (rules_of rules.now)) (rules_of rules.now) unused
+        × (map said_of notes.new.items ≡ (map said_of notes.old.items
+        ++ map (said NoteKind.Undefined) (news NameCase.Exact (rule_names (rules_of rules.now))
+        (option_to_list (option_copied start.entry) ++ names_used (rules_of rules.now))))
+        ++ map (said NoteKind.Unused) (chosen unused (names_of rules.now)))) }
+{
+    let uses = uses_of(alloc, rules, start)?;
+    note_undefined(alloc, &uses.names, rules.len(), notes)?;
+    note_unused(alloc, rules, &uses.ids, notes)
+}
+
+// Adds a note for each rule with an id that is not in `used`.
+fn note_unused(
+    alloc: Global,
+    rules: &RuleTable<Expr>,
+    used: &[usize],
+    notes: &mut Vec<Note>,
+) -> Result<(), Memory>
+    ensures { IfOk result (λ _. (marks : List Bool)
+        × id_marks.AreMarks (Contains used.now) (length rules.now.rules) marks
+        × (map said_of notes.new.items ≡ map said_of notes.old.items
+        ++ map (said NoteKind.Unused) (chosen (map not marks) (names_of rules.now)))) }
+{
+    let marks = marks_at(alloc, used, rules.len())?;
+    let unused = opposites(alloc, &marks)?;
+    note_marked(alloc, rules, &unused, NoteKind::Unused, notes)
 }
 
 /// Returns the notes on the rules that a grammar defines again, alone, by the order of the rules.
@@ -55,9 +110,8 @@ pub fn redefinitions(alloc: Global, peg: &Peg) -> Result<Vec<Note>, Memory>
     ensures { IfOk result (λ notes. AreRedefinitions (rules_of peg.now.rules)
         (names_at (rules_of peg.now.rules) peg.now.redefined.items) (map said_of notes.items)) }
 {
-    let again = marks_at(alloc, &peg.redefined, peg.rules.len())?;
     let mut notes = Vec::new(alloc);
-    note_marked(alloc, &peg.rules, &again, NoteKind::Redefined, &mut notes)?;
+    note_redefined(alloc, &peg.rules, &peg.redefined, &mut notes)?;
     Ok(notes)
 }
 

@@ -19,11 +19,9 @@ use pegread::Expr;
 use ruletable::RuleTable;
 use std::marker::Model;
 
-/// What is known of a grammar's nodes.
+/// The tables of a grammar's nodes.
 #[derive(Drop)]
 pub(crate) struct Tables {
-    /// Of each node its rank.
-    pub(crate) ranks: Vec<usize>,
     /// Of each node whether it may print.
     pub(crate) printing: Vec<bool>,
     /// The cuts of the actions' templates.
@@ -94,10 +92,15 @@ impl Model for SoundPeg {
 }
 
 impl SoundPeg {
-    /// Returns the grammar of these rules and nodes, with the tables of its nodes.
-    pub(crate) fn new(rules: RuleTable<Expr>, start: usize, cut: Cut, tables: Tables) -> SoundPeg
-        requires ranked { IsRanked (rules_of rules) start (shapes_of cut.nodes.items) cut.bodies.items
-            tables.ranks.items }
+    /// Returns the grammar of these rules and nodes, with the ranks and the tables of its nodes.
+    pub(crate) fn new(
+        rules: RuleTable<Expr>,
+        start: usize,
+        cut: Cut,
+        ranks: Vec<usize>,
+        tables: Tables,
+    ) -> SoundPeg
+        requires ranked { IsRanked (rules_of rules) start (shapes_of cut.nodes.items) cut.bodies.items ranks.items }
         requires printing { ArePrintMarks (rules_of rules) (shapes_of cut.nodes.items) tables.printing.items }
         requires templates { AreCuts (shapes_of cut.nodes.items) tables.templates.places.items
             tables.templates.cuts.items }
@@ -118,7 +121,7 @@ impl SoundPeg {
             start,
             nodes: cut.nodes,
             bodies: cut.bodies,
-            ranks: tables.ranks,
+            ranks,
             printing: tables.printing,
             templates: tables.templates,
             keys: tables.keys,
