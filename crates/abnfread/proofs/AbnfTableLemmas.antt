@@ -8,17 +8,13 @@ use Rattle.std.proofs.lemmas.Bool.{ltb-false, le-ltb}
 use Rattle.ruletable.specs.Rules.{same_name}
 use Rattle.ruletable.specs.declared.table.NameCase.TheVariants.{Fold}
 use Rattle.abnfread.specs.Element.{Element, Rule, Definition}
-use Rattle.abnfread.specs.AbnfTable.{with_alternatives, id_in, added, extended, begun, grown, firsts}
+use Rattle.abnfread.specs.AbnfTable.{with_alternatives, id_in, added, extended, begun, grown, firsts, grow_named}
 
 abbrev with_body : Rule → Element → Rule
 with_body rule x = record { name = rule.name; body = x; span = rule.span }
 
 abbrev pub name_of : Rule → List ℕ
 name_of rule = rule.name
-
--- the definition's body is added to the rule that it names
-abbrev pub grow_named : Definition → Rule → Rule
-grow_named d rule = cond (same_name Fold d.name rule.name) (with_body rule (with_alternatives rule.body d.body)) rule
 
 -- what one definition does to the rules so far
 abbrev pub take_definition : (List ℕ → Option Element) → List Rule → Definition → List Rule

@@ -11,18 +11,17 @@ use Rattle.std.proofs.lemmas.Option.{get_or_from_slice_get}
 use Rattle.ruletable.proofs.TableLemmas.{position-map}
 use Rattle.ruletable.specs.Rules as table
 use Rattle.ruletable.specs.Rules.{find_in, key_of, same_name, Defines, HasUniqueNames, set_body}
-use Rattle.ruletable.specs.declared.table.Defined.{Defined}
-use Rattle.ruletable.specs.declared.table.Defined.TheVariants.{Added, Duplicate}
 use Rattle.ruletable.specs.declared.table.NameCase.TheVariants.{Fold}
 use Rattle.abnfread.specs.declared.elem.Elem.{Elem}
 use Rattle.abnfread.specs.declared.reader.Definition.{Definition as CodeDefinition}
 use Rattle.abnfread.specs.AbnfReader.{definition_from}
 use Rattle.abnfread.specs.AbnfTable.{with_alternatives, id_in, begun, firsts, agains, is_early, earlies, IsTableOf}
-use Rattle.abnfread.specs.AbnfTable.{IsFirstBody, IsExtended}
+use Rattle.abnfread.specs.AbnfTable.{IsExtended, grow_named, TakesDefinition}
+use Rattle.abnfread.specs.AbnfTable.{grows, redefines, extends, begins}
 use Rattle.abnfread.specs.CoreRules.{core_list}
 use Rattle.abnfread.specs.Element.{Element, Rule, Definition, body_of}
 use Rattle.abnfread.specs.AbnfViews.{element_of, rule_of, rules_of}
-use Rattle.abnfread.proofs.AbnfTableLemmas.{name_of, grow_named, grow-names, take_all, take-all}
+use Rattle.abnfread.proofs.AbnfTableLemmas.{name_of, grow-names, take_all, take-all}
 use Rattle.abnfread.proofs.CoreRuleLemmas.{found-in, some-one}
 
 abbrev pub core : List ℕ → Option Element
@@ -167,21 +166,6 @@ pub goes-new : (all : List Definition) (rules new : table.Rules Elem) (redefined
 goes-new all rules new redefined early d ds g is f folds same = goes-begun all rules redefined early d ds g new false is
     f folds same early refl
 
--- the rule that a definition begins
-pub begun-rules : (d : CodeDefinition) (old new : table.Rules Elem) (e : Elem) (b : Bool) (x : Defined)
-    → find_in old d.name.now ≡ None → IsFirstBody (definition_from d) e b
-    → Defines old new (record { name = d.name.now; body = e; span = d.span }) x →
-    (new.names ≡ old.names) × (rules_of new ≡ rules_of old ++ begun core (definition_from d) ∷ [])
-begun-rules d old new e b (Added id) f h k = (
-  ap (λ (t : table.Rules Elem). t.names) k.2,
-  ap rules_of k.2 ∙ map-append rule_of old.rules (record { name = d.name.now; body = e; span = d.span } ∷ [])
-      ∙ ap (λ (y : Element). rules_of old ++ record { name = d.name.now; body = y; span = d.span } ∷ []) h.0,
-)
-begun-rules d old new e b (Duplicate id) f h k = absurd (some-none (sym k.0 ∙ f))
-  where
-    some-none : {A : Type 0} {a : A} → Some a ≡ None → ⊥
-    some-none e = cc
-
 -- another body of the rule that a definition names
 abbrev row_body : table.Rule Elem → Elem
 row_body row = row.body
@@ -267,40 +251,21 @@ length-set [] id x = refl
 length-set (row ∷ rows) zero x = refl
 length-set (row ∷ rows) (suc id) x = ap suc (length-set rows id x)
 
--- what the code does with one definition
-module _ (all : List Definition) (rules : table.Rules Elem) (redefined early : List ℕ)
-    (given rest : List CodeDefinition) (d : CodeDefinition)
-    (g : Goes all rules redefined early (map definition_from given)) (s : given ≡ d ∷ rest) (o : Option ℕ)
-    (found : o ≡ find_in rules d.name.now) where
-  one-left : Goes all rules redefined early (definition_from d ∷ map definition_from rest)
-  one-left = let h = g in rw s at h
+-- one definition more
+taken : (all : List Definition) (old new : table.Rules Elem) (redefined early others more : List ℕ) (d : Definition)
+    (left : List Definition) → Goes all old redefined early (d ∷ left)
+    → TakesDefinition d old redefined early new others more → Goes all new others more left
+taken all old _ redefined early _ _ d left g (grows id new f e names same) =
+    goes-grown all old redefined early d left g id new f e names same
+taken all old _ redefined early _ _ d left g (redefines id f e) = goes-again all old redefined early d left g id f e
+taken all old _ redefined early _ _ d left g (extends new f b) =
+    goes-early all old new redefined early d left (length old.rules) g (sym b.is) f b.names b.rules refl
+taken all old _ redefined early _ _ d left g (begins new f b) =
+    goes-new all old new redefined early d left g (sym b.is) f b.names b.rules
 
-  pub names-again : (id : ℕ) (others : List ℕ) → o ≡ Some id → d.adds ≡ false → others ≡ redefined ++ id ∷ []
-      → Goes all rules others early (map definition_from rest)
-  names-again id others is e push = rw push (goes-again all rules redefined early (definition_from d)
-      (map definition_from rest) one-left id (sym found ∙ is) e)
-
-  pub adds-more : (id : ℕ) (new : table.Rules Elem) → HasUniqueNames rules → o ≡ Some id → d.adds ≡ true
-      → IsExtended rules new id (element_of d.body) → Goes all new redefined early (map definition_from rest)
-  adds-more id new unique is e x =
-      let f = sym found ∙ is in
-      let both = extended-rules (definition_from d) rules new id g.names unique f x in
-      goes-grown all rules redefined early (definition_from d) (map definition_from rest) one-left id new f e both.0
-      both.1
-
-  module _ (new : table.Rules Elem) (e : Elem) (x : Defined) (is : o ≡ None)
-      (defines : Defines rules new (record { name = d.name.now; body = e; span = d.span }) x) where
-    pub begins-early : (n : ℕ) (others : List ℕ) → IsFirstBody (definition_from d) e true → n ≡ length rules.rules
-        → others ≡ early ++ n ∷ [] → Goes all new redefined others (map definition_from rest)
-    begins-early n others first at push =
-        let f = sym found ∙ is in
-        let both = begun-rules d rules new e true x f first defines in
-        rw push (goes-early all rules new redefined early (definition_from d) (map definition_from rest) n one-left
-        (sym first.1) f both.0 both.1 at)
-
-    pub begins-new : IsFirstBody (definition_from d) e false → Goes all new redefined early (map definition_from rest)
-    begins-new first =
-        let f = sym found ∙ is in
-        let both = begun-rules d rules new e false x f first defines in
-        goes-new all rules new redefined early (definition_from d) (map definition_from rest) one-left (sym first.1) f
-        both.0 both.1
+pub goes-on : (all : List Definition) (old new : table.Rules Elem) (redefined early others more : List ℕ)
+    (given rest : List CodeDefinition) (d : CodeDefinition) → Goes all old redefined early (map definition_from given)
+    → given ≡ d ∷ rest → TakesDefinition (definition_from d) old redefined early new others more
+    → Goes all new others more (map definition_from rest)
+goes-on all old new redefined early others more given rest d g s t =
+    taken all old new redefined early others more (definition_from d) (map definition_from rest) (rw s at g) t

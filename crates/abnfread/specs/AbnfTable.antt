@@ -1,9 +1,9 @@
 -- The table of a list of definitions (RFC 5234, sections 2.2 and 3.3): names compare without case, `=/` adds
 -- alternatives, and core rules are there.
-use Rattle.std.specs.Prelude.{◌≡◌, ℕ, suc, Bool, true, false, cond, ◌&&◌, List, [], ◌∷◌, ◌++◌, position, slice_get}
-use Rattle.std.specs.Prelude.{Option, Some, None}
+use Rattle.std.specs.Prelude.{◌≡◌, ℕ, suc, Bool, true, false, cond, ◌&&◌, List, [], ◌∷◌, ◌++◌, map, length}
+use Rattle.std.specs.Prelude.{position, slice_get, Option, Some, None}
 use Rattle.ruletable.specs.Rules as table
-use Rattle.ruletable.specs.Rules.{same_name}
+use Rattle.ruletable.specs.Rules.{find_in, same_name}
 use Rattle.ruletable.specs.declared.table.NameCase.TheVariants.{Fold}
 use Rattle.abnfread.specs.declared.elem.Elem.{Elem}
 use Rattle.abnfread.specs.CoreRules.{core_list}
@@ -102,3 +102,26 @@ pub record IsExtended (old new : table.Rules Elem) (id : ℕ) (more_body : Eleme
 pub record IsTaken {E : Type 0} (old : table.Rules E) (id : ℕ) (new : table.Rules E) : Type 0 where
   pub body : E
   pub is : new ≡ table.with_body old id body
+
+-- a rule, with the definition's body after its own if the definition names it
+abbrev pub grow_named : Definition → Rule → Rule
+grow_named d rule = cond (same_name Fold d.name rule.name)
+    (record { name = rule.name; body = with_alternatives rule.body d.body; span = rule.span }) rule
+
+-- the definition begins a rule after the others, and the flag says whether it extends what no core rule defines
+pub record IsBegun (d : Definition) (old new : table.Rules Elem) (early : Bool) : Type 0 where
+  pub names : new.names ≡ old.names
+  pub rules : rules_of new ≡ rules_of old ++ begun (body_of core_list) d ∷ []
+  pub is : early ≡ is_early (body_of core_list) d
+
+-- what one definition more makes of the rules and of both lists of ids
+pub data TakesDefinition (d : Definition) (old : table.Rules Elem) (redefined early : List ℕ) : table.Rules Elem
+    → List ℕ → List ℕ → Type 0 where
+  grows : (id : ℕ) (new : table.Rules Elem) → find_in old d.name ≡ Some id → d.adds ≡ true → new.names ≡ old.names
+      → rules_of new ≡ map (grow_named d) (rules_of old) → TakesDefinition d old redefined early new redefined early
+  redefines : (id : ℕ) → find_in old d.name ≡ Some id → d.adds ≡ false
+      → TakesDefinition d old redefined early old (redefined ++ id ∷ []) early
+  extends : (new : table.Rules Elem) → find_in old d.name ≡ None → IsBegun d old new true
+      → TakesDefinition d old redefined early new redefined (early ++ length old.rules ∷ [])
+  begins : (new : table.Rules Elem) → find_in old d.name ≡ None → IsBegun d old new false
+      → TakesDefinition d old redefined early new redefined early

@@ -1,10 +1,10 @@
 //! The table of a file's definitions.
-ghost use Rattle.std.specs.Prelude.{◌≡◌, ◌<◌, length, slice_get, Some, IfOk};
-ghost use Rattle.ruletable.specs.Rules.{bodies_of};
+ghost use Rattle.std.specs.Prelude.{◌≡◌, ◌<◌, length, slice_get, None, Some, IfOk};
+ghost use Rattle.ruletable.specs.Rules.{bodies_of, find_in};
 ghost use Rattle.ruletable.specs.declared.table.NameCase.TheVariants.{Fold};
 ghost use Rattle.abnfread.specs.AbnfReader.{definition_from, definitions_from};
 ghost use Rattle.abnfread.specs.AbnfTable.{alternatives_of as alternatives, with_alternatives, IsTableOf, IsCoreTable};
-ghost use Rattle.abnfread.specs.AbnfTable.{IsFirstBody, IsExtended, IsTaken};
+ghost use Rattle.abnfread.specs.AbnfTable.{IsFirstBody, IsExtended, IsTaken, IsBegun, TakesDefinition};
 ghost use Rattle.abnfread.specs.AbnfViews.{element_of, elements_of};
 
 use crate::appendix::{core_body, core_rules};
@@ -66,7 +66,8 @@ fn take_body(alloc: Global, rules: &mut RuleTable<Elem>, id: usize) -> Elem
 // Adds the alternatives of a body to a rule. After an error the table is of no use.
 fn extend(alloc: Global, rules: &mut RuleTable<Elem>, id: usize, body: Elem) -> Result<(), Memory>
     requires { id < length rules.old.rules }
-    ensures { IfOk result (λ _. IsExtended rules.old rules.new id (element_of body)) }
+    ensures body { IfOk result (λ _. IsExtended rules.old rules.new id (element_of body)) }
+    ensures names { rules.new.names ≡ rules.old.names }
 {
     let old = take_body(alloc, rules, id);
     let new = join(alloc, old, body)?;
@@ -96,6 +97,51 @@ fn first_body(
     }
 }
 
+// Adds the rule of a definition, and returns whether it extends what no core rule defines.
+fn begin_rule(
+    alloc: Global,
+    core: &RuleTable<Elem>,
+    rules: &mut RuleTable<Elem>,
+    definition: Definition<'_>,
+) -> Result<bool, Memory>
+    requires core { IsCoreTable core.now }
+    requires is_new { find_in rules.old definition.name.now ≡ None }
+    ensures begun { IfOk result (λ early. IsBegun (definition_from definition.entry) rules.old rules.new early) }
+    ensures names { rules.new.names ≡ rules.old.names }
+{
+    let name = definition.name;
+    let span = definition.span;
+    let (body, early) = first_body(alloc, core, definition)?;
+    rules.define(name, body, span)?;
+    Ok(early)
+}
+
+// Takes one definition more. After an error the tables are of no use.
+fn take_definition(alloc: Global, abnf: &mut Abnf, definition: Definition<'_>) -> Result<(), Memory>
+    requires { IsCoreTable abnf.old.core }
+    ensures taken { IfOk result (λ _. TakesDefinition (definition_from definition.entry) abnf.old.rules
+        abnf.old.redefined.items abnf.old.extended.items abnf.new.rules abnf.new.redefined.items
+        abnf.new.extended.items) }
+    ensures core { abnf.new.core ≡ abnf.old.core }
+{
+    let next = abnf.rules.len();
+    match abnf.rules.find(definition.name)? {
+        Some(id) => {
+            if definition.adds {
+                extend(alloc, &mut abnf.rules, id, definition.body)?;
+            } else {
+                abnf.redefined.push(id)?;
+            }
+        }
+        None => {
+            if begin_rule(alloc, &abnf.core, &mut abnf.rules, definition)? {
+                abnf.extended.push(next)?;
+            }
+        }
+    }
+    Ok(())
+}
+
 /// Returns the table of these definitions.
 pub(crate) fn table_of(alloc: Global, definitions: Vec<Definition<'_>>) -> Result<Abnf, Memory>
     ensures table { IfOk result (λ abnf. IsTableOf (definitions_from definitions.entry.items) abnf.rules
@@ -103,34 +149,14 @@ pub(crate) fn table_of(alloc: Global, definitions: Vec<Definition<'_>>) -> Resul
     ensures core { IfOk result (λ abnf. IsCoreTable abnf.core) }
 {
     let core = core_rules(alloc)?;
-    let mut rules = RuleTable::new(alloc, NameCase::Fold);
-    let mut redefined = Vec::new(alloc);
-    let mut extended = Vec::new(alloc);
-    for definition in definitions {
-        let name = definition.name;
-        let span = definition.span;
-        let next = rules.len();
-        match rules.find(name)? {
-            Some(id) => {
-                if definition.adds {
-                    extend(alloc, &mut rules, id, definition.body)?;
-                } else {
-                    redefined.push(id)?;
-                }
-            }
-            None => {
-                let (body, early) = first_body(alloc, &core, definition)?;
-                rules.define(name, body, span)?;
-                if early {
-                    extended.push(next)?;
-                }
-            }
-        }
-    }
-    Ok(Abnf {
-        rules,
+    let mut abnf = Abnf {
+        rules: RuleTable::new(alloc, NameCase::Fold),
         core,
-        redefined,
-        extended,
-    })
+        redefined: Vec::new(alloc),
+        extended: Vec::new(alloc),
+    };
+    for definition in definitions {
+        take_definition(alloc, &mut abnf, definition)?;
+    }
+    Ok(abnf)
 }

@@ -12,8 +12,8 @@ body_mut-requires c =
     let lt = c.requires in
     omega (arith, e, n, lt)
 
-pub returns : goal.returns
-returns c =
+pub returns-clause-body : goal.returns-clause-body
+returns-clause-body c =
     let t = c.take_body-old.ensures.rest in
     record {
       body = c.take_body-old.result;
