@@ -38,22 +38,25 @@ fn text_arg<'a>(alloc: Global) -> Arg<'a>
 pub(crate) fn abnfx_command<'a>(alloc: Global) -> Result<Command<'a>, AllocError>
     ensures app { IfOk result (λ c. app_of c ≡ abnfx_app) }
 {
-    let plain = Command::new(alloc, "abnfx")
+    let args = vec![in alloc;
+        flag_arg(
+            alloc,
+            "canonical",
+            'c',
+            "Write the canonical text of the grammar"
+        ),
+        flag_arg(
+            alloc,
+            "list",
+            'l',
+            "List the rules, and what becomes of each"
+        ),
+        text_arg(alloc),
+    ]?;
+    Command::new(alloc, "abnfx")
         .about("Joins the grammars in ABNF (RFC 5234, RFC 7405) that texts of RFCs give")
-        .after_help(AFTER);
-    let with_canonical = plain.arg(flag_arg(
-        alloc,
-        "canonical",
-        'c',
-        "Write the canonical text of the grammar",
-    ))?;
-    let with_list = with_canonical.arg(flag_arg(
-        alloc,
-        "list",
-        'l',
-        "List the rules, and what becomes of each",
-    ))?;
-    with_list.arg(text_arg(alloc))
+        .after_help(AFTER)
+        .args(args)
 }
 
 /// Parses the words, the program's name first.

@@ -1,3 +1,4 @@
+pub mod AddedLemmas
 pub mod AppLemmas
 mod EntryLemmas
 pub mod AreWholeLemmas

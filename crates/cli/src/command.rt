@@ -3,7 +3,7 @@ ghost use Rattle.std.specs.Prelude.{◌≡◌, IfOk, false, true, map};
 ghost use Rattle.clap.specs.Words.{app_of, found_of, is_simple, is_simple_and_free, rule_of};
 ghost use Rattle.cli.specs.Asked.{AreWhole};
 ghost use Rattle.cli.specs.Command.{AreAlphabets, AreModes, IsAppOf, flag_rule, grammar_rule, letters_rule};
-ghost use Rattle.cli.specs.Command.{limit_rule, mode_rule, start_rule, with_options};
+ghost use Rattle.cli.specs.Command.{limit_rule, mode_rule, start_rule};
 ghost use Rattle.cli.specs.Parsing.{Parses};
 
 use crate::help;
@@ -96,48 +96,42 @@ fn grammar_arg<'a>(alloc: Global) -> Arg<'a>
         .required(true)
 }
 
-/// Adds the options that both programs have; the last two texts are the help of `-l` and `-s`.
-fn add_options<'a>(
-    alloc: Global,
-    command: Command<'a>,
-    limit: &'a str,
-    start: &'a str,
-) -> Result<Command<'a>, AllocError>
-    ensures options { (names : _) × AreModes names ×
-        IfOk result (λ c. app_of c ≡ with_options names (app_of command.entry)) }
-{
-    let with_mode = command.arg(mode_arg(alloc))?;
-    let with_limit = with_mode.arg(limit_arg(alloc, limit))?;
-    with_limit.arg(start_arg(alloc, start))
-}
-
 /// Returns the command `pegi [-m MODE] [-l N] [-s RULE] [-r] [-x] GRAMMAR`. Refused for want of memory.
 pub fn pegi_command<'a>(alloc: Global) -> Result<Command<'a>, AllocError>
     ensures app { (app : _) × IsAppOf Program.Pegi app × IfOk result (λ c. app_of c ≡ app) }
 {
-    let plain = Command::new(alloc, "pegi")
+    let args = vec![in alloc;
+        mode_arg(alloc),
+        limit_arg(alloc, help::PEGI_LIMIT),
+        start_arg(alloc, help::PEGI_START),
+        flag_arg(alloc, "raw", 'r', help::RAW),
+        flag_arg(alloc, "explain", 'x', help::EXPLAIN),
+        grammar_arg(alloc),
+    ]?;
+    Command::new(alloc, "pegi")
         .about(help::PEGI)
-        .after_help(help::AFTER_PEGI);
-    let with_options = add_options(alloc, plain, help::PEGI_LIMIT, help::PEGI_START)?;
-    let with_raw = with_options.arg(flag_arg(alloc, "raw", 'r', help::RAW))?;
-    let with_explain = with_raw.arg(flag_arg(alloc, "explain", 'x', help::EXPLAIN))?;
-    with_explain.arg(grammar_arg(alloc))
+        .after_help(help::AFTER_PEGI)
+        .args(args)
 }
 
 /// Returns the command `abnfi [-m MODE] [-l N] [-s RULE] [-u MODE] [-w] [-z] [-x] GRAMMAR`. Refused for want of memory.
 pub fn abnfi_command<'a>(alloc: Global) -> Result<Command<'a>, AllocError>
     ensures app { (app : _) × IsAppOf Program.Abnfi app × IfOk result (λ c. app_of c ≡ app) }
 {
-    let letters = letters_arg(alloc);
-    let plain = Command::new(alloc, "abnfi")
+    let args = vec![in alloc;
+        mode_arg(alloc),
+        limit_arg(alloc, help::ABNFI_LIMIT),
+        start_arg(alloc, help::ABNFI_START),
+        letters_arg(alloc),
+        flag_arg(alloc, "viable", 'w', help::VIABLE),
+        flag_arg(alloc, "nul", 'z', help::NUL),
+        flag_arg(alloc, "explain", 'x', help::EXPLAIN),
+        grammar_arg(alloc),
+    ]?;
+    Command::new(alloc, "abnfi")
         .about(help::ABNFI)
-        .after_help(help::AFTER_ABNFI);
-    let with_options = add_options(alloc, plain, help::ABNFI_LIMIT, help::ABNFI_START)?;
-    let with_letters = with_options.arg(letters)?;
-    let with_viable = with_letters.arg(flag_arg(alloc, "viable", 'w', help::VIABLE))?;
-    let with_nul = with_viable.arg(flag_arg(alloc, "nul", 'z', help::NUL))?;
-    let with_explain = with_nul.arg(flag_arg(alloc, "explain", 'x', help::EXPLAIN))?;
-    with_explain.arg(grammar_arg(alloc))
+        .after_help(help::AFTER_ABNFI)
+        .args(args)
 }
 
 /// Returns the command of a program. Refused for want of memory.

@@ -14,5 +14,5 @@ pub use command::{Program, abnfi_command, flag_arg, is_a_simple_command, parse, 
 pub use fault::refuse_invalid_utf8;
 pub use reading::{Job, Unready, end_unready, read_job};
 pub use settings::{Asked, read_words, settings_of};
-pub use start::{end_without_memory, words_of};
+pub use start::{end_without_memory, start_program, words_of};
 pub use tool::tool_main;

@@ -6,7 +6,7 @@ pub use abnfrun::{AbnfLanguage, one_reply_of_abnf, one_statement_of_abnf, run_ab
 pub use cli::{
     Asked, Job, Program, Unready, abnfi_command, end_unready, end_without_memory,
     is_a_simple_command, parse, pegi_command, read_job, read_words, refuse_invalid_utf8,
-    settings_of, tool_main, words_of,
+    settings_of, start_program, tool_main, words_of,
 };
 pub use feed::{Broken, Feed, Flow, Held, Source, SourceOf};
 pub use pegrun::{PegLanguage, one_reply, one_statement, run_peg};

@@ -5,6 +5,11 @@ use Rattle.toolrun.specs.declared.stop.Stop.TheVariants.{NoMemory}
 use Rattle.abnfx.proofs.JoinAnswersLemmas.{stop_comes}
 use Rattle.abnfx.proofs.run.end_unread.Goals as goal
 
+pub returns-in-Unreadable : goal.returns-in-Unreadable
+returns-in-Unreadable g c = record {
+  right = rw c.in-Unreadable.is (rw c.as_bytes.ensures.value at c.end_told.ensures.right);
+}
+
 pub returns-in-TooLong : goal.returns-in-TooLong
 returns-in-TooLong g c = record {
   right = rw c.in-TooLong.is (rw c.as_bytes-in-TooLong.ensures.value at c.end_told-in-TooLong.ensures.right);

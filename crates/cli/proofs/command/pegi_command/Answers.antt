@@ -1,44 +1,59 @@
--- The options of both programs, the flags and the grammar in turn.
-use Rattle.std.proofs.Common.{ap, ap₂, ◌∙◌, refl}
+-- Each argument has its rule.
+use Rattle.std.proofs.Common.{ap, ◌∙◌, refl, List, [], ◌∷◌}
 use Rattle.std.proofs.lemmas.Result.{IfOk-weaker, err_from_is_err_and}
 use Rattle.clap.specs.Simple.{app_of_fields}
-use Rattle.clap.specs.Words.{with_rule}
-use Rattle.cli.specs.Command.{pegi_app, with_options}
+use Rattle.clap.specs.Words.{App, Rule}
+use Rattle.clap.specs.declared.builder.arg.Arg.{Arg}
+use Rattle.cli.specs.Command.{explain_rule, grammar_rule, limit_rule, mode_rule, pegi_app, raw_rule, start_rule}
+use Rattle.cli.proofs.AddedLemmas.{HaveRules, added_rules, with_rules}
 use Rattle.cli.proofs.command.pegi_command.Goals as goal
 
-pub returns-in_err-with_options : goal.returns-in_err-with_options
-returns-in_err-with_options c =
-    let options = c.add_options.ensures.options in
+pub returns-in_err-args : goal.returns-in_err-args
+returns-in_err-args c =
+    let mode = c.mode_arg.ensures.rule in
     let fault = err_from_is_err_and c.from_residual.result c.from_residual.ensures.1 in
-    record { app = (pegi_app options.0, (options.0, options.1, refl), rw fault.1 tt) }
-
-pub returns-in_err-with_raw : goal.returns-in_err-with_raw
-returns-in_err-with_raw c =
-    let options = c.in_ok-with_options.ensures.options in
-    let fault = err_from_is_err_and c.from_residual-in_err-with_raw.result c.from_residual-in_err-with_raw.ensures.1 in
-    record { app = (pegi_app options.0, (options.0, options.1, refl), rw fault.1 tt) }
-
-pub returns-in_err-with_explain : goal.returns-in_err-with_explain
-returns-in_err-with_explain c =
-    let options = c.in_ok-with_options.ensures.options in
-    let fault = err_from_is_err_and c.from_residual-in_err-with_explain.result
-    c.from_residual-in_err-with_explain.ensures.1 in
-    record { app = (pegi_app options.0, (options.0, options.1, refl), rw fault.1 tt) }
+    record { app = (pegi_app mode.0, (mode.0, mode.1, refl), rw fault.1 tt) }
 
 pub returns : goal.returns
 returns c =
-    let options = c.in_ok-with_options.ensures.options in
-    let zero = ap app_of_fields c.after_help-plain.ensures ∙ ap app_of_fields c.about.ensures ∙ c.new.ensures.app in
-    let base = options.2 ∙ ap (with_options options.0) zero in
-    let raw = c.in_ok-with_raw.ensures.shape c.flag_arg.ensures.local ∙ ap₂ with_rule base c.flag_arg.ensures.rule in
-    let explain = c.in_ok-with_explain.ensures.shape c.flag_arg-2.ensures.local
-    ∙ ap₂ with_rule raw c.flag_arg-2.ensures.rule in
+    let mode = c.mode_arg.ensures in
+    let limit = c.limit_arg.ensures in
+    let start = c.start_arg.ensures in
+    let raw = c.flag_arg.ensures in
+    let explain = c.flag_arg-2.ensures in
+    let grammar = c.grammar_arg.ensures in
+    let names = mode.rule.0 in
+    let args : List Arg =
+    c.mode_arg.result ∷ c.limit_arg.result ∷ c.start_arg.result ∷ c.flag_arg.result ∷ c.flag_arg-2.result
+    ∷ c.grammar_arg.result ∷ [] in
+    let rules : List Rule =
+    mode_rule names ∷ limit_rule ∷ start_rule ∷ raw_rule ∷ explain_rule ∷ grammar_rule ∷ [] in
+    let have : HaveRules args rules = (
+      mode.local,
+      mode.rule.2,
+      (
+        limit.local,
+        limit.rule,
+        (
+          start.local,
+          start.rule,
+          (
+            raw.local,
+            raw.rule,
+            (explain.local, explain.rule, (grammar.local, grammar.rule, tt)),
+          ),
+        ),
+      ),
+    ) in
+    let plain = ap app_of_fields c.after_help.ensures ∙ ap app_of_fields c.about.ensures ∙ c.new.ensures.app in
     record {
       app = (
-        pegi_app options.0,
-        (options.0, options.1, refl),
-        IfOk-weaker c.arg-3.result _ _
-            (λ r h. h.shape c.grammar_arg.ensures.local ∙ ap₂ with_rule explain c.grammar_arg.ensures.rule)
-            c.arg-3.ensures,
+        pegi_app names,
+        (names, mode.rule.1, refl),
+        IfOk-weaker c.args-2.result _ _
+            (λ r added.
+            added_rules c.after_help.result r args rules have (rw c.in_ok-args.ensures.items at added)
+            ∙ ap (λ (app : App). with_rules app rules) plain)
+            c.args-2.ensures,
       );
     }

@@ -2,7 +2,7 @@
 -- was.
 use Rattle.std.proofs.Common.{rules, map, string_bytes, Global}
 use Rattle.clap.specs.Words.{fault_of, matches_of}
-use Rattle.cli.proofs.AnswersLemmas.{no_faults, no_help}
+use Rattle.cli.proofs.AnswersLemmas.{no_answers}
 use Rattle.cli.proofs.JobStatesLemmas.{job_comes, unready_comes}
 use Rattle.toolrun.specs.Status.{code_of}
 use Rattle.toolrun.specs.Stream.{passed}
@@ -14,11 +14,7 @@ returns-in-Ok g c =
     let words = map (string_bytes {Z = Global}) c.args.words.now in
     let kinds = fault_of job.0 words in
     record {
-      words = (
-        job.0,
-        job.1,
-        (λ faults. absurd (no_faults kinds job.2.0 faults), λ help. absurd (no_help kinds job.2.0 help)),
-      );
+      words = (job.0, job.1, no_answers kinds _ _ job.2.0);
       right = (
         job.0,
         job.1,
