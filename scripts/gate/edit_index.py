@@ -52,6 +52,8 @@ EXEMPT = (
     "abnfhints: hints.abnf_hints",
     # It passes on what `nullable` marks, and `need` has an edit.
     "gramcheck: nullable.nullable_rules",
+    # It passes on what `note_redefined` adds, which has an edit.
+    "gramcheck: notes.redefinitions",
     # It passes on what `analysed` marks for `check_peg`, which has an edit.
     "gramcheck: analysis.left_recursive_rules",
     # It passes on what `Chains::way_back` returns, which has an edit.
