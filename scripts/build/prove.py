@@ -1,10 +1,11 @@
 #!/usr/bin/env python3
-"""Proves the crates that programs and static libraries stand on, builds these, and puts each into bin/ once it is built.
+"""Proves the crates that programs and static libraries stand on, builds these, and puts each into bin/.
 
 usage: prove.py NAME..
 
-It runs `rt ci` in a copy that has these crates alone, without their edits. `rt ci` loads the statements of a library and
-not its proofs, and keeps on this machine what it passed: a later run takes that, and so does the gate.
+It runs `rt ci` in a copy that has these crates alone, without their edits. `rt ci` loads the statements of a library,
+not its proofs. It keeps on this machine what it passed: a later run takes that, and so does the gate. A program comes
+into bin/ as soon as it is built.
 
 A line says which crate begins, which is proved, in how many seconds, and how many are left. bin/proof_seconds.txt lists
 the seconds of wall clock of each crate that this checkout proved. If a crate is not proved, the script shows what `rt`
@@ -109,7 +110,8 @@ class Work:
         seconds = round(time.monotonic() - self.begun.get(crate, time.monotonic()))
         if how == "proved":
             self.seconds[crate] = seconds
-        print(f"{crate}: {f'proved in {seconds} s' if how == 'proved' else 'proved earlier'}, {len(self.left)} left", flush=True)
+        said = f"proved in {seconds} s" if how == "proved" else "proved earlier"
+        print(f"{crate}: {said}, {len(self.left)} left", flush=True)
         built = self.tree / "crates" / crate / "out" / crate
         if crate in self.named and built.is_file():
             shutil.copy(built, TOP / "bin" / crate)

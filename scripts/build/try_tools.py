@@ -31,7 +31,7 @@ ENDED = re.compile(r"(checked: .*\n|interpreter: .*\n)*run=ended status=(\d+) .*
 
 
 def names_of(files):
-    """Returns the names under which the program finds these files: their last parts, with a number where two are alike."""
+    """Returns the names of these files for the program: their last parts, with a number where two are alike."""
     names = [pathlib.Path(it).name for it in files]
     return [it if names.count(it) == 1 else f"{number}-{it}" for number, it in enumerate(names, 1)]
 
@@ -78,7 +78,8 @@ def examples():
 
 def asked():
     """Returns the runs that are asked for, or ends the script with what is wrong with the words."""
-    tool, grammar, texts, given, cases = (os.environ.get(it, "") for it in ("TOOL", "GRAMMAR", "TEXTS", "INPUT", "CASES"))
+    names = ("TOOL", "GRAMMAR", "TEXTS", "INPUT", "CASES")
+    tool, grammar, texts, given, cases = (os.environ.get(it, "") for it in names)
     if not any((tool, grammar, texts, given, cases)):
         return examples()
     files = shlex.split(texts) if tool == "abnfx" else [grammar]
