@@ -27,7 +27,7 @@ import threading
 import time
 
 sys.path.insert(0, str(pathlib.Path(__file__).resolve().parents[1]))  # scripts/, for what groups share
-from build.archive import make_archive
+from build.library import make_archive
 from crates import below, is_static, lines_of
 
 TOP = pathlib.Path(__file__).resolve().parents[2]

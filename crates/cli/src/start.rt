@@ -22,8 +22,8 @@ pub fn end_without_memory(rt: &impl Eprint) -> ExitCode {
     ExitCode::from(Status::NoMemory.code())
 }
 
-/// Starts a program: passes its words, a buffered sink over `output` and a sink over `errors` to `run`, and returns what
-/// that returns.
+/// Starts a program: passes its words, a buffered sink over `output` and a sink over `errors` to `run`, and returns its
+/// result.
 ///
 /// - If a word is not UTF-8 text: what is wrong with the words on `errors`, `Refused`, and `run` is not called.
 /// - If an allocation for the words or the buffer fails: `out of memory`, `NoMemory`, and `run` is not called.
