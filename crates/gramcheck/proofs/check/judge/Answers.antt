@@ -1,14 +1,35 @@
-use Rattle.std.proofs.Common.{◌∙◌, List, map}
+use Rattle.std.proofs.Common.{◌∙◌, List, map, subst}
 use Rattle.std.proofs.lemmas.List.{length-map}
 use Rattle.std.specs.Prelude.{option_copied}
 use Rattle.ruletable.specs.Notes.{said_of}
 use Rattle.pegread.specs.Pattern.{Rule}
-use Rattle.pegread.specs.PegViews.{rules_of}
+use Rattle.pegread.specs.PegViews.{rule_of, rules_of}
 use Rattle.gramcheck.specs.Analysis.{IsAnalysed}
 use Rattle.pegnodes.specs.Nodes.{shape_of, shapes_of}
 use Rattle.gramcheck.specs.GrammarNotes.{AreNotes, names_at}
+use Rattle.fixpoint.specs.NumberMarks.{AreBelow}
+use Rattle.gramcheck.proofs.PrintMarksLemmas.{bodies_below}
 use Rattle.gramcheck.proofs.JudgeLemmas.{marks-recursive, marks-looping, own-ids, ranked_first, start-known, is-given}
 use Rattle.gramcheck.proofs.check.judge.Goals as goal
+
+pub analysed-requires-clause-bodies : goal.analysed-requires-clause-bodies
+analysed-requires-clause-bodies c = rw (c.deref-2.ensures.value, c.deref.ensures.value)
+    (subst (λ n. AreBelow c.in_ok-cut.cut.bodies.items n) (length-map c.in_ok-cut.cut.nodes.items shape_of)
+    (bodies_below _ _ _ c.in_ok-cut.ensures.bodies))
+
+pub notes-requires-clause-recursive : goal.notes-requires-clause-recursive
+notes-requires-clause-recursive c =
+    let t = c.args.rules.now in
+    let found = c.in_ok-found.ensures (rules_of t) (rw (c.deref.ensures.value, c.deref-2.ensures.value)
+    c.in_ok-cut.ensures.bodies) in
+    rw c.deref-3.ensures.value (found.recursive_count ∙ length-map t.rules rule_of)
+
+pub notes-requires-clause-looping : goal.notes-requires-clause-looping
+notes-requires-clause-looping c =
+    let t = c.args.rules.now in
+    let found = c.in_ok-found.ensures (rules_of t) (rw (c.deref.ensures.value, c.deref-2.ensures.value)
+    c.in_ok-cut.ensures.bodies) in
+    rw c.deref-4.ensures.value (found.looping_count ∙ length-map t.rules rule_of)
 
 module _ (c : goal.After-drop-found-4) where
   abbrev rules : List Rule
