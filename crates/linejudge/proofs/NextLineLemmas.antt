@@ -27,7 +27,7 @@ nil_of [] e = refl
 nil_of (x ∷ xs) e = absurd (omega arith)
 
 -- where no end was found
-none_found : (end : ℕ) (xs : List ℕ) → Nowhere (Passes (is_byte end) xs) 0 (length xs) → HasNoEnd end xs
+pub none_found : (end : ℕ) (xs : List ℕ) → Nowhere (Passes (is_byte end) xs) 0 (length xs) → HasNoEnd end xs
 none_found end xs h = All-from_get_or (λ b. b ≢ end) xs 0
     (λ i lt is. h i (omega arith) lt (rw is (eq-eqb end end refl)))
 
