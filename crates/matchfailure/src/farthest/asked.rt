@@ -99,7 +99,7 @@ fn add_turns(
 ///
 /// # Errors
 /// `Memory` if an allocation fails.
-#[tactic(auto, using(crate::farthest::proofs::AddsVisitsLemmas::adds_nothing))]
+#[tactic(auto, using(crate::proofs::AddsVisitsLemmas::adds_nothing))]
 pub(crate) fn add_asked(
     peg: &SoundPeg,
     desk: &Desk,
