@@ -1,10 +1,11 @@
 -- What is left of an element, from what is left of its parts.
 -- Serves: lower_viable.
 use Rattle.std.proofs.Common.{◌≡◌, ℕ, zero, suc, ◌+◌, ◌<◌, ◌≤◌, ◌==◌, Bool, true, false, List, [], ◌∷◌, ◌++◌, length}
-use Rattle.std.proofs.Common.{take, map, get_or, Option, Some, None, refl, sym, ◌∙◌, ap, subst, arith, add-one}
+use Rattle.std.proofs.Common.{is_some, option_to_list, take, map, get_or, Option, Some, None, refl, sym, ◌∙◌, ap}
+use Rattle.std.proofs.Common.{subst, arith, add-one}
 use Rattle.std.specs.Prelude.{slice_get}
 use Rattle.std.proofs.lemmas.Bool.{eqb-true}
-use Rattle.std.proofs.lemmas.List.{length-map, map-append, nil_from_length, take_all}
+use Rattle.std.proofs.lemmas.List.{append-nil, length-map, map-append, nil_from_length, take_all}
 use Rattle.std.proofs.Math.Seq.{take-suc}
 use Rattle.letters.specs.Letters.{has as in_alphabet, HasLetter}
 use Rattle.letters.specs.declared.alphabet.Alphabet.{Alphabet}
@@ -20,7 +21,8 @@ use Rattle.abnfcheck.proofs.YieldsLemmas.{letters_parts}
 use Rattle.fixpoint.specs.NumberMarks.{IsMarked}
 use Rattle.flatgrammar.proofs.BeforeLemmas.{get_below}
 use Rattle.abnfcheck.proofs.RuleIdLemmas.{body_at_id}
-use Rattle.prune.specs.Pruned.{IsProductive, AreAllProductive, Keeps, keep_values, empty_rep, keep_alt, KeepsAll}
+use Rattle.prune.specs.Pruned.{IsProductive, AreAllProductive, Keeps, keep_values, empty_rep, keep_concat, keep_alt}
+use Rattle.prune.specs.Pruned.{KeepsAll, IsLeft, some_element}
 use Rattle.prune.specs.Pruned.{keep_none, keep_more, KeepsSome, some_none, kept, dropped}
 use Rattle.prune.proofs.KeepsLemmas.{keeps_productive}
 
@@ -85,7 +87,7 @@ module _ (has : ℕ → Bool) (rules : List Rule) where
       by : {w : List ℕ} → AreLetters has w → Derives has rules (e.Concat es) w → AreAllProductive has rules es
       by {w = w} all (der.concat ds) = record { word = w; letters = all; derives = ds }
 
-  pub no_concat : (es : Elements) → (AreAllProductive has rules es → ⊥) → IsProductive has rules (e.Concat es) → ⊥
+  no_concat : (es : Elements) → (AreAllProductive has rules es → ⊥) → IsProductive has rules (e.Concat es) → ⊥
   no_concat es not p = not (members_of es p)
 
   none_derives : {es : Elements} {w : List ℕ} → KeepsSome has rules es none → AreLetters has w
@@ -139,6 +141,13 @@ module _ (has : ℕ → Bool) (rules : List Rule) where
   drop_push el (dropped was ks) not = dropped was (drop_push el ks not)
   drop_push el (kept j ks) not = kept j (drop_push el ks not)
 
+  -- all members
+  pub concat_left : (es ds : List Elem) (i : ℕ) → length es ≤ i
+      → KeepsAll has rules (elements_of (take i es)) (elements_of ds)
+      → Keeps has rules (e.Concat (elements_of es)) (e.Concat (elements_of ds))
+  concat_left es ds i all ks = keep_concat (subst (λ v. KeepsAll has rules (elements_of v) (elements_of ds))
+      (take_all i es all) ks)
+
 snoc_is : (es : List Element) (el : Element) → elements (es ++ el ∷ []) ≡ snoc (elements es) el
 snoc_is [] el = refl
 snoc_is (c ∷ es) el = ap (λ v. more c v) (snoc_is es el)
@@ -163,24 +172,48 @@ one_at has rules (x ∷ es) (suc i) d lt all (then {w = w} {v = v} one ds) = one
 
 module _ (has : ℕ → Bool) (rules : List Rule) (es ds : List Elem) (i : ℕ) (v : Elem) (lt : i < length es)
     (is : v ≡ get_or es i v) where
-  pub next_member : (d : Elem) → KeepsAll has rules (elements_of (take i es)) (elements_of ds)
+  next_member : (d : Elem) → KeepsAll has rules (elements_of (take i es)) (elements_of ds)
       → Keeps has rules (element_of v) (element_of d) →
       KeepsAll has rules (elements_of (take (i + 1) es)) (elements_of (ds ++ d ∷ []))
   next_member d ks k = rw (next_is es i v lt is, push_is ds d) (all_push has rules (element_of v) (element_of d) ks k)
 
-  pub no_member : (IsProductive has rules (element_of v) → ⊥) → AreAllProductive has rules (elements_of es) → ⊥
+  no_member : (IsProductive has rules (element_of v) → ⊥) → AreAllProductive has rules (elements_of es) → ⊥
   no_member not p = not (subst (λ w. IsProductive has rules (element_of w)) (sym is)
       (one_at has rules es i v lt p.letters p.derives))
 
-  pub next_kept : (d : Elem) → KeepsSome has rules (elements_of (take i es)) (elements_of ds)
+  next_kept : (d : Elem) → KeepsSome has rules (elements_of (take i es)) (elements_of ds)
       → Keeps has rules (element_of v) (element_of d) →
       KeepsSome has rules (elements_of (take (i + 1) es)) (elements_of (ds ++ d ∷ []))
   next_kept d ks k = rw (next_is es i v lt is, push_is ds d) (kept_push has rules (element_of v) (element_of d) ks k)
 
-  pub next_dropped : KeepsSome has rules (elements_of (take i es)) (elements_of ds)
+  next_dropped : KeepsSome has rules (elements_of (take i es)) (elements_of ds)
       → (IsProductive has rules (element_of v) → ⊥) →
       KeepsSome has rules (elements_of (take (i + 1) es)) (elements_of ds)
   next_dropped ks not = rw (next_is es i v lt is) (drop_push has rules (element_of v) ks not)
+
+  -- a member of which nothing is left, or what is left of it
+  pub left_member : (left : Option Elem) (some : Bool) (new : List Elem)
+      → (some ≡ is_some left) × (new ≡ ds ++ option_to_list left) → some ≡ true
+      → IsLeft has rules (element_of v) (some_element left)
+      → KeepsAll has rules (elements_of (take i es)) (elements_of ds)
+      → KeepsAll has rules (elements_of (take (i + 1) es)) (elements_of new)
+  left_member None some new pushed on k ks = absurd (cc (pushed.0, on))
+  left_member (Some d) some new pushed on k ks = rw pushed.1 (next_member d ks k)
+
+  pub left_none : (left : Option Elem) (some : Bool) (new : List Elem)
+      → (some ≡ is_some left) × (new ≡ ds ++ option_to_list left) → some ≡ false
+      → IsLeft has rules (element_of v) (some_element left)
+      → IsProductive has rules (e.Concat (elements_of es)) → ⊥
+  left_none None some new pushed off k = no_concat has rules (elements_of es) (no_member k)
+  left_none (Some d) some new pushed off k = absurd (cc (pushed.0, off))
+
+  pub left_alternative : (left : Option Elem) (some : Bool) (new : List Elem)
+      → (some ≡ is_some left) × (new ≡ ds ++ option_to_list left)
+      → IsLeft has rules (element_of v) (some_element left)
+      → KeepsSome has rules (elements_of (take i es)) (elements_of ds)
+      → KeepsSome has rules (elements_of (take (i + 1) es)) (elements_of new)
+  left_alternative None some new pushed k ks = rw (pushed.1 ∙ append-nil ds) (next_dropped ks k)
+  left_alternative (Some d) some new pushed k ks = rw pushed.1 (next_kept d ks k)
 
 pub copied_next : (vs got : List ℕ) (i d : ℕ) → i < length vs → got ≡ take i vs → got ++ get_or vs i d
     ∷ [] ≡ take (i + 1) vs

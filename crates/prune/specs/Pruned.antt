@@ -1,8 +1,8 @@
 -- Elements and rules without the parts that derive no list of letters.
-use Rattle.std.specs.Prelude.{◌≡◌, ℕ, ◌+◌, ◌≤◌, Bool, List, length, slice_get, Option, Some, None, Vec}
+use Rattle.std.specs.Prelude.{◌≡◌, ℕ, ◌+◌, ◌≤◌, Bool, List, length, slice_get, Option, Some, None}
 use Rattle.abnfread.specs.Element.{Element, Elements, Text, Values, Range, Concat, Alt, Rep, Opt, Name, Prose, none}
 use Rattle.abnfread.specs.Element.{more, Rule, bodies, id_of}
-use Rattle.abnfread.specs.AbnfViews.{element_of, elements_of}
+use Rattle.abnfread.specs.AbnfViews.{element_of}
 use Rattle.abnfread.specs.declared.elem.Elem.{Elem}
 use Rattle.abnfcheck.specs.Derivable.{AreLetters, Derives, DerivesAll, AtMost}
 use Rattle.flatgrammar.specs.Flat.{Flat}
@@ -54,11 +54,6 @@ module _ (has : ℕ → Bool) (rules : List Rule) where
   IsLeft e None = IsProductive e → ⊥
   IsLeft e (Some d) = Keeps e d
 
-  -- what is left of the members: nothing, if one of them is not productive
-  abbrev pub AreLeft : Elements → Option Elements → Type 0
-  AreLeft es None = AreAllProductive es → ⊥
-  AreLeft es (Some ds) = KeepsAll es ds
-
   -- the body of a rule that is not productive becomes one that derives nothing
   pub data IsLeftBody : Element → Element → Type 0 where
     left_body : {e d : Element} → Keeps e d → IsLeftBody e d
@@ -81,7 +76,3 @@ pub record SpellsProductive (has : ℕ → Bool) (rules : List Rule) (judged : �
 abbrev pub some_element : Option Elem → Option Element
 some_element None = None
 some_element (Some e) = Some (element_of e)
-
-abbrev pub some_elements : {Z : Type 0} → Option (Vec Elem Z) → Option Elements
-some_elements None = None
-some_elements (Some es) = Some (elements_of es.items)

@@ -1,5 +1,5 @@
 //! Copies elements and rules without the parts that derive no list of letters.
-ghost use Rattle.std.specs.Prelude.{◌≡◌, ◌↔◌, ℕ, Bool, List, IsTrue, IfOk};
+ghost use Rattle.std.specs.Prelude.{◌≡◌, ◌↔◌, ◌++◌, ℕ, Bool, List, IsTrue, IfOk, is_some, option_to_list};
 ghost use Rattle.abnfread.specs.Element.{Element, Elements, Rule};
 ghost use Rattle.abnfread.specs.Element as e;
 ghost use Rattle.abnfread.specs.AbnfViews.{element_of, elements_of, rules_of};
@@ -8,8 +8,7 @@ ghost use Rattle.abnfcheck.specs.RuleMarks.{AreProductive};
 ghost use Rattle.fixpoint.specs.NumberMarks.{IsMarked};
 ghost use Rattle.letters.specs.Letters.{has};
 ghost use Rattle.letters.specs.declared.alphabet.Alphabet.{Alphabet};
-ghost use Rattle.prune.specs.Pruned.{Keeps, KeepsSome, IsLeft, AreLeft, IsLeftBody, ArePruned, some_element};
-ghost use Rattle.prune.specs.Pruned.{some_elements};
+ghost use Rattle.prune.specs.Pruned.{KeepsSome, IsLeft, IsLeftBody, ArePruned, some_element};
 
 use abnfread::Elem;
 use letters::Alphabet;
@@ -17,12 +16,12 @@ use ruletable::{Memory, NameCase, RuleTable};
 use std::alloc::Global;
 
 // Returns what is left of a text: the text, since bytes are letters of each alphabet.
-fn prune_text(alloc: Global, folds: bool, text: &[u8]) -> Result<Elem, Memory>
+fn prune_text(alloc: Global, folds: bool, text: &[u8]) -> Result<Option<Elem>, Memory>
     ensures { IfOk result (λ left. (alphabet : Alphabet) (rules : List Rule)
-        → Keeps (has alphabet) rules (e.Text folds text.now) (element_of left)) }
+        → IsLeft (has alphabet) rules (e.Text folds text.now) (some_element left)) }
 {
     let text = Vec::from_slice(alloc, text)?;
-    Ok(Elem::Text { folds, text })
+    Ok(Some(Elem::Text { folds, text }))
 }
 
 // Returns what is left of a list of values: itself, if each is that of a letter.
@@ -92,30 +91,35 @@ fn prune_repeat(
 }
 
 // Returns what is left of an option, from what is left of its operand.
-fn prune_option(alloc: Global, operand: Option<Elem>) -> Result<Elem, Memory>
+fn prune_option(alloc: Global, operand: Option<Elem>) -> Result<Option<Elem>, Memory>
     ensures { IfOk result (λ left. (test : ℕ → Bool) (rules : List Rule) (el : Element) →
-        IsLeft test rules el (some_element operand) → Keeps test rules (e.Opt el) (element_of left)) }
+        IsLeft test rules el (some_element operand) → IsLeft test rules (e.Opt el) (some_element left)) }
 {
     match operand {
         Some(operand) => {
             let operand = Box::new(alloc, operand)?;
-            Ok(Elem::Opt(operand))
+            Ok(Some(Elem::Opt(operand)))
         }
-        None => Ok(Elem::Concat(Vec::new(alloc))),
+        None => Ok(Some(Elem::Concat(Vec::new(alloc)))),
     }
 }
 
-// Returns what is left of a concatenation, from what is left of its members.
-fn prune_concat(members: Option<Vec<Elem>>) -> Option<Elem>
-    ensures { (test : ℕ → Bool) (rules : List Rule) (es : Elements) →
-        AreLeft test rules es (some_elements members) → IsLeft test rules (e.Concat es) (some_element result) }
+// Adds what is left of a member. Returns whether anything is left.
+fn push_left(kept: &mut Vec<Elem>, left: Option<Elem>) -> Result<bool, Memory>
+    ensures { IfOk result (λ some. (some ≡ is_some left)
+        × (kept.new.items ≡ kept.old.items ++ option_to_list left)) }
 {
-    let members = members?;
-    Some(Elem::Concat(members))
+    match left {
+        Some(left) => {
+            kept.push(left)?;
+            Ok(true)
+        }
+        None => Ok(false),
+    }
 }
 
 // Returns what is left of an alternation, from what is left of its alternatives.
-fn prune_alt(alternatives: Vec<Elem>) -> Option<Elem>
+fn alt_of(alternatives: Vec<Elem>) -> Option<Elem>
     ensures { (test : ℕ → Bool) (rules : List Rule) (es : Elements) →
         KeepsSome test rules es (elements_of alternatives.items) → IsLeft test rules (e.Alt es) (some_element result) }
 {
@@ -170,78 +174,74 @@ fn prune(
     requires marks { AreProductive alphabet (rules_of rules.now) marks.now }
     ensures { IfOk result (λ left. IsLeft (has alphabet) (rules_of rules.now) (element_of e.now) (some_element left)) }
 {
-    let left = match e {
-        Elem::Text { folds, text } => Some(prune_text(alloc, *folds, text)?),
-        Elem::Values(values) => prune_values(alloc, alphabet, values)?,
-        Elem::Range { low, high } => prune_range(alphabet, *low, *high),
-        Elem::Concat(members) => prune_concat(prune_all(alloc, alphabet, rules, marks, members)?),
-        Elem::Alt(alternatives) => {
-            prune_alt(prune_some(alloc, alphabet, rules, marks, alternatives)?)
-        }
+    match e {
+        Elem::Text { folds, text } => prune_text(alloc, *folds, text),
+        Elem::Values(values) => prune_values(alloc, alphabet, values),
+        Elem::Range { low, high } => Ok(prune_range(alphabet, *low, *high)),
+        Elem::Concat(members) => prune_concat(alloc, alphabet, rules, marks, members),
+        Elem::Alt(alternatives) => prune_alt(alloc, alphabet, rules, marks, alternatives),
         Elem::Rep {
             least,
             most,
             operand,
         } => {
             let operand = prune(alloc, alphabet, rules, marks, operand)?;
-            prune_repeat(alloc, *least, *most, operand)?
+            prune_repeat(alloc, *least, *most, operand)
         }
         Elem::Opt(operand) => {
             let operand = prune(alloc, alphabet, rules, marks, operand)?;
-            Some(prune_option(alloc, operand)?)
+            prune_option(alloc, operand)
         }
-        Elem::Name(name) => prune_name(alloc, alphabet, rules, marks, name)?,
-        Elem::Prose(_) => None,
-    };
-    Ok(left)
+        Elem::Name(name) => prune_name(alloc, alphabet, rules, marks, name),
+        Elem::Prose(_) => Ok(None),
+    }
 }
 
-// Returns what is left of the members, in order, if all are productive.
+// Returns what is left of a concatenation: what is left of its members, in order, if all are productive.
 #[cycle(pruning)]
-fn prune_all(
+fn prune_concat(
     alloc: Global,
     alphabet: Alphabet,
     rules: &RuleTable<Elem>,
     marks: &[bool],
     members: &[Elem],
-) -> Result<Option<Vec<Elem>>, Memory>
+) -> Result<Option<Elem>, Memory>
     requires folds { rules.now.names ≡ NameCase.Fold }
     requires marks { AreProductive alphabet (rules_of rules.now) marks.now }
-    ensures { IfOk result (λ left. AreLeft (has alphabet) (rules_of rules.now) (elements_of members.now)
-        (some_elements left)) }
+    ensures { IfOk result (λ left. IsLeft (has alphabet) (rules_of rules.now) (e.Concat (elements_of members.now))
+        (some_element left)) }
 {
     let mut kept = Vec::new(alloc);
     for member in members {
-        match prune(alloc, alphabet, rules, marks, member)? {
-            Some(left) => kept.push(left)?,
-            None => return Ok(None),
+        let left = prune(alloc, alphabet, rules, marks, member)?;
+        let some = push_left(&mut kept, left)?;
+        if !some {
+            return Ok(None);
         }
     }
-    Ok(Some(kept))
+    Ok(Some(Elem::Concat(kept)))
 }
 
-// Returns what is left of the productive alternatives, in order.
+// Returns what is left of an alternation: what is left of its productive alternatives, in order.
 #[cycle(pruning)]
-fn prune_some(
+fn prune_alt(
     alloc: Global,
     alphabet: Alphabet,
     rules: &RuleTable<Elem>,
     marks: &[bool],
     alternatives: &[Elem],
-) -> Result<Vec<Elem>, Memory>
+) -> Result<Option<Elem>, Memory>
     requires folds { rules.now.names ≡ NameCase.Fold }
     requires marks { AreProductive alphabet (rules_of rules.now) marks.now }
-    ensures { IfOk result (λ left. KeepsSome (has alphabet) (rules_of rules.now) (elements_of alternatives.now)
-        (elements_of left.items)) }
+    ensures { IfOk result (λ left. IsLeft (has alphabet) (rules_of rules.now) (e.Alt (elements_of alternatives.now))
+        (some_element left)) }
 {
     let mut kept = Vec::new(alloc);
     for alternative in alternatives {
-        match prune(alloc, alphabet, rules, marks, alternative)? {
-            Some(left) => kept.push(left)?,
-            None => {}
-        }
+        let left = prune(alloc, alphabet, rules, marks, alternative)?;
+        push_left(&mut kept, left)?;
     }
-    Ok(kept)
+    Ok(alt_of(kept))
 }
 
 // Returns what is left of a body, or prose, which derives nothing.

@@ -4,12 +4,12 @@ use Rattle.letters.specs.Letters.{has}
 use Rattle.prune.specs.Pruned.{KeepsAll, KeepsSome}
 use Rattle.prune.proofs.pruned.+pruning.Given as goal
 
-abbrev pub invariant-prune_all-loop-member : goal.invariant-prune_all-loop-member
-invariant-prune_all-loop-member l =
+abbrev pub invariant-prune_concat-loop-member : goal.invariant-prune_concat-loop-member
+invariant-prune_concat-loop-member l =
     KeepsAll (has l.alphabet) (rules_of l.rules) (elements_of (take l.member-index l.members))
     (elements_of l.kept.items)
 
-abbrev pub invariant-prune_some-loop-alternative : goal.invariant-prune_some-loop-alternative
-invariant-prune_some-loop-alternative l =
+abbrev pub invariant-prune_alt-loop-alternative : goal.invariant-prune_alt-loop-alternative
+invariant-prune_alt-loop-alternative l =
     KeepsSome (has l.alphabet) (rules_of l.rules) (elements_of (take l.alternative-index l.alternatives))
     (elements_of l.kept.items)

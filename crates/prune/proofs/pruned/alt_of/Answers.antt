@@ -1,7 +1,7 @@
 use Rattle.std.proofs.Common.{◌==◌, ◌∙◌, ap}
 use Rattle.abnfread.proofs.ElementLemmas.{element-Alt}
 use Rattle.prune.proofs.PruneLemmas as o
-use Rattle.prune.proofs.pruned.prune_alt.Goals as goal
+use Rattle.prune.proofs.pruned.alt_of.Goals as goal
 
 pub returns-then-is_empty : goal.returns-then-is_empty
 returns-then-is_empty c test rules es ks =

@@ -3,12 +3,12 @@ use Rattle.std.proofs.lemmas.Option.{slice_get-get_or}
 use Rattle.pegmatch.proofs.NodeShapeLemmas.{shape_at}
 use Rattle.matchfailure.proofs.OutsideLemmas.{name_has_body, spread_begins, spread_on, spread_few, spread_whole}
 use Rattle.matchfailure.proofs.OutsideLemmas.{spread_within}
-use Rattle.matchfailure.proofs.farthest.outside.outside.Goals as goal
+use Rattle.matchfailure.proofs.farthest.outside.add_outside.Goals as goal
 
 pub visits-init : goal.visits-init
 visits-init c =
     spread_begins c.args.peg.now c.args.window.now c.body_node.result
-    (rw c.start.ensures.id at c.body_node.ensures) _ _ c.new-seen.ensures.empty c.in_ok-add.ensures
+    (rw c.start.ensures.id at c.body_node.ensures) _ _ c.requires c.in_ok-add.ensures
 
 pub visits-smaller : goal.visits-smaller
 visits-smaller c =
@@ -18,7 +18,7 @@ visits-smaller c =
 
 pub visits-preserved : goal.visits-preserved
 visits-preserved c =
-    spread_on c.args.peg.now c.args.window.now c.start.ensures.sound _ c.in_ok-evaluate.ensures _ _ _ _ _
+    spread_on c.args.peg.now c.args.window.now c.start.ensures.sound _ c.in_ok-desk.ensures _ _ _ _ _
     c.visits.invariant
     (rw c.as_slice.ensures.keys (slice_get-get_or c.visits.seen.keys c.visits.next _ (omega arith)))
     (shape_at c.args.peg.now.nodes _ _ c.node.ensures) c.in_ok-add_asked.ensures

@@ -1,6 +1,6 @@
 use Rattle.std.proofs.Common.{◌+◌, ◌-◌, ◌*◌, length}
 use Rattle.matchfailure.proofs.OutsideLemmas.{IsSpread}
-use Rattle.matchfailure.proofs.farthest.outside.outside.Given as goal
+use Rattle.matchfailure.proofs.farthest.outside.add_outside.Given as goal
 
 abbrev pub invariant-visits : goal.invariant-visits
 invariant-visits l = IsSpread l.peg l.fn.window l.next l.seen.keys
