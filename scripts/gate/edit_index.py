@@ -38,7 +38,7 @@ EXEMPT = (
     # It lends a field of a type of which no other value is at hand.
     "flatgrammar: Flat.share",
     # Its equation stands behind a premise, and `requires` says that something meets the premise.
-    "pegmatch: Plain.replay", "pegmatch: writing.write_event", "matchfailure: TextPlace.behind",
+    "pegmatch: writing.write_event", "matchfailure: TextPlace.behind",
     # It passes on what `KeyLog::get` finds.
     "packrat: Packrat.found",
     # It passes on what `diagnostics::explain_note` returns, whose clause equates.

@@ -4,8 +4,6 @@ pub mod MatchStepLemmas
 pub mod NodeShapeLemmas
 pub mod OperandLemmas
 mod PrintedTextExamples
-pub mod RuleGivesLemmas
-pub mod TurnsOnLemmas
 pub mod WrittenTextLemmas
 pub mod NodeGivesLemmas
 pub mod GivesLemmas

@@ -46,9 +46,3 @@ pub(crate) fn looked_after(place: usize, compared: usize) -> usize
 {
     if compared == 0 { 0 } else { place + compared }
 }
-
-pub(crate) fn further(a: usize, b: usize) -> usize
-    ensures { result ≡ max a b }
-{
-    a.max(b)
-}

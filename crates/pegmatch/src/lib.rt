@@ -6,9 +6,6 @@ mod event;
 mod laws;
 mod leaves;
 mod matcher;
-mod matching;
-mod plain;
-mod replay;
 mod visits;
 mod writing;
 
@@ -16,6 +13,5 @@ pub use event::Kept;
 pub use laws::{answer_stands, need_stands, one_answer};
 pub use leaves::{Tried, match_any, match_bytes, match_set};
 pub use matcher::{Matcher, ReplayFault, Unit};
-pub use plain::Plain;
 pub use visits::visits_are_within;
 pub use writing::{Capture, NO_CAPTURE, capture_after, write_event};

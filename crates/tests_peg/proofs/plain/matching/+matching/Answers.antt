@@ -11,9 +11,9 @@ use Rattle.pegmatch.proofs.NodeShapeLemmas.{shape_at, quiet_match, name_match, o
 use Rattle.pegmatch.proofs.NodeShapeLemmas.{act_match, open_match, close_match}
 use Rattle.pegmatch.proofs.MatchStepLemmas.{none_taken, one_taken, one_failed, all_taken, next_tried, one_found}
 use Rattle.pegmatch.proofs.MatchStepLemmas.{all_tried}
-use Rattle.pegmatch.proofs.TurnsOnLemmas.{none_turned, one_turned, all_turned, plus_failed, plus_took, opt_took}
-use Rattle.pegmatch.proofs.TurnsOnLemmas.{opt_failed, and_took, and_failed, not_took, not_failed}
-use Rattle.pegmatch.proofs.matching.+matching.Goals as goal
+use Rattle.tests_peg.proofs.TurnsOnLemmas.{none_turned, one_turned, all_turned, plus_failed, plus_took, opt_took}
+use Rattle.tests_peg.proofs.TurnsOnLemmas.{opt_failed, and_took, and_failed, not_took, not_failed}
+use Rattle.tests_peg.proofs.plain.matching.+matching.Goals as goal
 
 pub match_all-loop-member-init : goal.match_all-loop-member-init
 match_all-loop-member-init t c = record {

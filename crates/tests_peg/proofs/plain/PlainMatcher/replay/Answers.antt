@@ -2,8 +2,8 @@ use Rattle.std.proofs.Common.{length, subst}
 use Rattle.gramcheck.specs.Rising.{Rise}
 use Rattle.gramcheck.proofs.RiseLemmas.{Rise-upper}
 use Rattle.pegmatch.proofs.IsPrintedLemmas.{same_events}
-use Rattle.pegmatch.proofs.plain.PlainMatcher.replay.Goals as goal
-use Rattle.pegmatch.proofs.plain.PlainMatcher.replay.Goals.{in-Ok, in-Err}
+use Rattle.tests_peg.proofs.plain.PlainMatcher.replay.Goals as goal
+use Rattle.tests_peg.proofs.plain.PlainMatcher.replay.Goals.{in-Ok, in-Err}
 
 pub write_events-requires-clause-stands : goal.write_events-requires-clause-stands
 write_events-requires-clause-stands g c =

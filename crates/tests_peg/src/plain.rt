@@ -6,12 +6,14 @@ ghost use Rattle.pegmatch.specs.Answers.{IsAnswer, HoldsSuccess, Replays};
 ghost use Rattle.pegmatch.specs.KeptEvents.{StandFor, IsEmptyUnlessTook};
 ghost use Rattle.pegmatch.specs.Text.{text_of};
 
-use crate::event::Kept;
-use crate::matcher::{Matcher, ReplayFault, Unit};
-use crate::matching::match_node;
-use crate::replay::write_events;
+mod matching;
+mod replay;
+
 use gramcheck::{SoundPeg, events_rise_of_start};
+use matching::match_node;
 use memo::Found;
+use pegmatch::{Kept, Matcher, ReplayFault, Unit};
+use replay::write_events;
 use ruletable::{Memory, Sink};
 use std::alloc::Global;
 use std::marker::Model;
@@ -21,7 +23,7 @@ use std::marker::Model;
 /// It recurses as deep as operands and names stand in one another along the input; a repetition goes no deeper with its
 /// turns.
 #[derive(Drop)]
-pub struct Plain {
+pub(crate) struct Plain {
     events: Vec<Kept>,
 }
 
@@ -36,7 +38,7 @@ impl Model for Plain {
 
 impl Plain {
     /// Returns an empty matcher; it takes no memory.
-    pub fn new(alloc: Global) -> Plain
+    pub(crate) fn new(alloc: Global) -> Plain
         ensures { result ≡ [] }
     {
         Plain {

@@ -4,7 +4,7 @@ use Rattle.gramcheck.specs.Outcome.{Event}
 use Rattle.gramcheck.specs.Rising.{Rise}
 use Rattle.pegmatch.specs.KeptEvents.{StandFor}
 use Rattle.pegmatch.proofs.IsPrintedLemmas.{HaveWritten}
-use Rattle.pegmatch.proofs.replay.write_events.Given as goal
+use Rattle.tests_peg.proofs.plain.replay.write_events.Given as goal
 
 abbrev pub invariant-loop-event : goal.invariant-loop-event
 invariant-loop-event g l = record {

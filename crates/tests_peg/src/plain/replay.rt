@@ -7,9 +7,8 @@ ghost use Rattle.pegmatch.specs.KeptEvents.{StandFor};
 ghost use Rattle.pegmatch.specs.Text.{text_of};
 ghost use Rattle.ruletable.specs.Writing.{Writes, Flags};
 
-use crate::event::Kept;
-use crate::writing::{NO_CAPTURE, capture_after, write_event};
 use gramcheck::SoundPeg;
+use pegmatch::{Kept, NO_CAPTURE, capture_after, write_event};
 use ruletable::{Sink, WriteFault};
 
 /// Writes what the kept events of a success print.

@@ -8,11 +8,9 @@ ghost use Rattle.gramcheck.specs.Ranks.{IsNullNode};
 ghost use Rattle.pegmatch.specs.KeptEvents.{SpellsSome, IsMatch, IsMatchOfAll, IsMatchOfFirst, IsMatchOver, IsSeen};
 ghost use Rattle.pegmatch.specs.KeptEvents.{EndsWithin};
 
-use crate::compare::further;
-use crate::event::Kept;
-use crate::leaves::{Tried, keep, match_any, match_bytes, match_set};
 use gramcheck::SoundPeg;
 use memo::Found;
+use pegmatch::{Kept, Tried, match_any, match_bytes, match_set};
 use pegnodes::Node;
 use ruletable::Memory;
 
@@ -324,4 +322,23 @@ fn look_ahead(
     let tried = match_node(peg, window, operand, place, events, begun)?;
     events.truncate(before);
     Ok(tried)
+}
+
+/// Keeps an event, and takes nothing.
+fn keep(event: Kept, place: usize, events: &mut Vec<Kept>) -> Result<Tried, Memory>
+    ensures found { IfOk result (λ tried. tried ≡ record { found = Found.Took place; looked = 0 }) }
+    ensures kept { OnOk result (events.new.items ≡ events.old.items ++ event ∷ []) }
+{
+    events.push(event)?;
+    Ok(Tried {
+        found: Found::Took(place),
+        looked: 0,
+    })
+}
+
+// Returns the greater place looked at.
+fn further(a: usize, b: usize) -> usize
+    ensures { result ≡ max a b }
+{
+    a.max(b)
 }

@@ -4,8 +4,8 @@ use Rattle.pegread.specs.PegViews.{rules_of}
 use Rattle.pegnodes.specs.Nodes.{shapes_of, Spells, SpellAll}
 use Rattle.pegmatch.proofs.OperandLemmas.{at, IsFront}
 use Rattle.pegmatch.proofs.MatchStepLemmas.{HaveTaken, HaveFailed}
-use Rattle.pegmatch.proofs.TurnsOnLemmas.{HaveTurned}
-use Rattle.pegmatch.proofs.matching.+matching.Given as goal
+use Rattle.tests_peg.proofs.TurnsOnLemmas.{HaveTurned}
+use Rattle.tests_peg.proofs.plain.matching.+matching.Given as goal
 
 abbrev pub decreases-match_node : goal.decreases-match_node
 decreases-match_node l = 4 * at (shapes_of l.peg.now.nodes) l.peg.now.ranks (length l.window.now) l.place l.n + 3

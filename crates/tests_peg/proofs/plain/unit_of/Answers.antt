@@ -1,5 +1,5 @@
-use Rattle.pegmatch.proofs.RuleGivesLemmas.{rule_gives}
-use Rattle.pegmatch.proofs.plain.unit_of.Goals as goal
+use Rattle.tests_peg.proofs.RuleGivesLemmas.{rule_gives}
+use Rattle.tests_peg.proofs.plain.unit_of.Goals as goal
 
 pub returns-then-tried-window : goal.returns-then-tried-window
 returns-then-tried-window c = (

@@ -1,6 +1,6 @@
 use Rattle.std.proofs.Common.{◌∙◌}
 use Rattle.pegmatch.proofs.IsPrintedLemmas.{written_next, written_part, written_all, next_event}
-use Rattle.pegmatch.proofs.replay.write_events.Goals as goal
+use Rattle.tests_peg.proofs.plain.replay.write_events.Goals as goal
 
 pub write_event-requires-clause-stands : goal.write_event-requires-clause-stands
 write_event-requires-clause-stands g c =

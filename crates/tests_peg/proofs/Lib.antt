@@ -1,0 +1,2 @@
+mod RuleGivesLemmas
+mod TurnsOnLemmas
