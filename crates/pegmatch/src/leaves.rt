@@ -88,8 +88,8 @@ pub fn match_bytes(bytes: &[u8], window: &[u8], place: usize) -> Tried
 
 /// Keeps an event, and takes nothing.
 pub(crate) fn keep(event: Kept, place: usize, events: &mut Vec<Kept>) -> Result<Tried, Memory>
-    ensures found { IfOk result (λ tried. tried ≡ record { found = Found.Took place; looked = 0 }) }
-    ensures kept { OnOk result (events.new.items ≡ events.old.items ++ event ∷ []) }
+    ensures { IfOk result (λ tried. (tried ≡ record { found = Found.Took place; looked = 0 })
+        × (events.new.items ≡ events.old.items ++ event ∷ [])) }
 {
     events.push(event)?;
     Ok(Tried {

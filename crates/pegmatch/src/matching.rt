@@ -39,25 +39,24 @@ pub(crate) fn match_node(
     ensures some { 1 ≤ begun.new }
 {
     *begun = begun.saturating_add(1);
-    let tried = match peg.node(n) {
-        Node::Any => match_any(window, place),
-        Node::Bytes(bytes) => match_bytes(bytes, window, place),
-        Node::Set(set) => match_set(set, window, place),
-        Node::Name(id) => match_node(peg, window, peg.body_node(*id), place, events, begun)?,
-        Node::Seq(members) => match_all(peg, window, n, members, place, events, begun)?,
+    match peg.node(n) {
+        Node::Any => Ok(match_any(window, place)),
+        Node::Bytes(bytes) => Ok(match_bytes(bytes, window, place)),
+        Node::Set(set) => Ok(match_set(set, window, place)),
+        Node::Name(id) => match_node(peg, window, peg.body_node(*id), place, events, begun),
+        Node::Seq(members) => match_all(peg, window, n, members, place, events, begun),
         Node::Choice(alternatives) => {
-            match_first(peg, window, n, alternatives, place, events, begun)?
+            match_first(peg, window, n, alternatives, place, events, begun)
         }
-        Node::Star(operand) => match_star(peg, window, *operand, place, events, begun)?,
-        Node::Plus { operand, .. } => { match_plus(peg, window, *operand, place, events, begun)? }
-        Node::Opt(operand) => match_opt(peg, window, *operand, place, events, begun)?,
-        Node::And(operand) => match_and(peg, window, *operand, place, events, begun)?,
-        Node::Not(operand) => match_not(peg, window, *operand, place, events, begun)?,
-        Node::Act(_) => keep(Kept::Acted(n), place, events)?,
-        Node::Open => keep(Kept::Opened(place), place, events)?,
-        Node::Close => keep(Kept::Closed(place), place, events)?,
-    };
-    Ok(tried)
+        Node::Star(operand) => match_star(peg, window, *operand, place, events, begun),
+        Node::Plus { operand, .. } => match_plus(peg, window, *operand, place, events, begun),
+        Node::Opt(operand) => match_opt(peg, window, *operand, place, events, begun),
+        Node::And(operand) => match_and(peg, window, *operand, place, events, begun),
+        Node::Not(operand) => match_not(peg, window, *operand, place, events, begun),
+        Node::Act(_) => keep(Kept::Acted(n), place, events),
+        Node::Open => keep(Kept::Opened(place), place, events),
+        Node::Close => keep(Kept::Closed(place), place, events),
+    }
 }
 
 /// Matches the members of a sequence in order, each from the place of the one before.
