@@ -3,7 +3,8 @@
 use Rattle.std.proofs.Common.{◌≡◌, ℕ, ◌<◌, List, [], ◌∷◌, ◌++◌, length, map, refl, sym, ap, ◌∙◌, Some, arith}
 use Rattle.std.proofs.Common.{append-nil, option_map, Vec, Global}
 use Rattle.std.proofs.lemmas.List.{length-map}
-use Rattle.std.specs.Prelude.{slice_get}
+use Rattle.std.specs.Prelude.{slice_get, Result, IfOk}
+use Rattle.std.proofs.lemmas.Result.{IfOk-weaker}
 use Rattle.std.proofs.lemmas.Option.{slice_get-map, slice_get_within}
 use Rattle.pegread.specs.Pattern as e
 use Rattle.pegread.specs.Pattern.{Pattern, Rule}
@@ -51,55 +52,62 @@ module _ {rules : List Rule} {nodes : List Shape} {n : ℕ} where
   quiet_match {x} {p} {b} tried old spelt d = λ c s.
       rw (spelt c s) (quiet_by rules nodes x p b tried.found tried.looked old d)
 
-  pub name_match : (x : List ℕ) (p : ℕ) {id m : ℕ} {body : Pattern} (tried : Tried) (old new : List Kept)
+-- a node, from what is found for another node or for its operands, if there is no error
+module _ {E : Type 0} (r : Result Tried E) (rules : List Rule) (nodes : List Shape) (n : ℕ) (x : List ℕ) (p : ℕ)
+    (old new : List Kept) where
+  pub name_match : {id m : ℕ} {body : Pattern}
       → slice_get nodes n ≡ Some (shape.Name id) →
       slice_get (map (λ rule. rule.body) rules) id ≡ Some body → Spells rules nodes m body →
-      IsMatch rules nodes x m p tried old new → IsMatch rules nodes x n p tried old new
-  name_match x p {id} {body} tried old new at there spelled h = λ c s.
+      IfOk r (λ tried. IsMatch rules nodes x m p tried old new)
+      → IfOk r (λ tried. IsMatch rules nodes x n p tried old new)
+  name_match {id} {m} {body} at there spelled = IfOk-weaker r _ _ (λ tried h c s.
       let is = has_shape rules nodes s (shape.Name id) at in
       let found = body_at_id rules is.0 ∙ ap (λ v. slice_get (map (λ rule. rule.body) rules) v) is.2 ∙ there in
       rw is.1 (map_by rules nodes (Gives rules x body p) (Gives rules x (e.Name is.0) p) (λ o k d. name found d)
-      tried.found tried.looked old new (h body spelled))
+      tried.found tried.looked old new (h body spelled)))
 
   -- a node with one operand
-  pub over_match : (x : List ℕ) (p : ℕ) (form : Pattern → Pattern) {m : ℕ} (tried : Tried) (old new : List Kept) →
+  pub over_match : (form : Pattern → Pattern) {m : ℕ} →
       ((c : Pattern) → Spells rules nodes n c → (q : Pattern) × (c ≡ form q) × Spells rules nodes m q) →
-      IsMatchOver form rules nodes x m p tried old new → IsMatch rules nodes x n p tried old new
-  over_match x p form tried old new spelt h = λ c s. let is = spelt c s in rw is.1 (h is.0 is.2)
+      IfOk r (λ tried. IsMatchOver form rules nodes x m p tried old new)
+      → IfOk r (λ tried. IsMatch rules nodes x n p tried old new)
+  over_match form spelt = IfOk-weaker r _ _ (λ tried h c s. let is = spelt c s in rw is.1 (h is.0 is.2))
 
-  pub all_match : (x : List ℕ) (p : ℕ) {ms : List ℕ} (tried : Tried) (old new : List Kept)
-      → slice_get nodes n ≡ Some (shape.Seq ms) → IsMatchOfAll rules nodes x ms p tried old new
-      → IsMatch rules nodes x n p tried old new
-  all_match x p {ms} tried old new at h = λ c s.
+  pub all_match : {ms : List ℕ} → slice_get nodes n ≡ Some (shape.Seq ms)
+      → IfOk r (λ tried. IsMatchOfAll rules nodes x ms p tried old new)
+      → IfOk r (λ tried. IsMatch rules nodes x n p tried old new)
+  all_match {ms} at = IfOk-weaker r _ _ (λ tried h c s.
       let is = has_shape rules nodes s (shape.Seq ms) at in
       rw is.1 (map_by rules nodes (GivesAll rules x is.0 p) (Gives rules x (e.Seq is.0) p) (λ o k d. seq d)
-      tried.found tried.looked old new (h is.0 is.2))
+      tried.found tried.looked old new (h is.0 is.2)))
 
-  pub first_match : (x : List ℕ) (p : ℕ) {ms : List ℕ} (tried : Tried) (old new : List Kept)
-      → slice_get nodes n ≡ Some (shape.Choice ms) → IsMatchOfFirst rules nodes x ms p tried old new
-      → IsMatch rules nodes x n p tried old new
-  first_match x p {ms} tried old new at h = λ c s.
+  pub first_match : {ms : List ℕ}
+      → slice_get nodes n ≡ Some (shape.Choice ms)
+      → IfOk r (λ tried. IsMatchOfFirst rules nodes x ms p tried old new)
+      → IfOk r (λ tried. IsMatch rules nodes x n p tried old new)
+  first_match {ms} at = IfOk-weaker r _ _ (λ tried h c s.
       let is = has_shape rules nodes s (shape.Choice ms) at in
       rw is.1 (map_by rules nodes (GivesFirst rules x is.0 p) (Gives rules x (e.Choice is.0) p) (λ o k d. choice d)
-      tried.found tried.looked old new (h is.0 is.2))
+      tried.found tried.looked old new (h is.0 is.2)))
 
-  pub act_match : (x : List ℕ) {p : ℕ} {t : List ℕ} {tried : Tried} (old : List Kept) {new : List Kept}
-      → slice_get nodes n ≡ Some (shape.Act t) → tried ≡ kept_one p →
-      new ≡ old ++ Kept.Acted n ∷ [] → IsMatch rules nodes x n p tried old new
-  act_match x {t} old at is put = λ c s. rw (is, has_shape rules nodes s (shape.Act t) at)
-      (_, _, one_event (acted at) no_event, act, put)
+  -- a node that keeps one event
+  pub act_match : {t : List ℕ} → slice_get nodes n ≡ Some (shape.Act t)
+      → IfOk r (λ tried. (tried ≡ kept_one p) × (new ≡ old ++ Kept.Acted n ∷ []))
+      → IfOk r (λ tried. IsMatch rules nodes x n p tried old new)
+  act_match {t = t} at = IfOk-weaker r _ _ (λ tried h c s. rw (h.0, has_shape rules nodes s (shape.Act t) at)
+      (_, _, one_event (acted at) no_event, act, h.1))
 
-  pub open_match : (x : List ℕ) {p : ℕ} {tried : Tried} (old : List Kept) {new : List Kept}
-      → slice_get nodes n ≡ Some shape.Open → tried ≡ kept_one p →
-      new ≡ old ++ Kept.Opened p ∷ [] → IsMatch rules nodes x n p tried old new
-  open_match x old at is put = λ c s. rw (is, has_shape rules nodes s shape.Open at)
-      (_, _, one_event opened no_event, open_at, put)
+  pub open_match : slice_get nodes n ≡ Some shape.Open
+      → IfOk r (λ tried. (tried ≡ kept_one p) × (new ≡ old ++ Kept.Opened p ∷ []))
+      → IfOk r (λ tried. IsMatch rules nodes x n p tried old new)
+  open_match at = IfOk-weaker r _ _ (λ tried h c s. rw (h.0, has_shape rules nodes s shape.Open at)
+      (_, _, one_event opened no_event, open_at, h.1))
 
-  pub close_match : (x : List ℕ) {p : ℕ} {tried : Tried} (old : List Kept) {new : List Kept}
-      → slice_get nodes n ≡ Some shape.Close → tried ≡ kept_one p →
-      new ≡ old ++ Kept.Closed p ∷ [] → IsMatch rules nodes x n p tried old new
-  close_match x old at is put = λ c s. rw (is, has_shape rules nodes s shape.Close at)
-      (_, _, one_event closed no_event, close_at, put)
+  pub close_match : slice_get nodes n ≡ Some shape.Close
+      → IfOk r (λ tried. (tried ≡ kept_one p) × (new ≡ old ++ Kept.Closed p ∷ []))
+      → IfOk r (λ tried. IsMatch rules nodes x n p tried old new)
+  close_match at = IfOk-weaker r _ _ (λ tried h c s. rw (h.0, has_shape rules nodes s shape.Close at)
+      (_, _, one_event closed no_event, close_at, h.1))
 
 pub node_within : (nodes : List Node) (n : ℕ) (s : Shape) → slice_get (shapes_of nodes) n ≡ Some s → n < length nodes
 node_within nodes n s is = let less = slice_get_within (shapes_of nodes) n s is in grind (arith, less, length-map)

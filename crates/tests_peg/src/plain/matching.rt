@@ -1,5 +1,5 @@
 //! What a node gives at a place, by recursion over the nodes.
-ghost use Rattle.std.specs.Prelude.{◌≡◌, ◌≤◌, length, slice_get, Some, IfOk, OnOk};
+ghost use Rattle.std.specs.Prelude.{◌≡◌, ◌≤◌, length, slice_get, Some, IfOk, OnOk, max, ◌++◌, [], ◌∷◌};
 ghost use Rattle.pegread.specs.Pattern.{Pattern};
 ghost use Rattle.pegread.specs.PegViews.{rules_of};
 ghost use Rattle.gramcheck.specs.Grammar.{IsSoundGrammar};
@@ -37,25 +37,24 @@ pub(crate) fn match_node(
     ensures some { 1 ≤ begun.new }
 {
     *begun = begun.saturating_add(1);
-    let tried = match peg.node(n) {
-        Node::Any => match_any(window, place),
-        Node::Bytes(bytes) => match_bytes(bytes, window, place),
-        Node::Set(set) => match_set(set, window, place),
-        Node::Name(id) => match_node(peg, window, peg.body_node(*id), place, events, begun)?,
-        Node::Seq(members) => match_all(peg, window, n, members, place, events, begun)?,
+    match peg.node(n) {
+        Node::Any => Ok(match_any(window, place)),
+        Node::Bytes(bytes) => Ok(match_bytes(bytes, window, place)),
+        Node::Set(set) => Ok(match_set(set, window, place)),
+        Node::Name(id) => match_node(peg, window, peg.body_node(*id), place, events, begun),
+        Node::Seq(members) => match_all(peg, window, n, members, place, events, begun),
         Node::Choice(alternatives) => {
-            match_first(peg, window, n, alternatives, place, events, begun)?
+            match_first(peg, window, n, alternatives, place, events, begun)
         }
-        Node::Star(operand) => match_star(peg, window, *operand, place, events, begun)?,
-        Node::Plus { operand, .. } => { match_plus(peg, window, *operand, place, events, begun)? }
-        Node::Opt(operand) => match_opt(peg, window, *operand, place, events, begun)?,
-        Node::And(operand) => match_and(peg, window, *operand, place, events, begun)?,
-        Node::Not(operand) => match_not(peg, window, *operand, place, events, begun)?,
-        Node::Act(_) => keep(Kept::Acted(n), place, events)?,
-        Node::Open => keep(Kept::Opened(place), place, events)?,
-        Node::Close => keep(Kept::Closed(place), place, events)?,
-    };
-    Ok(tried)
+        Node::Star(operand) => match_star(peg, window, *operand, place, events, begun),
+        Node::Plus { operand, .. } => match_plus(peg, window, *operand, place, events, begun),
+        Node::Opt(operand) => match_opt(peg, window, *operand, place, events, begun),
+        Node::And(operand) => match_and(peg, window, *operand, place, events, begun),
+        Node::Not(operand) => match_not(peg, window, *operand, place, events, begun),
+        Node::Act(_) => keep(Kept::Acted(n), place, events),
+        Node::Open => keep(Kept::Opened(place), place, events),
+        Node::Close => keep(Kept::Closed(place), place, events),
+    }
 }
 
 /// Matches the members of a sequence in order, each from the place of the one before.
@@ -324,10 +323,10 @@ fn look_ahead(
     Ok(tried)
 }
 
-/// Keeps an event, and takes nothing.
+// Keeps an event, and takes nothing.
 fn keep(event: Kept, place: usize, events: &mut Vec<Kept>) -> Result<Tried, Memory>
-    ensures found { IfOk result (λ tried. tried ≡ record { found = Found.Took place; looked = 0 }) }
-    ensures kept { OnOk result (events.new.items ≡ events.old.items ++ event ∷ []) }
+    ensures { IfOk result (λ tried. (tried ≡ record { found = Found.Took place; looked = 0 })
+        × (events.new.items ≡ events.old.items ++ event ∷ [])) }
 {
     events.push(event)?;
     Ok(Tried {
@@ -336,7 +335,7 @@ fn keep(event: Kept, place: usize, events: &mut Vec<Kept>) -> Result<Tried, Memo
     })
 }
 
-// Returns the greater place looked at.
+// Returns the greater of two positions.
 fn further(a: usize, b: usize) -> usize
     ensures { result ≡ max a b }
 {

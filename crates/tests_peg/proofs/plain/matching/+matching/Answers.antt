@@ -170,80 +170,80 @@ match_node-match_node-requires t c =
 pub match_node-returns-in-Any-clause-value : goal.match_node-returns-in-Any-clause-value
 match_node-returns-in-Any-clause-value t c =
     let here = shape_at c.args.peg.now.nodes c.args.n _ (c.node.ensures ∙ ap Some c.in-Any.is) in
-    quiet_match _ _ (λ e s. has_shape _ _ s shape.Any here) (c.match_any-tried.ensures.value _)
+    quiet_match _ _ (λ e s. has_shape _ _ s shape.Any here) (c.match_any.ensures.value _)
 
 pub match_node-returns-in-Bytes-clause-value : goal.match_node-returns-in-Bytes-clause-value
 match_node-returns-in-Bytes-clause-value t c =
     let here = shape_at c.args.peg.now.nodes c.args.n _ (c.node.ensures ∙ ap Some c.in-Bytes.is) in
     quiet_match _ _ (λ e s. has_shape _ _ s (shape.Bytes _) here)
-    (rw c.deref.ensures.value at c.match_bytes-tried.ensures.value _)
+    (rw c.deref.ensures.value at c.match_bytes.ensures.value _)
 
 pub match_node-returns-in-Set-clause-value : goal.match_node-returns-in-Set-clause-value
 match_node-returns-in-Set-clause-value t c =
     let here = shape_at c.args.peg.now.nodes c.args.n _ (c.node.ensures ∙ ap Some c.in-Set.is) in
-    quiet_match _ _ (λ e s. has_shape _ _ s (shape.Set _) here) (c.match_set-tried.ensures.value _)
+    quiet_match _ _ (λ e s. has_shape _ _ s (shape.Set _) here) (c.match_set.ensures.value _)
 
-pub match_node-returns-in_ok-tried-in-Name-clause-value : goal.match_node-returns-in_ok-tried-in-Name-clause-value
-match_node-returns-in_ok-tried-in-Name-clause-value t c =
+pub match_node-returns-in-Name-clause-value : goal.match_node-returns-in-Name-clause-value
+match_node-returns-in-Name-clause-value t c =
     let here = shape_at c.args.peg.now.nodes c.args.n _ (c.node.ensures ∙ ap Some c.in-Name.is) in
     let body = c.requires.sound.spelled.spelled _ _ c.body_node.ensures in
-    name_match _ _ _ _ _ here body.1 body.2 c.in_ok-tried-in-Name.ensures.value
+    name_match c.match_node.result _ _ _ _ _ _ _ here body.1 body.2 c.match_node.ensures.value
 
-pub match_node-returns-in_ok-tried-in-Seq-clause-value : goal.match_node-returns-in_ok-tried-in-Seq-clause-value
-match_node-returns-in_ok-tried-in-Seq-clause-value t c =
-    all_match _ _ _ _ _ (shape_at c.args.peg.now.nodes c.args.n _ (c.node.ensures ∙ ap Some c.in-Seq.is))
-    (rw c.deref-in-Seq.ensures.value at c.in_ok-tried-in-Seq.ensures.value)
+pub match_node-returns-in-Seq-clause-value : goal.match_node-returns-in-Seq-clause-value
+match_node-returns-in-Seq-clause-value t c =
+    let here = shape_at c.args.peg.now.nodes c.args.n _ (c.node.ensures ∙ ap Some c.in-Seq.is) in
+    all_match c.match_all.result _ _ _ _ _ _ _ here (rw c.deref-in-Seq.ensures.value at c.match_all.ensures.value)
 
-pub match_node-returns-in_ok-tried-in-Choice-clause-value : goal.match_node-returns-in_ok-tried-in-Choice-clause-value
-match_node-returns-in_ok-tried-in-Choice-clause-value t c =
-    first_match _ _ _ _ _ (shape_at c.args.peg.now.nodes c.args.n _ (c.node.ensures ∙ ap Some c.in-Choice.is))
-    (rw c.deref-in-Choice.ensures.value at c.in_ok-tried-in-Choice.ensures.value)
+pub match_node-returns-in-Choice-clause-value : goal.match_node-returns-in-Choice-clause-value
+match_node-returns-in-Choice-clause-value t c =
+    let here = shape_at c.args.peg.now.nodes c.args.n _ (c.node.ensures ∙ ap Some c.in-Choice.is) in
+    first_match c.match_first.result _ _ _ _ _ _ _ here (rw c.deref-in-Choice.ensures.value at c.match_first.ensures.value)
 
-pub match_node-returns-in_ok-tried-in-Star-clause-value : goal.match_node-returns-in_ok-tried-in-Star-clause-value
-match_node-returns-in_ok-tried-in-Star-clause-value t c =
+pub match_node-returns-in-Star-clause-value : goal.match_node-returns-in-Star-clause-value
+match_node-returns-in-Star-clause-value t c =
     let here = shape_at c.args.peg.now.nodes c.args.n _ (c.node.ensures ∙ ap Some c.in-Star.is) in
-    over_match _ _ expr.Star _ _ _ (λ e s. has_shape _ _ s (shape.Star c.in-Star.operand) here)
-    c.in_ok-tried-in-Star.ensures.value
+    over_match c.match_star.result _ _ _ _ _ _ _ expr.Star (λ e s. has_shape _ _ s (shape.Star c.in-Star.operand) here)
+    c.match_star.ensures.value
 
-pub match_node-returns-in_ok-tried-in-Plus-clause-value : goal.match_node-returns-in_ok-tried-in-Plus-clause-value
-match_node-returns-in_ok-tried-in-Plus-clause-value t c =
+pub match_node-returns-in-Plus-clause-value : goal.match_node-returns-in-Plus-clause-value
+match_node-returns-in-Plus-clause-value t c =
     let here = shape_at c.args.peg.now.nodes c.args.n _ (c.node.ensures ∙ ap Some c.in-Plus.is) in
-    over_match _ _ expr.Plus _ _ _ (λ e s. let like =
+    over_match c.match_plus.result _ _ _ _ _ _ _ expr.Plus (λ e s. let like =
     has_shape _ _ s (shape.Plus c.in-Plus.operand c.in-Plus.star) here in
-    (like.0, like.1, like.2)) c.in_ok-tried-in-Plus.ensures.value
+    (like.0, like.1, like.2)) c.match_plus.ensures.value
 
-pub match_node-returns-in_ok-tried-in-Opt-clause-value : goal.match_node-returns-in_ok-tried-in-Opt-clause-value
-match_node-returns-in_ok-tried-in-Opt-clause-value t c =
+pub match_node-returns-in-Opt-clause-value : goal.match_node-returns-in-Opt-clause-value
+match_node-returns-in-Opt-clause-value t c =
     let here = shape_at c.args.peg.now.nodes c.args.n _ (c.node.ensures ∙ ap Some c.in-Opt.is) in
-    over_match _ _ expr.Opt _ _ _ (λ e s. has_shape _ _ s (shape.Opt c.in-Opt.operand) here)
-    c.in_ok-tried-in-Opt.ensures.value
+    over_match c.match_opt.result _ _ _ _ _ _ _ expr.Opt (λ e s. has_shape _ _ s (shape.Opt c.in-Opt.operand) here)
+    c.match_opt.ensures.value
 
-pub match_node-returns-in_ok-tried-in-And-clause-value : goal.match_node-returns-in_ok-tried-in-And-clause-value
-match_node-returns-in_ok-tried-in-And-clause-value t c =
+pub match_node-returns-in-And-clause-value : goal.match_node-returns-in-And-clause-value
+match_node-returns-in-And-clause-value t c =
     let here = shape_at c.args.peg.now.nodes c.args.n _ (c.node.ensures ∙ ap Some c.in-And.is) in
-    over_match _ _ expr.And _ _ _ (λ e s. has_shape _ _ s (shape.And c.in-And.operand) here)
-    c.in_ok-tried-in-And.ensures.value
+    over_match c.match_and.result _ _ _ _ _ _ _ expr.And (λ e s. has_shape _ _ s (shape.And c.in-And.operand) here)
+    c.match_and.ensures.value
 
-pub match_node-returns-in_ok-tried-in-Not-clause-value : goal.match_node-returns-in_ok-tried-in-Not-clause-value
-match_node-returns-in_ok-tried-in-Not-clause-value t c =
+pub match_node-returns-in-Not-clause-value : goal.match_node-returns-in-Not-clause-value
+match_node-returns-in-Not-clause-value t c =
     let here = shape_at c.args.peg.now.nodes c.args.n _ (c.node.ensures ∙ ap Some c.in-Not.is) in
-    over_match _ _ expr.Not _ _ _ (λ e s. has_shape _ _ s (shape.Not c.in-Not.operand) here)
-    c.in_ok-tried-in-Not.ensures.value
+    over_match c.match_not.result _ _ _ _ _ _ _ expr.Not (λ e s. has_shape _ _ s (shape.Not c.in-Not.operand) here)
+    c.match_not.ensures.value
 
-pub match_node-returns-in_ok-tried-in-Act-clause-value : goal.match_node-returns-in_ok-tried-in-Act-clause-value
-match_node-returns-in_ok-tried-in-Act-clause-value t c =
-    act_match _ _ (shape_at c.args.peg.now.nodes c.args.n _ (c.node.ensures ∙ ap Some c.in-Act.is))
-    c.in_ok-tried-in-Act.ensures.found c.in_ok-tried-in-Act.ensures.kept
+pub match_node-returns-in-Act-clause-value : goal.match_node-returns-in-Act-clause-value
+match_node-returns-in-Act-clause-value t c =
+    let here = shape_at c.args.peg.now.nodes c.args.n _ (c.node.ensures ∙ ap Some c.in-Act.is) in
+    act_match c.keep.result _ _ _ _ _ _ _ here c.keep.ensures
 
-pub match_node-returns-in_ok-tried-in-Open-clause-value : goal.match_node-returns-in_ok-tried-in-Open-clause-value
-match_node-returns-in_ok-tried-in-Open-clause-value t c =
-    open_match _ _ (shape_at c.args.peg.now.nodes c.args.n _ (c.node.ensures ∙ ap Some c.in-Open.is))
-    c.in_ok-tried-in-Open.ensures.found c.in_ok-tried-in-Open.ensures.kept
+pub match_node-returns-in-Open-clause-value : goal.match_node-returns-in-Open-clause-value
+match_node-returns-in-Open-clause-value t c =
+    let here = shape_at c.args.peg.now.nodes c.args.n _ (c.node.ensures ∙ ap Some c.in-Open.is) in
+    open_match c.keep-in-Open.result _ _ _ _ _ _ _ here c.keep-in-Open.ensures
 
-pub match_node-returns-in_ok-tried-in-Close-clause-value : goal.match_node-returns-in_ok-tried-in-Close-clause-value
-match_node-returns-in_ok-tried-in-Close-clause-value t c =
-    close_match _ _ (shape_at c.args.peg.now.nodes c.args.n _ (c.node.ensures ∙ ap Some c.in-Close.is))
-    c.in_ok-tried-in-Close.ensures.found c.in_ok-tried-in-Close.ensures.kept
+pub match_node-returns-in-Close-clause-value : goal.match_node-returns-in-Close-clause-value
+match_node-returns-in-Close-clause-value t c =
+    let here = shape_at c.args.peg.now.nodes c.args.n _ (c.node.ensures ∙ ap Some c.in-Close.is) in
+    close_match c.keep-in-Close.result _ _ _ _ _ _ _ here c.keep-in-Close.ensures
 
 pub match_star-loop-tried-init : goal.match_star-loop-tried-init
 match_star-loop-tried-init t c = record {
