@@ -14,7 +14,7 @@ fn main(rt: HostRuntime) -> ExitCode {
         &rt,
         rt.stdout(),
         rt.stderr(),
-        abnfi_command,
+        |alloc| abnfi_command(alloc),
         |words, out, err| {
             // without a buffer each line would cost a system call
             let Ok(ahead) = BufReader::new(rt.alloc(), rt.stdin()) else {

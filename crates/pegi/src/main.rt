@@ -14,7 +14,7 @@ fn main(rt: HostRuntime) -> ExitCode {
         &rt,
         rt.stdout(),
         rt.stderr(),
-        pegi_command,
+        |alloc| pegi_command(alloc),
         |words, out, err| {
             // without a buffer each unit would cost a system call
             let Ok(ahead) = BufReader::new(rt.alloc(), rt.stdin()) else {
