@@ -197,7 +197,8 @@ match_node-returns-in-Seq-clause-value t c =
 pub match_node-returns-in-Choice-clause-value : goal.match_node-returns-in-Choice-clause-value
 match_node-returns-in-Choice-clause-value t c =
     let here = shape_at c.args.peg.now.nodes c.args.n _ (c.node.ensures ∙ ap Some c.in-Choice.is) in
-    first_match c.match_first.result _ _ _ _ _ _ _ here (rw c.deref-in-Choice.ensures.value at c.match_first.ensures.value)
+    first_match c.match_first.result _ _ _ _ _ _ _ here
+    (rw c.deref-in-Choice.ensures.value at c.match_first.ensures.value)
 
 pub match_node-returns-in-Star-clause-value : goal.match_node-returns-in-Star-clause-value
 match_node-returns-in-Star-clause-value t c =
