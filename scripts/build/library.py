@@ -9,8 +9,10 @@ give out the calls of c/fanquber.h and nothing else; the script fails otherwise.
 (Debian: binutils). CC names the compiler, `cc` if not set, and RT the command, `rt` if not set.
 
 With --over-ci it makes bin/libfanquber_c.a too, over the libraries that `rt ci` left in crates/*/out, unless it is
-newer than all sources. `rt ci` proves the crate and keeps nothing of it, so this proves it once more, over what an
-earlier check in this checkout kept. Where a checkout has libraries of its own there, or that fails, prove.py makes it.
+newer than all sources. Where a checkout has libraries of its own there, or that fails, prove.py makes it.
+
+`rt ci` keeps the verdict on a static library and no archive. So make_archive checks `fanquber_c` once more: its exports
+alone, since each calls a function of `capi`, which is proved once.
 """
 import os
 import pathlib
@@ -19,7 +21,6 @@ import subprocess
 import sys
 
 sys.path.insert(0, str(pathlib.Path(__file__).resolve().parents[1]))  # scripts/, for what groups share
-from build.prove import MOST, processors
 from crates import below, listed, uses
 
 TOP = pathlib.Path(__file__).resolve().parents[2]
@@ -55,21 +56,31 @@ def newer_source(proved):
     return next((it for it in sources if it.stat().st_mtime > proved.stat().st_mtime), None)
 
 
-def over_ci(archive):
-    """Returns the command that proves the crate over the libraries that `rt ci` left, and makes its archive."""
-    page, libraries = kit(), sorted(below(TOP, CRATE))
-    named = listed(TOP)[CRATE].partition(":")[2].split()
-    ours = {it: f"../{it}/out/rlib/{it}.rlib" for it in uses(TOP)[CRATE]}
+def build_words(tree, crate, to):
+    """Returns the command that checks a static library over the libraries of a tree, and writes its archive."""
+    page = kit()
+    named = listed(tree)[crate].partition(":")[2].split()
+    ours = {it: f"../{it}/out/rlib/{it}.rlib" for it in uses(tree)[crate]}
     externs = [f"{it}={ours.get(it, page / 'rlibs' / f'{it}.rlib')}" for it in ("std", *named)]
-    found = [page / "rlibs", *(f"../{it}/out/rlib" for it in libraries)]
+    found = [page / "rlibs", *(f"../{it}/out/rlib" for it in sorted(below(tree, crate)))]
     return [
-        page / "bin/rattle", "build", "--crate-name", CRATE, "src/lib.rt", "--crate-type", "staticlib",
+        page / "bin/rattle", "build", "--crate-name", crate, "src/lib.rt", "--crate-type", "staticlib",
         *(word for it in externs for word in ("--extern", it)),
         *(word for it in found for word in ("-L", f"dependency={it}")),
         "--antt-project", page / "rattle/logic/antt-project.json", "--logic-built", page / "logic_built",
-        "--incremental", "out/incremental", "--jobs", min(processors(), MOST),
-        "--toolchain", page / "toolchain", "--backend", "llvm", "-o", archive
+        "--toolchain", page / "toolchain", "--backend", "llvm", "-o", to
     ]
+
+
+def make_archive(tree, crate, to):
+    """Checks a static library and compiles its archive. The tree has crates.txt, the crate's sources, and in crates/*/out
+    the libraries that `rt ci` built. If it fails, shows all that was said and raises CalledProcessError."""
+    words = [str(it) for it in build_words(tree, crate, to)]
+    how = {"stdin": subprocess.DEVNULL, "stdout": subprocess.PIPE, "stderr": subprocess.STDOUT, "text": True}
+    found = subprocess.run(words, cwd=tree / "crates" / crate, check=False, **how)
+    if found.returncode:
+        print(found.stdout, flush=True)
+    found.check_returncode()
 
 
 def prove(proved):
@@ -80,9 +91,8 @@ def prove(proved):
     # `rt ci` writes no stamp; `rt check` writes one, and its libraries may be older than their sources
     if all((it / f"{it.parts[-3]}.rlib").is_dir() and not (it / "stamp").is_file() for it in made):
         proved.parent.mkdir(exist_ok=True)
-        words = [str(it) for it in over_ci(proved)]
         try:
-            subprocess.run(words, cwd=TOP / "crates" / CRATE, stdout=subprocess.DEVNULL, check=True)
+            make_archive(TOP, CRATE, proved)
             return
         except (OSError, subprocess.CalledProcessError) as fault:
             print(f"library.py: {fault}; prove.py makes {CRATE}", flush=True)

@@ -1,36 +1,151 @@
-//! Whole runs of both tools over memory, and grammars that are opened once, for C.
+//! Exports the calls of `capi` to C. `c/fanquber.h` declares them.
 #![tactic(auto)]
 
-mod answer;
-mod asked;
-mod buffer;
-mod exports;
-mod front;
-mod judge;
-mod judge_box;
-mod judge_exports;
-mod loose;
-mod opening;
-mod peg_opening;
-mod place;
-mod result;
-mod run_exports;
-mod runner;
-mod runner_box;
-mod runs;
-mod told;
-mod window_texts;
-mod windows;
+ghost use Rattle.std.specs.Prelude.{◌≡◌, None};
+ghost use Rattle.abnfrun.specs.AbnfAnswers.{AbnfStates};
+ghost use Rattle.capi.specs.BufferRun.{IsBufferRun};
+ghost use Rattle.capi.specs.GrammarOpenings.{IsAbnfOpening, IsPegOpening};
+ghost use Rattle.capi.specs.JudgeCall.{IsJudgeCall};
+ghost use Rattle.capi.specs.OpenCall.{IsOpenCall};
+ghost use Rattle.capi.specs.RunCall.{IsRunCall};
+ghost use Rattle.capi.specs.WindowsRun.{IsWindowsRun};
+ghost use Rattle.pegrun.specs.Answers.{States};
 
-pub use answer::CAnswer;
-pub use asked::CSettings;
-pub use exports::{fanquber_abnf, fanquber_peg, fanquber_peg_windows};
-pub use judge::CJudge;
-pub use judge_box::JudgeBox;
-pub use judge_exports::{fanquber_abnf_close, fanquber_abnf_judge, fanquber_abnf_open};
-pub use place::CRunner;
-pub use result::CResult;
-pub use run_exports::{fanquber_peg_close, fanquber_peg_open, fanquber_peg_run};
-pub use runner::Runner;
-pub use runner_box::RunnerBox;
-pub use windows::CWindow;
+use capi::{CAnswer, CJudge, CResult, CRunner, CSettings, CWindow};
+use std::alloc::Global;
+
+/// Exports `capi::peg`.
+#[unsafe(no_mangle)]
+pub extern "C" fn fanquber_peg(
+    alloc: Global,
+    asked: &CSettings,
+    grammar: &[u8],
+    name: &[u8],
+    input: &[u8],
+    out: &mut [u8],
+    err: &mut [u8],
+) -> CResult
+    ensures { IsBufferRun (λ settings. States grammar.now settings) asked.now name.now input.now
+        (record { old = out.old; new = out.new; len = result.out_len })
+        (record { old = err.old; new = err.new; len = result.err_len }) result.status }
+{
+    capi::peg(alloc, asked, grammar, name, input, out, err)
+}
+
+/// Exports `capi::abnf`.
+#[unsafe(no_mangle)]
+pub extern "C" fn fanquber_abnf(
+    alloc: Global,
+    asked: &CSettings,
+    grammar: &[u8],
+    name: &[u8],
+    input: &[u8],
+    out: &mut [u8],
+    err: &mut [u8],
+) -> CResult
+    ensures { IsBufferRun (λ settings. AbnfStates grammar.now settings) asked.now name.now input.now
+        (record { old = out.old; new = out.new; len = result.out_len })
+        (record { old = err.old; new = err.new; len = result.err_len }) result.status }
+{
+    capi::abnf(alloc, asked, grammar, name, input, out, err)
+}
+
+/// Exports `capi::peg_windows`.
+#[unsafe(no_mangle)]
+pub extern "C" fn fanquber_peg_windows(
+    alloc: Global,
+    asked: &CSettings,
+    grammar: &[u8],
+    name: &[u8],
+    input: &[u8],
+    windows: &[CWindow],
+    results: &mut [CResult],
+    out: &mut [u8],
+    err: &mut [u8],
+) -> CResult
+    ensures { IsWindowsRun (λ settings. States grammar.now settings) asked.now name.now input.now windows.now
+        (record { old = results.old; new = results.new })
+        (record { old = out.old; new = out.new; len = result.out_len })
+        (record { old = err.old; new = err.new; len = result.err_len }) result.status }
+{
+    capi::peg_windows(
+        alloc, asked, grammar, name, input, windows, results, out, err,
+    )
+}
+
+/// Exports `capi::peg_open`.
+#[unsafe(no_mangle)]
+pub extern "C" fn fanquber_peg_open(
+    alloc: Global,
+    asked: &CSettings,
+    grammar: &[u8],
+    name: &[u8],
+    place: &mut CRunner,
+    err: &mut [u8],
+) -> CResult
+    ensures out { result.out_len ≡ 0 }
+    ensures call { IsOpenCall (λ settings. IsPegOpening grammar.now settings) asked.now name.now
+        (record { old = place.old.runner.held; new = place.new.runner.held })
+        (record { old = err.old; new = err.new; len = result.err_len }) result.status }
+{
+    capi::peg_open(alloc, asked, grammar, name, place, err)
+}
+
+/// Exports `capi::peg_run`.
+#[unsafe(no_mangle)]
+pub extern "C" fn fanquber_peg_run(
+    alloc: Global,
+    place: &mut CRunner,
+    input: &[u8],
+    out: &mut [u8],
+    err: &mut [u8],
+) -> CResult
+    ensures same { place.new.runner.held ≡ place.old.runner.held }
+    ensures ran { IsRunCall input.now (record { old = out.old; new = out.new; len = result.out_len })
+        (record { old = err.old; new = err.new; len = result.err_len }) result.status place.old.runner.held }
+{
+    capi::peg_run(alloc, place, input, out, err)
+}
+
+/// Exports `capi::peg_close`.
+#[unsafe(no_mangle)]
+pub extern "C" fn fanquber_peg_close(alloc: Global, place: &mut CRunner)
+    ensures { place.new.runner.held ≡ None }
+{
+    capi::peg_close(alloc, place)
+}
+
+/// Exports `capi::abnf_open`.
+#[unsafe(no_mangle)]
+pub extern "C" fn fanquber_abnf_open(
+    alloc: Global,
+    asked: &CSettings,
+    grammar: &[u8],
+    name: &[u8],
+    place: &mut CJudge,
+    err: &mut [u8],
+) -> CResult
+    ensures out { result.out_len ≡ 0 }
+    ensures call { IsOpenCall (λ settings. IsAbnfOpening grammar.now settings) asked.now name.now
+        (record { old = place.old.judge.held; new = place.new.judge.held })
+        (record { old = err.old; new = err.new; len = result.err_len }) result.status }
+{
+    capi::abnf_open(alloc, asked, grammar, name, place, err)
+}
+
+/// Exports `capi::abnf_judge`.
+#[unsafe(no_mangle)]
+pub extern "C" fn fanquber_abnf_judge(alloc: Global, place: &mut CJudge, line: &[u8]) -> CAnswer
+    ensures same { place.new.judge.held ≡ place.old.judge.held }
+    ensures told { IsJudgeCall line.now result place.old.judge.held }
+{
+    capi::abnf_judge(alloc, place, line)
+}
+
+/// Exports `capi::abnf_close`.
+#[unsafe(no_mangle)]
+pub extern "C" fn fanquber_abnf_close(alloc: Global, place: &mut CJudge)
+    ensures { place.new.judge.held ≡ None }
+{
+    capi::abnf_close(alloc, place)
+}

@@ -1,0 +1,126 @@
+-- What a run of a grammar states depends on the limit, raw and explain of the settings alone.
+-- Serves: peg_run
+use Rattle.std.proofs.Common.{◌≡◌, ℕ, Bool, true, false, List, refl, sym, ◌∙◌, subst, Option}
+use Rattle.pegread.specs.Pattern.{Rule}
+use Rattle.gramcheck.specs.Outcome.{Outcome}
+use Rattle.memoryrun.specs.PlannedRun.{IsPlannedRun}
+use Rattle.pegrun.specs.PegReply.{PlainReplies, Replies, RunStates}
+use Rattle.pegrun.specs.StopsExplained.{MayLack, StopLines, UnitBefore, WhyStopped, none_before, one_before}
+use Rattle.pegrun.specs.Units.{Ends, GivesAt, IsUnit, Units, broken, empty_at_end, empty_before_end, finished}
+use Rattle.pegrun.specs.Units.{no_match, none, one_more, overlong, taken_at}
+use Rattle.toolrun.specs.Explained.{ExplainedIf}
+use Rattle.toolrun.specs.Input.{Input, bounded}
+use Rattle.toolrun.specs.Reply.{Reply}
+use Rattle.toolrun.specs.RunSteps.{cut_short, replied_told, unexplained}
+use Rattle.toolrun.specs.declared.settings.Settings.{Settings}
+use Rattle.toolrun.specs.declared.stop.Stop.{Stop}
+use Rattle.toolrun.specs.declared.stop.Stop.TheVariants.{Quiet, NoMatch, LongUnit, LongLine, Broken, NoMemory, Refused}
+use Rattle.toolrun.specs.declared.stop.Stop.TheVariants.{Unreadable}
+
+explained_so : (asked : Bool) (Why Other : List ℕ → Type 0) → ((why : List ℕ) → Why why → Other why)
+    → (why : List ℕ) → ExplainedIf asked Why why → ExplainedIf asked Other why
+explained_so true Why Other f why is = f why is
+explained_so false Why Other f why is = is
+
+module _ (rules : List Rule) (start : ℕ) (a b : Settings) (input : Input) (limit : b.limit ≡ a.limit) (raw : b.raw ≡
+    a.raw) (explain : b.explain ≡ a.explain) where
+  taken_by : (s : ℕ) → taken_at a input s ≡ taken_at b input s
+  taken_by s = rw limit refl
+
+  gives_by : (s : ℕ) (o : Outcome) → GivesAt rules start a input s o → GivesAt rules start b input s o
+  gives_by s o g = record {
+    may_run = λ fault. rw limit (g.may_run fault);
+    looked = g.looked;
+    gives = g.gives;
+    within = rw limit g.within;
+  }
+
+  unit_by : (s k : ℕ) (text : List ℕ) → IsUnit rules start a input s k text → IsUnit rules start b input s k text
+  unit_by s k text u = record { events = u.events; gives = gives_by s _ u.gives; prints = rw raw u.prints }
+
+  units_by : (s : ℕ) (text : List ℕ) → Units rules start a input s text → Units rules start b input s text
+  units_by s text none = none
+  units_by s text (one_more at k before last us u lt) =
+      one_more at k before last (units_by at before us) (unit_by at k last u) lt
+
+  ends_by : (s : ℕ) (last : List ℕ) (stop : Stop) → Ends rules start a input s last stop
+      → Ends rules start b input s last stop
+  ends_by s last stop (broken fault lt) = broken fault (rw limit lt)
+  ends_by s last stop (overlong o looked may gives lt) =
+      rw (sym limit) (overlong o looked (λ fault. rw limit (may fault)) gives (rw limit lt))
+  ends_by s last stop (no_match gives lt) = no_match (gives_by s _ gives) lt
+  ends_by s last stop (finished gives is) = finished (gives_by s _ gives) is
+  ends_by s last stop (empty_before_end text u lt) = empty_before_end text (unit_by s 0 text u) lt
+  ends_by s last stop (empty_at_end text u is) = empty_at_end text (unit_by s 0 text u) is
+
+  before_by : (s : ℕ) (before : Option ℕ) → UnitBefore rules start a input s before
+      → UnitBefore rules start b input s before
+  before_by s before none_before = none_before
+  before_by s before (one_before at k text last us u lt) =
+      one_before at k text last (units_by at text us) (unit_by at k last u) lt
+
+  lines_by : (s : ℕ) (stop : Stop) (why : List ℕ) → StopLines rules start a input s stop why
+      → StopLines rules start b input s stop why
+  lines_by s (Quiet status) why is = is
+  lines_by s (NoMatch at) why is = (is.0, before_by s is.0 is.1, rw limit is.2)
+  lines_by s (LongUnit at l) why is = is
+  lines_by s (LongLine line l) why is = is
+  lines_by s Broken why is = is
+  lines_by s NoMemory why is = is
+  lines_by s (Refused fault) why is = is
+  lines_by s Unreadable why is = is
+
+  why_by : (s : ℕ) (stop : Stop) (why : List ℕ) → WhyStopped rules start a input s stop why
+      → WhyStopped rules start b input s stop why
+  why_by s stop why is =
+      subst (λ (e : Bool). ExplainedIf e (StopLines rules start b input s stop) why) (sym explain)
+      (explained_so a.explain _ _ (lines_by s stop) why is)
+
+  lack_by : (s : ℕ) (stop : Stop) → MayLack rules start a input s stop → MayLack rules start b input s stop
+  lack_by s stop may = (explain ∙ may.0, may.1)
+
+  plain_by : (reply : Reply) → PlainReplies rules start a input reply → PlainReplies rules start b input reply
+  plain_by reply r = record {
+    point = r.point;
+    before = r.before;
+    last = r.last;
+    stop = r.stop;
+    steps = units_by r.point r.before r.steps;
+    ends = ends_by r.point r.last r.stop r.ends;
+    out = r.out;
+    err = r.err;
+    status = r.status;
+    taken = r.taken ∙ taken_by r.point;
+  }
+
+  told_by : (reply : Reply) → Replies rules start a input reply → Replies rules start b input reply
+  unfolding plain_by
+  told_by reply r = record {
+    plain = r.plain;
+    replies = plain_by r.plain r.replies;
+    before = r.before;
+    tells = r.tells;
+    why = r.why;
+    explains = why_by r.replies.point r.replies.stop r.why r.explains;
+    told = r.told;
+  }
+
+  states_by_three : (reply : Reply) → RunStates rules start a input reply → RunStates rules start b input reply
+  unfolding plain_by
+  states_by_three reply (replied_told same r) = replied_told same (told_by same r)
+  states_by_three reply (unexplained plain r told tells may) =
+      unexplained plain (plain_by plain r) told tells (lack_by r.point r.stop may)
+  states_by_three reply (cut_short point out told whole before tells r begins) =
+      cut_short point out told whole (units_by point out before) tells (plain_by whole r) begins
+
+-- so does what a run over memory gives
+pub planned_by_three : (rules : List Rule) (start : ℕ) (a b : Settings) → b.limit ≡ a.limit → b.raw ≡ a.raw
+    → b.explain ≡ a.explain → {input out err : List ℕ} {code : ℕ}
+    → IsPlannedRun (RunStates rules start a) input out err code
+    → IsPlannedRun (RunStates rules start b) input out err code
+planned_by_three rules start a b limit raw explain {input} p = record {
+  stated = p.stated;
+  does = states_by_three rules start a b (bounded input) limit raw explain p.stated p.does;
+  whole = p.whole;
+  part = p.part;
+}

@@ -1,0 +1,128 @@
+-- One window behind others.
+-- Serves: peg_windows
+use Rattle.std.proofs.Common.{◌≡◌, ℕ, true, false, List, [], ◌∷◌, ◌++◌, refl, sym, ◌∙◌, ap, arith, ◌<◌, length, take}
+use Rattle.std.proofs.Common.{append_assoc, map, slice_index_or, slice_set, ◌+◌, inl, inr}
+use Rattle.std.proofs.lemmas.List.{append-nil, take_more, take_more_set}
+use Rattle.std.specs.Prelude.{Result, Ok, Err, if◌then◌else◌}
+use Rattle.std.specs.List.{flat_map}
+use Rattle.std.specs.Result.{is_err, is_ok}
+use Rattle.capi.specs.WindowRuns.{AreWindowRuns, HaveRun, IsSaved, IsWindowRun, WindowRun, more, none, outside}
+use Rattle.capi.specs.WindowRuns.{part, window_bytes, ran, result_of, whole}
+use Rattle.capi.specs.WindowsRun.{IsRunBehind}
+use Rattle.capi.specs.declared.result.CResult.{CResult}
+use Rattle.capi.specs.declared.windows.CWindow.{CWindow}
+use Rattle.memoryrun.specs.PlannedRun.{IsPlannedRun}
+use Rattle.ruletable.proofs.AppendsLemmas.{IsBeginning-nil}
+use Rattle.ruletable.specs.Writing.{IsBeginning}
+use Rattle.toolrun.specs.Input.{Input, bounded}
+use Rattle.toolrun.specs.Plan.{Behind, IsPlan, behind_notes, in_reply, told_behind}
+use Rattle.toolrun.specs.Reply.{Reply}
+
+module _ {A E : Type 0} (old other new : List ℕ) where
+  pub text_is_kept : (r : Result A E) → new ≡ (if is_ok r then old ++ other else old) → is_err r ≡ true → new ≡ old
+  text_is_kept (Ok x) is bad = absurd (cc)
+  text_is_kept (Err x) is bad = is
+
+  pub text_is_appended : (r : Result A E) → new ≡ (if is_ok r then old ++ other else old) → is_err r ≡ false
+      → new ≡ old ++ other
+  text_is_appended (Ok x) is good = is
+  text_is_appended (Err x) is good = absurd (cc)
+
+beginning_of : (a b c : List ℕ) → IsBeginning a b → IsBeginning b c → IsBeginning a c
+beginning_of a b c x y = (x.0 ++ y.0, y.1 ∙ ap (λ w. w ++ y.0) x.1 ∙ append_assoc a x.0 y.0)
+
+-- what is kept of a planned run is one
+pub kept_is_planned : (Does : Input → Reply → Type 0) (given : List ℕ) (first kept : WindowRun)
+    → IsPlannedRun Does given first.out first.err first.code
+    → IsSaved first kept → IsPlannedRun Does given kept.out kept.err kept.code
+kept_is_planned Does given first kept p (whole same) = rw same p
+kept_is_planned Does given first kept p (part code out) = record {
+  stated = p.stated;
+  does = p.does;
+  whole = λ low. absurd (omega (arith, low, code));
+  part = beginning_of kept.out first.out p.stated.out out p.part;
+}
+
+module _ (Ran : List ℕ → WindowRun → Type 0) (input : List ℕ) where
+  flat_of : (f : WindowRun → List ℕ) (runs : List WindowRun) (run : WindowRun)
+      → flat_map f (runs ++ run ∷ []) ≡ flat_map f runs ++ f run
+  flat_of f [] run = append-nil (f run)
+  flat_of f (r ∷ runs) run =
+      ap (λ w. f r ++ w) (flat_of f runs run) ∙ sym (append_assoc (f r) (flat_map f runs) (f run))
+
+  map_of : (runs : List WindowRun) (run : WindowRun)
+      → map result_of (runs ++ run ∷ []) ≡ map result_of runs ++ result_of run ∷ []
+  map_of [] run = refl
+  map_of (r ∷ runs) run = ap (λ w. result_of r ∷ w) (map_of runs run)
+
+  -- one more window
+  pub one_more : (windows : List CWindow) (out err out' err' : List ℕ) (results : List CResult) (window : CWindow)
+      (run : WindowRun) → HaveRun Ran input windows out err results → IsWindowRun Ran input window run
+      → out' ≡ out ++ run.out → err' ≡ err ++ run.err
+      → HaveRun Ran input (windows ++ window ∷ []) out' err' (results ++ result_of run ∷ [])
+  one_more windows out err out' err' results window run h w o e = record {
+    runs = h.runs ++ run ∷ [];
+    are_runs = more windows h.runs window run h.are_runs w;
+    out_is = o ∙ ap (λ x. x ++ run.out) h.out_is ∙ sym (flat_of (λ r. r.out) h.runs run);
+    err_is = e ∙ ap (λ x. x ++ run.err) h.err_is ∙ sym (flat_of (λ r. r.err) h.runs run);
+    results_are = ap (λ x. x ++ result_of run ∷ []) h.results_are ∙ sym (map_of h.runs run);
+  }
+
+  pub one_more_at : (windows : List CWindow) (n : ℕ) (d : CWindow) (out err out' err' : List ℕ) (results : List CResult)
+      (result : CResult) (run : WindowRun) → n < length windows → length results ≡ length windows
+      → HaveRun Ran input (take n windows) out err (take n results)
+      → IsWindowRun Ran input (slice_index_or windows n d) run
+      → out' ≡ out ++ run.out → err' ≡ err ++ run.err → result ≡ result_of run
+      → HaveRun Ran input (take (n + 1) windows) out' err' (take (n + 1) (slice_set results n result))
+  one_more_at windows n d out err out' err' results result run lt count h w o e is =
+      rw (take_more windows n d lt, take_more_set results n result (omega (arith, lt, count)), is)
+      (one_more (take n windows) out err out' err' (take n results) (slice_index_or windows n d) run h w o e)
+
+  pub no_window : HaveRun Ran input [] [] [] []
+  no_window = record { runs = []; are_runs = none; out_is = refl; err_is = refl; results_are = refl }
+
+module _ (Ran Seen : List ℕ → WindowRun → Type 0) (input : List ℕ)
+    (tells : (bytes : List ℕ) (run : WindowRun) → Ran bytes run → Seen bytes run) where
+  one_told : (window : CWindow) (run : WindowRun) → IsWindowRun Ran input window run → IsWindowRun Seen input window run
+  one_told window run (ran within r) = ran within (tells (window_bytes input window) run r)
+  one_told window run (outside beyond is) = outside beyond is
+
+  all_told : (windows : List CWindow) (runs : List WindowRun) → AreWindowRuns Ran input windows runs
+      → AreWindowRuns Seen input windows runs
+  all_told windows runs none = none
+  all_told windows runs (more before first window run are w) =
+      more before first window run (all_told before first are) (one_told window run w)
+
+  -- the runs seen in another way
+  pub runs_told : (windows : List CWindow) (out err : List ℕ) (results : List CResult)
+      → HaveRun Ran input windows out err results → HaveRun Seen input windows out err results
+  runs_told windows out err results h = record {
+    runs = h.runs;
+    are_runs = all_told windows h.runs h.are_runs;
+    out_is = h.out_is;
+    err_is = h.err_is;
+    results_are = h.results_are;
+  }
+
+-- a planned run behind what is told first is one
+pub planned_is_behind : (States : Input → List ℕ → Reply → Type 0) (first : List ℕ) (Does : Input → Reply → Type 0)
+    → IsPlan (Behind States) first Does → (bytes : List ℕ) (run : WindowRun)
+    → IsPlannedRun Does bytes run.out run.err run.code → IsRunBehind States first bytes run
+planned_is_behind States first Does plan bytes run p = by (plan.stated (bounded bytes) p.stated p.does)
+  where
+    by : Behind States (bounded bytes) first p.stated → IsRunBehind States first bytes run
+    by (behind_notes s) = record {
+      notes = first;
+      stated = p.stated;
+      states = s;
+      whole = λ low. let all = p.whole low in (all.0, ap (λ w. first ++ w) all.1, all.2, inl refl);
+      part = p.part;
+    }
+    by (in_reply empty s) = record {
+      notes = [];
+      stated = told_behind first p.stated;
+      states = s;
+      whole = λ low. let all = p.whole low in
+          (all.0, ap (λ w. first ++ w) all.1, all.2, inr (IsBeginning-nil first, empty));
+      part = p.part;
+    }

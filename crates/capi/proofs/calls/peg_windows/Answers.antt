@@ -1,0 +1,22 @@
+-- The runs of the windows, behind what is told once.
+use Rattle.pegrun.specs.Answers.{States}
+use Rattle.capi.specs.WindowsRun.{all_ran}
+use Rattle.capi.proofs.FrontTextLemmas.{front_is_behind, front_stands_first}
+use Rattle.capi.proofs.WindowRunsLemmas.{runs_told}
+use Rattle.toolrun.specs.Plan.{first_text}
+use Rattle.capi.proofs.calls.peg_windows.Goals as goal
+
+pub returns : goal.returns
+returns c =
+    let settings = c.in-Some.settings in
+    let plan = c.plan_of.result in
+    let front = c.front_of-front.result in
+    let told = front.told.items in
+    let ran = c.run_windows-texts.ensures in
+    let states = States c.args.grammar.now settings in
+    all_ran settings told c.run_windows-texts.result.out.items ran.0 c.in-Some.ensures
+    (front_stands_first states _ (first_text plan.first) plan.task front.plan.task told c.front_of-front.ensures
+    c.plan_of.ensures)
+    (runs_told _ _ c.args.input.now (front_is_behind states _ (first_text plan.first) plan.task front.plan.task told
+    c.front_of-front.ensures c.plan_of.ensures) c.args.windows.now _ _ _ ran.1)
+    c.hand_out.ensures.out (rw ran.2 at c.hand_out.ensures.err) c.hand_out.ensures.status

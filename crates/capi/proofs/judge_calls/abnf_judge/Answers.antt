@@ -1,0 +1,10 @@
+-- There is no judge.
+use Rattle.capi.specs.JudgeCall.{not_open}
+use Rattle.capi.proofs.OpenCallLemmas.{closed_is_none}
+use Rattle.capi.proofs.judge_calls.abnf_judge.Goals as goal
+
+pub returns-then-not-place-clause-told : goal.returns-then-not-place-clause-told
+returns-then-not-place-clause-told c =
+    let place = c.args.place.now in
+    let empty = closed_is_none place.judge.held place.is_open place.right c.if-not-place.true in
+    rw empty (not_open c.without_answer.ensures)

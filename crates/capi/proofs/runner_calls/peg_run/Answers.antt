@@ -1,0 +1,18 @@
+-- The grammar is run, or none is open.
+use Rattle.std.proofs.Common.{refl}
+use Rattle.capi.specs.RunCall.{not_open, runs}
+use Rattle.capi.proofs.OpenCallLemmas.{closed_is_none}
+use Rattle.capi.proofs.runner_calls.peg_run.Goals as goal
+
+pub returns-then-not-place-clause-ran : goal.returns-then-not-place-clause-ran
+returns-then-not-place-clause-ran c =
+    let place = c.args.place.now in
+    let empty = closed_is_none place.runner.held place.is_open place.right c.if-not-place.true in
+    rw (empty, c.nothing_done.ensures) (not_open (refl, refl) (refl, refl) refl)
+
+pub returns-clause-ran : goal.returns-clause-ran
+returns-clause-ran c =
+    let outputs = c.run_input-outputs.result in
+    rw (c.take_runner-runner.ensures.runner, c.hand_out.ensures.status)
+    (runs c.take_runner-runner.result.value outputs.out.items outputs.err.items
+    (rw c.deref_mut.ensures.value at c.run_input-outputs.ensures.runs) c.hand_out.ensures.out c.hand_out.ensures.err)

@@ -1,0 +1,10 @@
+-- With any settings that ask for such a run.
+use Rattle.pegread.specs.PegViews.{rules_of}
+use Rattle.capi.proofs.RunSettingsLemmas.{planned_by_three}
+use Rattle.capi.proofs.runs.run_input.Goals as goal
+
+pub returns-clause-runs : goal.returns-clause-runs
+returns-clause-runs c = λ settings by.
+    let runner = c.args.runner.now in
+    planned_by_three (rules_of runner.peg.rules) runner.peg.start _ settings by.limit by.raw by.explain
+    c.run_opened.ensures.runs

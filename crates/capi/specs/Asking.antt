@@ -1,0 +1,43 @@
+-- The settings that C asks for.
+use Rattle.std.specs.Prelude.{◌≡◌, ◌<◌, ◌==◌, ℕ, Bool, true, false, List, Option, Some, None, option_copied}
+use Rattle.std.specs.Prelude.{if◌then◌else◌}
+use Rattle.std.specs.Str.{IsUtf8}
+use Rattle.capi.specs.declared.asked.CSettings.{CSettings}
+use Rattle.letters.specs.declared.alphabet.Alphabet.{Alphabet}
+use Rattle.letters.specs.declared.alphabet.Alphabet.TheVariants.{Bytes, Utf8}
+use Rattle.toolrun.specs.declared.settings.Mode.{Mode}
+use Rattle.toolrun.specs.declared.settings.Mode.TheVariants.{Run, Check, Print}
+use Rattle.toolrun.specs.declared.settings.Settings.{Settings}
+use Rattle.toolrun.specs.declared.settings.TheConstants.{MAX_LIMIT}
+
+-- the mode of a number
+abbrev pub mode_by : ℕ → Option Mode
+mode_by n = if n == 0 then Some Run else (if n == 1 then Some Check else (if n == 2 then Some Print else None))
+
+-- the alphabet of a number
+abbrev pub alphabet_by : ℕ → Option Alphabet
+alphabet_by n = if n == 0 then Some Bytes else (if n == 1 then Some Utf8 else None)
+
+-- the name of a rule, where one is given
+abbrev pub name_by : Bool → List ℕ → Option (List ℕ)
+name_by true name = Some name
+name_by false name = None
+
+-- these settings are meant
+pub record IsMeant (asked : CSettings) (name : List ℕ) (settings : Settings) : Type 0 where
+  pub mode : mode_by asked.mode ≡ Some settings.mode
+  pub letters : alphabet_by asked.letters ≡ Some settings.letters
+  pub limit : settings.limit ≡ asked.limit
+  pub start : option_copied settings.start ≡ name_by asked.named name
+  pub raw : settings.raw ≡ asked.raw
+  pub viable : settings.viable ≡ asked.viable
+  pub nul : settings.nul ≡ asked.nul
+  pub explain : settings.explain ≡ asked.explain
+
+-- no settings are asked for
+pub data IsInvalid (asked : CSettings) (name : List ℕ) : Type 0 where
+  no_mode : mode_by asked.mode ≡ None → IsInvalid asked name
+  no_letters : alphabet_by asked.letters ≡ None → IsInvalid asked name
+  too_small : asked.limit < 1 → IsInvalid asked name
+  too_great : MAX_LIMIT < asked.limit → IsInvalid asked name
+  no_text : asked.named ≡ true → (IsUtf8 name → ⊥) → IsInvalid asked name

@@ -1,0 +1,28 @@
+-- What a call that judges a line tells.
+use Rattle.std.specs.Prelude.{◌≡◌, ◌<◌, ◌≤◌, ℕ, List, length, Option, Some, None}
+use Rattle.abnfread.specs.AbnfViews.{rules_of}
+use Rattle.abnfrun.specs.AbnfReply.{IsAnswerTo}
+use Rattle.abnfrun.specs.OpenJudge.{OpenJudge}
+use Rattle.capi.specs.declared.answer.CAnswer.{CAnswer}
+use Rattle.capi.specs.declared.asked.TheConstants.{BAD_SETTINGS}
+use Rattle.linejudge.specs.declared.answers.Answer.{Answer}
+use Rattle.linejudge.specs.declared.answers.Answer.TheVariants.{Yes, No, NoAfter}
+
+-- what C is told of an answer: status 0 for yes, 1 for no, and the length of the longest viable beginning
+abbrev pub c_answer : Answer → CAnswer
+c_answer Yes = record { reached = 0; status = 0 }
+c_answer No = record { reached = 0; status = 1 }
+c_answer (NoAfter n) = record { reached = n; status = 1 }
+
+-- what C is told where there is no answer
+abbrev pub c_status : ℕ → CAnswer
+c_status code = record { reached = 0; status = code }
+
+-- The line's answer is told; or the line is longer than the limit, or an allocation failed, or there is no judge.
+pub data IsJudgeCall (line : List ℕ) (told : CAnswer) : Option OpenJudge → Type 0 where
+  answers : (judge : OpenJudge) (said : Answer) → length line ≤ judge.limit
+      → IsAnswerTo judge.letters judge.viable (rules_of judge.grammar.rules) judge.grammar.judged line said
+      → told ≡ c_answer said → IsJudgeCall line told (Some judge)
+  overlong : (judge : OpenJudge) → judge.limit < length line → told ≡ c_status 3 → IsJudgeCall line told (Some judge)
+  no_memory : (judge : OpenJudge) → told ≡ c_status 5 → IsJudgeCall line told (Some judge)
+  not_open : told ≡ c_status BAD_SETTINGS → IsJudgeCall line told None

@@ -1,0 +1,53 @@
+-- What a call that opens a grammar leaves.
+use Rattle.std.specs.Prelude.{◌≡◌, ◌≢◌, ℕ, List, [], ◌++◌, Option, Some, None, IsSome}
+use Rattle.capi.specs.Asking.{IsMeant, IsInvalid}
+use Rattle.capi.specs.BufferRun.{Filled, IsLaid, IsUntouched}
+use Rattle.capi.specs.declared.asked.CSettings.{CSettings}
+use Rattle.capi.specs.declared.asked.TheConstants.{BAD_SETTINGS}
+use Rattle.ruletable.specs.Faults.{fault_text}
+use Rattle.ruletable.specs.Notes.{Said}
+use Rattle.ruletable.specs.declared.fault.ReadFault.{ReadFault}
+use Rattle.ruletable.specs.declared.fault.ReadFault.TheVariants.{Memory}
+use Rattle.toolrun.specs.Explained.{Explained}
+use Rattle.toolrun.specs.ToldNotes.{HintedNotes}
+use Rattle.toolrun.specs.declared.settings.Settings.{Settings}
+
+-- What is told of a text that is not read, and the status: its fault, which is explained if that is asked; or an
+-- allocation failed. HasFault says what is wrong with the text, and Why which lines explain it.
+pub data IsFaultTold (HasFault : ReadFault → Type 0) (Why : ReadFault → List ℕ → Type 0) (settings : Settings) : List ℕ
+    → ℕ → Type 0 where
+  has_fault : (fault : ReadFault) (why : List ℕ) → HasFault fault → fault ≢ Memory
+      → Explained settings (Why fault) why → IsFaultTold HasFault Why settings (fault_text fault ++ why) 2
+  has_no_memory : IsFaultTold HasFault Why settings [] 5
+
+-- What is told of a grammar's text, what it is opened as, and the status: it is opened; or its notes refuse it. The
+-- notes are told as a run tells them, each explained by WhyNoted and with hints behind them if that is asked. Or the
+-- text is not read, or an allocation failed. IsOpen says which notes the text has, and what it may be opened as.
+pub data IsOpening {Open : Type 0} (HasFault : ReadFault → Type 0) (Why : ReadFault → List ℕ → Type 0)
+    (WhyNoted : Option (List ℕ) → Said → List ℕ → Type 0) (AreHints : List ℕ → Type 0)
+    (IsOpen : List Said → Option Open → Type 0)
+    (settings : Settings) : List ℕ → Option Open → ℕ → Type 0 where
+  opens : (notes : List Said) (told : List ℕ) (opened : Open) → IsOpen notes (Some opened)
+      → HintedNotes settings WhyNoted AreHints notes told
+      → IsOpening HasFault Why WhyNoted AreHints IsOpen settings told (Some opened) 0
+  refuses : (notes : List Said) (told : List ℕ) → IsOpen notes None → HintedNotes settings WhyNoted AreHints notes told
+      → IsOpening HasFault Why WhyNoted AreHints IsOpen settings told None 2
+  not_read : (told : List ℕ) (code : ℕ) → IsFaultTold HasFault Why settings told code
+      → IsOpening HasFault Why WhyNoted AreHints IsOpen settings told None code
+
+-- what C's place holds before and after
+pub record Place (Open : Type 0) : Type 0 where
+  pub old : Option Open
+  pub new : Option Open
+
+-- The text was opened with the settings that are asked for, and put into an empty place; as much of what is told as
+-- there is room for was laid into the buffer. Or no settings are asked for, or the place is not empty, and nothing was
+-- done. Opening says what settings make of the text.
+pub data IsOpenCall {Open : Type 0} (Opening : Settings → List ℕ → Option Open → ℕ → Type 0) (asked : CSettings)
+    (name : List ℕ) (place : Place Open) (err : Filled) (code : ℕ) : Type 0 where
+  tried : (settings : Settings) (told : List ℕ) → place.old ≡ None → IsMeant asked name settings
+      → Opening settings told place.new code → IsLaid told err → IsOpenCall Opening asked name place err code
+  not_asked : IsInvalid asked name → place.new ≡ place.old → IsUntouched err → code ≡ BAD_SETTINGS
+      → IsOpenCall Opening asked name place err code
+  not_empty : IsSome place.old → place.new ≡ place.old → IsUntouched err → code ≡ BAD_SETTINGS
+      → IsOpenCall Opening asked name place err code

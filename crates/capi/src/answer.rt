@@ -1,0 +1,59 @@
+//! The answer to a line, for C.
+ghost use Rattle.std.specs.Prelude.{◌≡◌, Some};
+ghost use Rattle.capi.specs.JudgeCall.{IsJudgeCall, c_answer, c_status};
+
+use abnfrun::{AbnfJudge, Answer};
+use ruletable::Memory;
+use toolrun::Status;
+
+/// The answer to a line.
+#[repr(C)]
+#[derive(Clone, Copy)]
+pub struct CAnswer {
+    /// How many letters the longest viable beginning of a line has that is not derived, if that is asked for; else 0.
+    pub reached: usize,
+    /// 0: the line is derived; 1: it is not; 3: it is longer than the limit; 5: an allocation failed; `BAD_SETTINGS`:
+    /// there is no judge.
+    pub status: u8,
+}
+
+/// Returns what C is told where a line has no answer.
+pub fn without_answer(status: u8) -> CAnswer
+    ensures { result ≡ c_status status }
+{
+    CAnswer { reached: 0, status }
+}
+
+/// Returns what C is told of an answer.
+fn answer_of(said: Answer) -> CAnswer
+    ensures { result ≡ c_answer said }
+{
+    match said {
+        Answer::Yes => CAnswer {
+            reached: 0,
+            status: 0,
+        },
+        Answer::No => CAnswer {
+            reached: 0,
+            status: 1,
+        },
+        Answer::NoAfter(n) => CAnswer {
+            reached: n,
+            status: 1,
+        },
+    }
+}
+
+/// Judges a line.
+pub fn judge_line(judge: &mut AbnfJudge, line: &[u8]) -> CAnswer
+    ensures same { judge.new ≡ judge.old }
+    ensures told { IsJudgeCall line.now result (Some judge.old) }
+{
+    if line.len() > judge.limit() {
+        return without_answer(Status::Overlong.code());
+    }
+    match judge.judge(line) {
+        Ok(said) => answer_of(said),
+        Err(Memory) => without_answer(Status::NoMemory.code()),
+    }
+}

@@ -1,0 +1,102 @@
+//! What C asks for.
+ghost use Rattle.std.specs.Prelude.{◌≡◌, true, option_copied, MatchOption, MatchResult};
+ghost use Rattle.std.specs.Str.{IsUtf8};
+ghost use Rattle.capi.specs.Asking.{IsMeant, IsInvalid, alphabet_by, mode_by, name_by};
+
+use std::str::from_utf8;
+use toolrun::{Alphabet, MAX_LIMIT, Mode, Settings};
+
+/// The status of a call whose settings are invalid.
+pub const BAD_SETTINGS: u8 = 6;
+
+/// The settings of a run, as C writes them.
+#[repr(C)]
+#[derive(Clone, Copy)]
+pub struct CSettings {
+    /// How many bytes a unit may look at, or a line may have, from 1 to `MAX_LIMIT`.
+    pub limit: usize,
+    /// 0: the grammar is run on the input; 1: it is checked alone; 2: it is printed in its canonical form.
+    pub mode: u8,
+    /// What the lines of the ABNF tool are made of. 0: bytes; 1: code points of UTF-8.
+    pub letters: u8,
+    /// Whether the start rule, or the rule that judges lines, is named; else it is the first rule.
+    pub named: bool,
+    /// Whether the peg tool prints actions verbatim.
+    pub raw: bool,
+    /// Whether the ABNF tool tells how many letters of a refused line begin something that is derived.
+    pub viable: bool,
+    /// Whether a NUL byte ends a line of the ABNF tool, in place of LF.
+    pub nul: bool,
+    /// Whether a fault of the grammar's text is explained behind its message.
+    pub explain: bool,
+}
+
+fn mode_of(mode: u8) -> Option<Mode>
+    ensures { result ≡ mode_by mode }
+{
+    match mode {
+        0 => Some(Mode::Run),
+        1 => Some(Mode::Check),
+        2 => Some(Mode::Print),
+        _ => None,
+    }
+}
+
+fn alphabet_of(letters: u8) -> Option<Alphabet>
+    ensures { result ≡ alphabet_by letters }
+{
+    match letters {
+        0 => Some(Alphabet::Bytes),
+        1 => Some(Alphabet::Utf8),
+        _ => None,
+    }
+}
+
+/// The name of a rule is no UTF-8.
+#[derive(Clone, Copy, Drop)]
+struct NotUtf8;
+
+fn start_of<'a>(named: bool, name: &'a [u8]) -> Result<Option<&'a str>, NotUtf8>
+    ensures { MatchResult result (λ start. option_copied start ≡ name_by named name.entry.now)
+        (λ _. (named ≡ true) × (IsUtf8 name.entry.now → ⊥)) }
+{
+    if !named {
+        return Ok(None);
+    }
+    match from_utf8(name) {
+        Ok(start) => Ok(Some(start)),
+        Err(_) => Err(NotUtf8),
+    }
+}
+
+/// Returns the settings that are asked for; none where a number is out of its range, or the name of the rule is no
+/// UTF-8.
+pub fn settings_of<'a>(asked: &CSettings, name: &'a [u8]) -> Option<Settings<'a>>
+    ensures { MatchOption result (IsInvalid asked.now name.entry.now) (IsMeant asked.now name.entry.now) }
+{
+    let Some(mode) = mode_of(asked.mode) else {
+        return None;
+    };
+    let Some(letters) = alphabet_of(asked.letters) else {
+        return None;
+    };
+    if asked.limit < 1 {
+        return None;
+    }
+    if asked.limit > MAX_LIMIT {
+        return None;
+    }
+    match start_of(asked.named, name) {
+        Ok(start) => Some(Settings {
+            mode,
+            limit: asked.limit,
+            start,
+            raw: asked.raw,
+            letters,
+            viable: asked.viable,
+            nul: asked.nul,
+            explain: asked.explain,
+        }),
+        Err(_) => None,
+    }
+}

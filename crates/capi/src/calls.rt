@@ -1,0 +1,111 @@
+//! Runs of a grammar's text.
+ghost use Rattle.std.specs.Prelude.{◌≡◌};
+ghost use Rattle.abnfrun.specs.AbnfAnswers.{AbnfStates};
+ghost use Rattle.capi.specs.BufferRun.{IsLaid, IsBufferRun};
+ghost use Rattle.pegrun.specs.Answers.{States};
+ghost use Rattle.capi.specs.WindowsRun.{IsWindowsRun};
+ghost use Rattle.toolrun.specs.Status.{code_of};
+
+use crate::asked::{CSettings, settings_of};
+use crate::buffer::lay;
+use crate::front::front_of;
+use crate::result::{CResult, nothing_done};
+use crate::windows::{CWindow, run_windows};
+use memoryrun::{Outputs, abnf_in_memory, peg_in_memory};
+use pegrun::PegLanguage;
+use std::alloc::Global;
+use toolrun::{Status, plan_of};
+
+/// Lays what a run wrote into the buffers, as much of it as there is room for.
+pub(crate) fn hand_out(outputs: &Outputs, out: &mut [u8], err: &mut [u8]) -> CResult
+    ensures out { IsLaid outputs.now.out.items (record { old = out.old; new = out.new; len = result.out_len }) }
+    ensures err { IsLaid outputs.now.err.items (record { old = err.old; new = err.new; len = result.err_len }) }
+    ensures status { result.status ≡ code_of outputs.now.status }
+{
+    CResult {
+        out_len: lay(outputs.out.as_slice(), out),
+        err_len: lay(outputs.err.as_slice(), err),
+        status: outputs.status.code(),
+    }
+}
+
+/// Runs a grammar of peg(1) on an input, as `run_peg` says, and lays both outputs into the buffers, as much as there is
+/// room for. `BAD_SETTINGS` where the settings are out of range or the name is no UTF-8: then nothing is done.
+pub fn peg(
+    alloc: Global,
+    asked: &CSettings,
+    grammar: &[u8],
+    name: &[u8],
+    input: &[u8],
+    out: &mut [u8],
+    err: &mut [u8],
+) -> CResult
+    ensures { IsBufferRun (λ settings. States grammar.now settings) asked.now name.now input.now
+        (record { old = out.old; new = out.new; len = result.out_len })
+        (record { old = err.old; new = err.new; len = result.err_len }) result.status }
+{
+    match settings_of(asked, name) {
+        Some(settings) => hand_out(&peg_in_memory(alloc, grammar, &settings, input), out, err),
+        None => nothing_done(),
+    }
+}
+
+/// Judges the lines of an input by a grammar in ABNF, as `run_abnf` says, and lays both outputs into the buffers, as
+/// much as there is room for. `BAD_SETTINGS` where the settings are out of range or the name is no UTF-8: then nothing
+/// is done.
+pub fn abnf(
+    alloc: Global,
+    asked: &CSettings,
+    grammar: &[u8],
+    name: &[u8],
+    input: &[u8],
+    out: &mut [u8],
+    err: &mut [u8],
+) -> CResult
+    ensures { IsBufferRun (λ settings. AbnfStates grammar.now settings) asked.now name.now input.now
+        (record { old = out.old; new = out.new; len = result.out_len })
+        (record { old = err.old; new = err.new; len = result.err_len }) result.status }
+{
+    match settings_of(asked, name) {
+        Some(settings) => hand_out(&abnf_in_memory(alloc, grammar, &settings, input), out, err),
+        None => nothing_done(),
+    }
+}
+
+/// Runs a grammar of peg(1) on each window of an input by itself, as `run_peg` says, and lays what the runs write into
+/// the buffers, as much as there is room for. What each of them tells of the grammar, its notes or the fault of its
+/// text, stands once at the front of the error buffer; the rest stands behind it, one run behind the other. The results
+/// have the status of each run and the lengths of what it wrote there, `BAD_SETTINGS` for a window that does not lie in
+/// the input. The grammar is read and checked once. `BAD_SETTINGS` where the settings are out of range, the name is no
+/// UTF-8, or there is not one result for each window: then nothing is done.
+pub fn peg_windows(
+    alloc: Global,
+    asked: &CSettings,
+    grammar: &[u8],
+    name: &[u8],
+    input: &[u8],
+    windows: &[CWindow],
+    results: &mut [CResult],
+    out: &mut [u8],
+    err: &mut [u8],
+) -> CResult
+    ensures { IsWindowsRun (λ settings. States grammar.now settings) asked.now name.now input.now windows.now
+        (record { old = results.old; new = results.new })
+        (record { old = out.old; new = out.new; len = result.out_len })
+        (record { old = err.old; new = err.new; len = result.err_len }) result.status }
+{
+    if results.len() != windows.len() {
+        return nothing_done();
+    }
+    let Some(settings) = settings_of(asked, name) else {
+        return nothing_done();
+    };
+    let front = front_of(alloc, plan_of::<PegLanguage>(alloc, grammar, &settings));
+    let texts = run_windows::<PegLanguage>(alloc, front, &settings, input, windows, results);
+    let outputs = Outputs {
+        out: texts.out,
+        err: texts.err,
+        status: Status::Done,
+    };
+    hand_out(&outputs, out, err)
+}

@@ -1,0 +1,37 @@
+//! Runs both tools over memory and opens grammars once, with settings and buffers as C has them. The crate `fanquber_c`
+//! exports each call.
+#![tactic(auto)]
+
+mod answer;
+mod asked;
+mod buffer;
+mod calls;
+mod front;
+mod judge;
+mod judge_box;
+mod judge_calls;
+mod loose;
+mod opening;
+mod peg_opening;
+mod place;
+mod result;
+mod runner;
+mod runner_box;
+mod runner_calls;
+mod runs;
+mod told;
+mod window_texts;
+mod windows;
+
+pub use answer::CAnswer;
+pub use asked::{BAD_SETTINGS, CSettings};
+pub use calls::{abnf, peg, peg_windows};
+pub use judge::CJudge;
+pub use judge_box::JudgeBox;
+pub use judge_calls::{abnf_close, abnf_judge, abnf_open};
+pub use place::CRunner;
+pub use result::CResult;
+pub use runner::Runner;
+pub use runner_box::RunnerBox;
+pub use runner_calls::{peg_close, peg_open, peg_run};
+pub use windows::CWindow;

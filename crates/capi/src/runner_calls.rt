@@ -1,0 +1,77 @@
+//! Runs of a grammar of peg(1), which is read once, on input after input.
+ghost use Rattle.std.specs.Prelude.{◌≡◌, None};
+ghost use Rattle.capi.specs.OpenCall.{IsOpenCall};
+ghost use Rattle.capi.specs.GrammarOpenings.{IsPegOpening};
+ghost use Rattle.capi.specs.RunCall.{IsRunCall};
+
+use crate::asked::{CSettings, settings_of};
+use crate::buffer::lay;
+use crate::calls::hand_out;
+use crate::peg_opening::open_runner;
+use crate::place::{CRunner, put_runner, take_runner};
+use crate::result::{CResult, nothing_done};
+use crate::runs::run_input;
+use std::alloc::Global;
+
+/// Reads and checks a grammar of peg(1), puts what runs it into an empty place, and lays the notes on it into the
+/// buffer, as much as there is room for. A grammar that is refused leaves the place empty; a fault of its text is told,
+/// and explained if that is asked. The mode is not looked at. `BAD_SETTINGS` where the settings are out of range, the
+/// name is no UTF-8, or the place is not empty: then nothing is done.
+pub fn peg_open(
+    alloc: Global,
+    asked: &CSettings,
+    grammar: &[u8],
+    name: &[u8],
+    place: &mut CRunner,
+    err: &mut [u8],
+) -> CResult
+    ensures out { result.out_len ≡ 0 }
+    ensures call { IsOpenCall (λ settings. IsPegOpening grammar.now settings) asked.now name.now
+        (record { old = place.old.runner.held; new = place.new.runner.held })
+        (record { old = err.old; new = err.new; len = result.err_len }) result.status }
+{
+    if place.is_open {
+        return nothing_done();
+    }
+    let Some(settings) = settings_of(asked, name) else {
+        return nothing_done();
+    };
+    let told = open_runner(alloc, grammar, &settings, place);
+    CResult {
+        out_len: 0,
+        err_len: lay(told.text.as_slice(), err),
+        status: told.status.code(),
+    }
+}
+
+/// Runs the open grammar on an input, as `run_peg` says of the settings that it was opened with, and lays both outputs
+/// into the buffers, as much as there is room for, but for what opening told. `BAD_SETTINGS` where no grammar is open:
+/// then nothing is done.
+pub fn peg_run(
+    alloc: Global,
+    place: &mut CRunner,
+    input: &[u8],
+    out: &mut [u8],
+    err: &mut [u8],
+) -> CResult
+    ensures same { place.new.runner.held ≡ place.old.runner.held }
+    ensures ran { IsRunCall input.now (record { old = out.old; new = out.new; len = result.out_len })
+        (record { old = err.old; new = err.new; len = result.err_len }) result.status place.old.runner.held }
+{
+    if !place.is_open {
+        return nothing_done();
+    }
+    let mut runner = take_runner(alloc, place);
+    let outputs = run_input(alloc, &mut runner, input);
+    put_runner(runner, place);
+    hand_out(&outputs, out, err)
+}
+
+/// Frees what runs the grammar, if the place is not empty, and leaves it empty.
+pub fn peg_close(alloc: Global, place: &mut CRunner)
+    ensures { place.new.runner.held ≡ None }
+{
+    if place.is_open {
+        let _runner = take_runner(alloc, place);
+    }
+}

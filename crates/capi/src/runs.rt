@@ -1,0 +1,42 @@
+//! Runs of a grammar of peg(1) that was opened.
+ghost use Rattle.std.specs.Prelude.{◌≡◌};
+ghost use Rattle.capi.specs.GrammarOpenings.{RunsBy};
+ghost use Rattle.capi.specs.RunCall.{HasRunOn};
+ghost use Rattle.toolrun.specs.Status.{code_of};
+
+use crate::runner::Runner;
+use memoryrun::{Outputs, run_opened};
+use pegrun::PegRunner;
+use std::alloc::Global;
+use toolrun::{Alphabet, Mode, Settings};
+
+/// Returns what runs a grammar as settings ask.
+pub(crate) fn runner_by(peg: PegRunner, settings: &Settings<'_>) -> Runner
+    ensures grammar { result.peg ≡ peg }
+    ensures settings { RunsBy result settings.now }
+{
+    Runner {
+        peg,
+        limit: settings.limit,
+        raw: settings.raw,
+        explain: settings.explain,
+    }
+}
+
+/// Runs an open grammar on an input, and returns what it writes behind what is told of the grammar.
+pub(crate) fn run_input(alloc: Global, runner: &mut Runner, input: &[u8]) -> Outputs
+    ensures same { runner.new ≡ runner.old }
+    ensures runs { HasRunOn runner.old input.now result.out.items result.err.items (code_of result.status) }
+{
+    let settings = Settings {
+        mode: Mode::Run,
+        limit: runner.limit,
+        start: None,
+        raw: runner.raw,
+        letters: Alphabet::Bytes,
+        viable: false,
+        nul: false,
+        explain: runner.explain,
+    };
+    run_opened(alloc, &mut runner.peg, &settings, input)
+}

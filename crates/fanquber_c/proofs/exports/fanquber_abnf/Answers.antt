@@ -1,8 +1,0 @@
--- The outputs of the run are laid into the buffers.
-use Rattle.fanquber_c.specs.BufferRun.{ran}
-use Rattle.fanquber_c.proofs.exports.fanquber_abnf.Goals as goal
-
-pub returns-in-Some : goal.returns-in-Some
-returns-in-Some c =
-    ran c.in-Some.settings c.abnf_in_memory.result.out.items c.abnf_in_memory.result.err.items c.in-Some.ensures
-    (rw c.hand_out.ensures.status c.abnf_in_memory.ensures) c.hand_out.ensures.out c.hand_out.ensures.err
