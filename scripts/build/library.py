@@ -73,8 +73,8 @@ def build_words(tree, crate, to):
 
 
 def make_archive(tree, crate, to):
-    """Checks a static library and compiles its archive. The tree has crates.txt, the crate's sources, and in crates/*/out
-    the libraries that `rt ci` built. If it fails, shows all that was said and raises CalledProcessError."""
+    """Checks a static library and compiles its archive. The tree has crates.txt, the crate's sources, and the libraries
+    that `rt ci` built, in crates/*/out. If it fails, shows all that was said and raises CalledProcessError."""
     words = [str(it) for it in build_words(tree, crate, to)]
     how = {"stdin": subprocess.DEVNULL, "stdout": subprocess.PIPE, "stderr": subprocess.STDOUT, "text": True}
     found = subprocess.run(words, cwd=tree / "crates" / crate, check=False, **how)

@@ -18,7 +18,7 @@ from crates import in_order, is_static
 
 TOP = pathlib.Path(__file__).resolve().parents[2]
 # The most edits that the gate has, and the fewest of a crate that has some: its first costs a proof of the crate.
-MOST_EDITS = 125
+MOST_EDITS = 130
 FEWEST_EDITS = 4
 # What a first line names where no clause of the function refuses the edit.
 OTHERS = r"ensures|invariant|loop|safe|ends|requires of [\w.]+"
@@ -66,7 +66,7 @@ EXEMPT = (
     "cli: command.abnfi_command", "fixpoint: needs.are_needs_within", "abnfcheck: table_marks.productive_rules",
     "toolrun: told.told_notes", "rulenames: used_names.add_use", "pegmatch: leaves.match_any", "feed: Feed.front",
     "pegnodes: cut.cut_grammar", "pegnodes: star_tables.find_tables", "pegnodes: template.cut_templates",
-    "fanquber_c: exports.fanquber_abnf", "fanquber_c: run_exports.fanquber_peg_open",
+    "capi: calls.abnf", "capi: runner_calls.peg_open",
     # A crate above has such an edit.
     "abnfrun: AbnfJudge.judge", "memoryrun: whole_run.abnf_in_memory", "memoryrun: whole_run.peg_in_memory",
     "earleyitems: Chart.spots", "toolrun: plan.plan_of", "toolrun: tool.act", "diagnostics: places.places_of",
