@@ -1,0 +1,12 @@
+use Rattle.std.proofs.Common.{inl, inr, sym, subst}
+use Rattle.std.specs.Prelude.{slice_get, Some, ◌≡◌}
+use Rattle.flatgrammar.proofs.FlatCutLemmas.{push_cases}
+use Rattle.lazydfa.proofs.cache.add_cells.Goals as goal
+
+pub loop-preserved : goal.loop-preserved
+loop-preserved c i known at =
+    elim (push_cases c.loop.cells.items _ i known
+    (subst (λ v. slice_get v i ≡ Some known) c.in_ok-push.ensures.items at)) [
+      | inl before ↦ c.loop.invariant i known before
+      | inr last ↦ inr (sym last.1)
+    ]
