@@ -141,11 +141,14 @@ fn readers_of_letter(
     Ok(list)
 }
 
-// Returns for each letter below 256 those that read it.
+// Returns for each letter below 256 those that read it, or no list if there are few of them.
 fn by_letter(alloc: Global, flat: &Tables, from: &[Spot]) -> Result<Vec<Vec<Spot>>, Memory>
     ensures { IfOk result (λ lists. AreByLetter flat.now from.now lists.items) }
 {
     let mut lists = Vec::new(alloc);
+    if from.len() <= FEW {
+        return Ok(lists);
+    }
     for value in 0..256u32 {
         let list = readers_of_letter(alloc, flat, from, value)?;
         lists.push(list)?;
@@ -160,11 +163,7 @@ fn list_of(alloc: Global, flat: &Tables, from: &[Spot]) -> Result<SpotList, Memo
     let asks = asks_of(alloc, flat, from)?;
     let readers = readers_of(alloc, flat, from)?;
     let ends = ends_of(flat, &readers);
-    let by_letter = if readers.len() > FEW {
-        by_letter(alloc, flat, &readers)?
-    } else {
-        Vec::new(alloc)
-    };
+    let by_letter = by_letter(alloc, flat, &readers)?;
     Ok(SpotList {
         asks,
         readers,
