@@ -1,9 +1,9 @@
 //! Calls that read a grammar's text.
 
-use abnfprint::is_abnf_read_back;
+use abnfprint::{is_abnf_read_back, print_abnf};
 use abnfread::{AbnfKind, Elem, abnf_tokens, core_rules, one_reading, one_tree, read_abnf};
 use lexer::tokens_make_up;
-use ruletable::ReadFault;
+use ruletable::{ReadFault, SinkOf};
 use std::alloc::Global;
 use testio::{Fields, Text};
 
@@ -88,6 +88,15 @@ pub(crate) fn alternatives_of(alloc: Global, fields: &Fields, out: &mut Text) ->
         }
         out.add(b";");
     }
+    Some(())
+}
+
+/// `print GRAMMAR`: its canonical text.
+pub(crate) fn canonical_text_of(alloc: Global, fields: &Fields, out: &mut Text) -> Option<()> {
+    let abnf = read_abnf(alloc, fields.text(0)).ok()?;
+    let mut sink = SinkOf::new(Vec::new(alloc));
+    print_abnf(&abnf, &mut sink).ok()?;
+    out.add(&sink.into_inner());
     Some(())
 }
 

@@ -28,6 +28,7 @@ impl Calls for AbnfCalls {
             "single_bytes" => grammars::single_bytes_read(alloc, out),
             "sizes" => grammars::sizes_of(alloc, fields, out)?,
             "alternatives" => grammars::alternatives_of(alloc, fields, out)?,
+            "print" => grammars::canonical_text_of(alloc, fields, out)?,
             "core_rule" => grammars::core_rule_of(alloc, fields, out)?,
             "notes" => sound_grammars::notes_of(alloc, fields, out)?,
             "nullable" => sound_grammars::is_nullable(alloc, fields, out)?,
