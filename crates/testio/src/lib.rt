@@ -1,9 +1,15 @@
-//! Readers and writers in memory that give and take a few bytes a call, and fail at a chosen place. The crates of tests
-//! run the others over them.
+//! What the crates of tests share: readers and writers in memory that give and take a few bytes a call, and fail at a
+//! chosen byte; and rows of calls, with what each must print.
 #![tactic(auto)]
 
+mod fields;
 mod paper;
+mod program;
+mod rows;
 mod tape;
 
+pub use fields::{Fields, Text};
 pub use paper::{ALL, Paper, Takes};
+pub use program::run_input;
+pub use rows::{Calls, run_rows};
 pub use tape::Tape;

@@ -3,8 +3,6 @@
 #![tactic(auto)]
 
 #[cfg(test)]
-mod explain_fault_lines;
-#[cfg(test)]
 mod feed_fill;
 #[cfg(test)]
 mod leastset_calls;
@@ -12,8 +10,6 @@ mod leastset_calls;
 mod letters_utf8;
 #[cfg(test)]
 mod lines_answers;
-#[cfg(test)]
-mod push_steps_lines;
 #[cfg(test)]
 mod ruletable_calls;
 #[cfg(test)]

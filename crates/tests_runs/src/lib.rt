@@ -1,32 +1,14 @@
-//! Whole runs of the engine and of the command line, over readers, writers and files in memory, on rows whose answers a
-//! manual or a hand gives.
+//! Whole runs of the engine over readers and writers in memory that give and take a few bytes a call, and fail. Runs on
+//! which nothing fails stand in `scripts/gate/runs/`.
 #![tactic(auto)]
 
 #[cfg(test)]
-mod abnfi_main_repeats;
-#[cfg(test)]
-mod abnfi_main_rows;
-#[cfg(test)]
-mod commands_words;
-#[cfg(test)]
 mod ends;
 #[cfg(test)]
-mod pegi_main_rows;
+mod laws;
 #[cfg(test)]
-mod run_abnf_examples;
+mod readers;
 #[cfg(test)]
-mod run_abnf_records;
+mod told_errors;
 #[cfg(test)]
-mod run_abnf_refused;
-#[cfg(test)]
-mod run_abnf_rows;
-#[cfg(test)]
-mod run_abnf_viable;
-#[cfg(test)]
-mod run_peg_rows;
-#[cfg(test)]
-mod run_peg_stops;
-#[cfg(test)]
-mod run_tool_explained;
-#[cfg(test)]
-mod run_tool_hints;
+mod writers;

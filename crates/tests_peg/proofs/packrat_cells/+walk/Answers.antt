@@ -1,4 +1,4 @@
-use Rattle.std.proofs.Common.{◌≡◌, ◌∙◌, ◌<◌, length, Some, ap, arith}
+use Rattle.std.proofs.Common.{◌∙◌, Some, ap, arith}
 use Rattle.pegmatch.proofs.NodeShapeLemmas.{shape_at}
 use Rattle.tests_peg.proofs.packrat_cells.+walk.Goals as goal
 

@@ -1,0 +1,67 @@
+//! Lines and blocks of RFCs.
+
+use abnfblocks::{Found, LineKind, find_blocks, is_blank, kept_lines, rule_size};
+use ruletable::{SinkOf, write_fault};
+use std::alloc::Global;
+use testio::{Fields, Text};
+
+/// `kept_lines TEXT`: the numbers of the lines that are no page furniture.
+pub(crate) fn kept_lines_of(alloc: Global, fields: &Fields, out: &mut Text) -> Option<()> {
+    for line in &kept_lines(alloc, fields.text(0)).ok()? {
+        out.add_number(line.number as u128);
+        out.add(b";");
+    }
+    Some(())
+}
+
+// Adds what is found.
+fn add_found(alloc: Global, found: &Found, out: &mut Text) -> Option<()> {
+    match found {
+        Found::Piece { first, count } => {
+            out.add_number(*first as u128);
+            out.add(b": lines ");
+            out.add_number(*count as u128);
+            out.add(b"\n");
+        }
+        Found::NotAbnf { first, fault } => {
+            out.add_number(*first as u128);
+            out.add(b": not ABNF: ");
+            let mut told = SinkOf::new(Vec::new(alloc));
+            write_fault(fault, &mut told).ok()?;
+            out.add(&told.into_inner());
+        }
+    }
+    Some(())
+}
+
+/// `blocks TEXT`: what is found among the lines of a text.
+pub(crate) fn blocks_of(alloc: Global, fields: &Fields, out: &mut Text) -> Option<()> {
+    let lines = kept_lines(alloc, fields.text(0)).ok()?;
+    for found in &find_blocks(alloc, &lines).ok()? {
+        add_found(alloc, found, out)?;
+    }
+    Some(())
+}
+
+/// `rule_size TEXT`: how many lines the first rule has.
+pub(crate) fn rule_size_of(alloc: Global, fields: &Fields, out: &mut Text) -> Option<()> {
+    let lines = kept_lines(alloc, fields.text(0)).ok()?;
+    if lines.is_empty() {
+        return None;
+    }
+    out.add_number(rule_size(&lines) as u128);
+    Some(())
+}
+
+/// `blank`: whether a form feed and a CR are blank, and whether a blank line and a form feed's are.
+pub(crate) fn are_blank(out: &mut Text) {
+    for is_so in [
+        is_blank(12),
+        is_blank(13),
+        LineKind::Blank.is_blank(),
+        LineKind::Feed.is_blank(),
+    ] {
+        out.add_answer(is_so);
+        out.add(b";");
+    }
+}

@@ -1,0 +1,67 @@
+//! Flat grammars.
+
+use crate::sound_grammars::sound;
+use flatgrammar::{Flat, Node, lower};
+use letters::Alphabet;
+use prune::lower_viable;
+use std::alloc::Global;
+use testio::{Fields, Text};
+
+/// Returns the flat grammar of a text, whose first rule is judged, for lines of so many letters.
+pub(crate) fn flat(alloc: Global, text: &[u8], limit: usize) -> Option<Flat> {
+    let grammar = sound(alloc, text, "")?;
+    lower(alloc, &grammar, limit).ok()
+}
+
+/// Returns the flat grammar of a text without its parts that derive nothing, judged by the rule of that name, for lines
+/// of so many letters.
+pub(crate) fn viable_flat(
+    alloc: Global,
+    text: &[u8],
+    rule: &str,
+    alphabet: Alphabet,
+    limit: usize,
+) -> Option<Flat> {
+    let grammar = sound(alloc, text, rule)?;
+    lower_viable(alloc, &grammar, alphabet, limit).ok()
+}
+
+// Adds what a node is, if it is a name or a repetition's turns.
+fn add_node(flat: &Flat, n: usize, out: &mut Text) {
+    if n >= flat.nodes() {
+        return out.add(b"none");
+    }
+    match flat.node(n) {
+        Node::Name(id) => add_number(b"name ", *id, out),
+        Node::Turns {
+            most: None,
+            operand,
+        } => add_number(b"turns of ", *operand, out),
+        _ => out.add(b"other"),
+    }
+}
+
+// Adds a text and a number.
+fn add_number(text: &[u8], number: usize, out: &mut Text) {
+    out.add(text);
+    out.add_number(number as u128);
+}
+
+/// `flat GRAMMAR | NODE ..`: whether the whole is the last of more than four nodes; and of each of these nodes what it
+/// is, its root, and whether it is nullable.
+pub(crate) fn ends_of(alloc: Global, fields: &Fields, out: &mut Text) -> Option<()> {
+    let flat = flat(alloc, fields.text(0), 7)?;
+    out.add_answer(flat.nodes() > 4 && flat.whole() == flat.nodes() - 1);
+    for at in 1..fields.len() {
+        let n = fields.number(at);
+        out.add(b";");
+        add_node(&flat, n, out);
+        if let Some(root) = flat.root(n) {
+            add_number(b" root ", root, out);
+        }
+        if flat.is_nullable(n) {
+            out.add(b" nullable");
+        }
+    }
+    Some(())
+}

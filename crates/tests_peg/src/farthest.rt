@@ -1,0 +1,119 @@
+//! The farthest failing comparison of a unit, and what explains that no unit goes on.
+
+use crate::nodes::sound;
+use gramcheck::SoundPeg;
+use matchfailure::{
+    TextPlace, Told, Visit, explain_long_unit, explain_no_match, failing_leaf_stops,
+    fails_so_in_input, farthest_failure, farthest_or_none, one_farthest, one_no_match, stops_fail,
+    told_unit,
+};
+use pegnodes::Node;
+use ruletable::Memory;
+use std::alloc::Global;
+use testio::{Fields, Text};
+
+// A leaf: a literal's bytes, `[]` for a class, or `.`.
+fn leaf(peg: &SoundPeg, node: usize) -> &[u8] {
+    if node >= peg.nodes() {
+        return b"?";
+    }
+    match peg.node(node) {
+        Node::Bytes(bytes) => bytes,
+        Node::Set(_) => b"[]",
+        Node::Any => b".",
+        _ => b"?",
+    }
+}
+
+// Adds what is expected, each leaf with the position at which it begins.
+fn add_visits(peg: &SoundPeg, visits: &[Visit], out: &mut Text) {
+    for visit in visits {
+        out.add(b" ");
+        out.add(leaf(peg, visit.node));
+        out.add(b"@");
+        out.add_number(visit.place as u128);
+    }
+}
+
+/// `farthest GRAMMAR | WINDOW`: the farthest byte at which a comparison outside of `!` fails, and what is expected
+/// there.
+pub(crate) fn farthest_of(alloc: Global, fields: &Fields, out: &mut Text) -> Option<()> {
+    let peg = sound(alloc, fields.text(0))?;
+    match farthest_failure(alloc, &peg, fields.text(1)).ok()? {
+        None => out.add(b"none"),
+        Some(far) => {
+            out.add_number(far.place as u128);
+            out.add(b":");
+            add_visits(&peg, &far.expected, out);
+        }
+    }
+    Some(())
+}
+
+// The position that a field spells; none for `none`.
+fn position(fields: &Fields, at: usize) -> Option<u128> {
+    if fields.is(at, b"none") {
+        None
+    } else {
+        Some(fields.number(at) as u128)
+    }
+}
+
+/// `told_unit POSITION | POSITION`: which of two units is reported, by the farthest failing bytes of the unit before
+/// and of the last one.
+pub(crate) fn told_unit_of(fields: &Fields, out: &mut Text) {
+    match told_unit(position(fields, 0), position(fields, 1)) {
+        Told::Before => out.add(b"before"),
+        Told::Last => out.add(b"last"),
+    }
+}
+
+// Returns what explains that no unit goes on; nothing where a text is too long, or the last unit begins after what is
+// taken.
+fn told(
+    alloc: Global,
+    peg: &SoundPeg,
+    input: &[u8],
+    taken: &[u8],
+    before: usize,
+) -> Result<Vec<u8>, Memory> {
+    if input.len() > 100 || taken.len() > 100 || before > taken.len() {
+        return Ok(Vec::new(alloc));
+    }
+    let at = TextPlace::front().behind(input);
+    explain_no_match(alloc, peg, taken, before, at)
+}
+
+/// `no_match GRAMMAR | INPUT | TAKEN | COUNT`: what explains that no unit goes on. The input stands before the unit
+/// before the last one, or before the last one if there is none; of what is taken after it so many bytes stand before
+/// the last unit.
+pub(crate) fn no_match_of(alloc: Global, fields: &Fields, out: &mut Text) -> Option<()> {
+    let peg = sound(alloc, fields.text(0))?;
+    let why = told(
+        alloc,
+        &peg,
+        fields.text(1),
+        fields.text(2),
+        fields.number(3),
+    )
+    .ok()?;
+    out.add(&why);
+    Some(())
+}
+
+/// `long_unit`: what explains a unit that is too long, and begins after one line end.
+pub(crate) fn long_unit_on_line_two(alloc: Global, out: &mut Text) -> Option<()> {
+    let at = TextPlace::front().behind(b"\n");
+    out.add(&explain_long_unit(alloc, at).ok()?);
+    Some(())
+}
+
+/// `failure_laws`: they return.
+pub(crate) fn laws() {
+    one_farthest();
+    farthest_or_none();
+    stops_fail();
+    failing_leaf_stops();
+    one_no_match();
+    fails_so_in_input();
+}

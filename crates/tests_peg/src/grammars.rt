@@ -1,0 +1,130 @@
+//! Calls that read a grammar's text.
+
+use lexer::{have_tokens, one_list, tokens, tokens_make_up};
+use pegread::{
+    Expr, Kind, are_marked, is_read_back, next_char, one_reading, one_tree, read_peg,
+    spells_one_char, spells_one_class, spells_one_literal, spells_some_char, spells_some_class,
+    spells_some_literal,
+};
+use ruletable::ReadFault;
+use std::alloc::Global;
+use testio::{Fields, Text};
+
+/// `next_char TEXT`: the number of the byte that the first character spells, a colon, and what follows it.
+pub(crate) fn next_char_of(fields: &Fields, out: &mut Text) {
+    match next_char(fields.text(0)) {
+        Some((byte, rest)) => {
+            out.add_number(u128::from(byte));
+            out.add(b":");
+            out.add(rest);
+        }
+        None => out.add(b"none"),
+    }
+}
+
+// The name of a kind of token.
+fn name_of(kind: Kind) -> &'static [u8] {
+    match kind {
+        Kind::Ident => b"Ident",
+        Kind::Arrow => b"Arrow",
+        Kind::Begin => b"Begin",
+        Kind::EndCap => b"EndCap",
+        Kind::Slash => b"Slash",
+        Kind::Amp => b"Amp",
+        Kind::Bang => b"Bang",
+        Kind::Quest => b"Quest",
+        Kind::Star => b"Star",
+        Kind::Plus => b"Plus",
+        Kind::Dot => b"Dot",
+        Kind::LParen => b"LParen",
+        Kind::RParen => b"RParen",
+        Kind::Literal => b"Literal",
+        Kind::Class => b"Class",
+        Kind::Action => b"Action",
+        Kind::Bad => b"Bad",
+        Kind::End => b"End",
+    }
+}
+
+/// `tokens TEXT`: a line for each token, of its kind and its bytes.
+pub(crate) fn tokens_of(fields: &Fields, out: &mut Text) {
+    for token in tokens::<Kind>(fields.text(0)) {
+        out.add(name_of(token.kind));
+        out.add(b" ");
+        out.add(token.slice);
+        out.add(b"\n");
+    }
+}
+
+/// `spans TEXT`: of each token the offsets of its first byte and of the byte after it.
+pub(crate) fn spans_of(fields: &Fields, out: &mut Text) {
+    for token in tokens::<Kind>(fields.text(0)) {
+        out.add_number(token.span.start as u128);
+        out.add(b"-");
+        out.add_number(token.span.end as u128);
+        out.add(b";");
+    }
+}
+
+// A mark for a text that is read, or that is refused on a line from 1 to 9.
+fn mark_of(alloc: Global, text: &[u8]) -> &'static [u8] {
+    match read_peg(alloc, text) {
+        Ok(_) => b"R",
+        Err(ReadFault::Syntax { line: 1 }) => b"1",
+        Err(ReadFault::Syntax { line: 2 }) => b"2",
+        Err(_) => b"?",
+    }
+}
+
+/// `prefixes TEXT`: for each prefix, the empty one first, `R` if it is read, or the line on which it is refused.
+pub(crate) fn prefixes_read(alloc: Global, fields: &Fields, out: &mut Text) {
+    let text = fields.text(0);
+    for size in 0..=text.len() {
+        out.add(mark_of(alloc, text.get(..size).unwrap_or(text)));
+    }
+}
+
+/// `single_bytes`: the same for each text of one byte.
+pub(crate) fn single_bytes_read(alloc: Global, out: &mut Text) {
+    for byte in 0..=255u8 {
+        out.add(mark_of(alloc, &[byte]));
+    }
+}
+
+/// `definitions GRAMMAR`: the ids of the rules that are defined again; then for each rule its span and, if its body is
+/// a literal, `literal`.
+pub(crate) fn definitions_of(alloc: Global, fields: &Fields, out: &mut Text) -> Option<()> {
+    let peg = read_peg(alloc, fields.text(0)).ok()?;
+    for id in &peg.redefined {
+        out.add_number(*id as u128);
+        out.add(b" ");
+    }
+    for id in 0..peg.rules.len() {
+        let span = peg.rules.span(id);
+        out.add(b";");
+        out.add_number(span.start as u128);
+        out.add(b"-");
+        out.add_number(span.end as u128);
+        if matches!(peg.rules.body(id), Expr::Bytes(_)) {
+            out.add(b" literal");
+        }
+    }
+    Some(())
+}
+
+/// `grammar_laws`: they return.
+pub(crate) fn laws() {
+    one_tree();
+    one_reading();
+    is_read_back();
+    one_list::<Kind>();
+    are_marked();
+    tokens_make_up::<Kind>();
+    have_tokens::<Kind>(b"a <- 'b' # c");
+    spells_one_char();
+    spells_some_char();
+    spells_one_literal();
+    spells_some_literal();
+    spells_one_class();
+    spells_some_class();
+}
