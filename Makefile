@@ -40,9 +40,8 @@ example: programs
 	@echo word | bin/abnfi crates/abnfi/data/word.abnf
 
 # Each folder of examples/, compared with what it must print, and the examples of the manual pages, as they stand there.
-# The gate runs them too; its tests hold the texts of most folders.
+# The gate runs them too.
 examples: programs
-	@python3 scripts/docs/example_tests.py check
 	@sh scripts/docs/run_examples.sh
 	@python3 -B scripts/docs/man_examples.py
 
