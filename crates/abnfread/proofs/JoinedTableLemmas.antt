@@ -252,15 +252,15 @@ length-set (row ∷ rows) zero x = refl
 length-set (row ∷ rows) (suc id) x = ap suc (length-set rows id x)
 
 -- one definition more
-taken : (all : List Definition) (old new : table.Rules Elem) (redefined early others more : List ℕ) (d : Definition)
+one-more : (all : List Definition) (old new : table.Rules Elem) (redefined early others more : List ℕ) (d : Definition)
     (left : List Definition) → Goes all old redefined early (d ∷ left)
     → TakesDefinition d old redefined early new others more → Goes all new others more left
-taken all old _ redefined early _ _ d left g (grows id new f e names same) =
+one-more all old _ redefined early _ _ d left g (grows id new f e names same) =
     goes-grown all old redefined early d left g id new f e names same
-taken all old _ redefined early _ _ d left g (redefines id f e) = goes-again all old redefined early d left g id f e
-taken all old _ redefined early _ _ d left g (extends new f b) =
+one-more all old _ redefined early _ _ d left g (redefines id f e) = goes-again all old redefined early d left g id f e
+one-more all old _ redefined early _ _ d left g (extends new f b) =
     goes-early all old new redefined early d left (length old.rules) g (sym b.is) f b.names b.rules refl
-taken all old _ redefined early _ _ d left g (begins new f b) =
+one-more all old _ redefined early _ _ d left g (begins new f b) =
     goes-new all old new redefined early d left g (sym b.is) f b.names b.rules
 
 pub goes-on : (all : List Definition) (old new : table.Rules Elem) (redefined early others more : List ℕ)
@@ -268,4 +268,4 @@ pub goes-on : (all : List Definition) (old new : table.Rules Elem) (redefined ea
     → given ≡ d ∷ rest → TakesDefinition (definition_from d) old redefined early new others more
     → Goes all new others more (map definition_from rest)
 goes-on all old new redefined early others more given rest d g s t =
-    taken all old new redefined early others more (definition_from d) (map definition_from rest) (rw s at g) t
+    one-more all old new redefined early others more (definition_from d) (map definition_from rest) (rw s at g) t
