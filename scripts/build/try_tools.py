@@ -26,7 +26,7 @@ RT = os.environ.get("RT", "rt").split()
 TOOLS = ("pegi", "abnfi", "abnfx")
 USAGE = """usage: make try TOOL=pegi|abnfi GRAMMAR=file [INPUT=file | CASES=folder] [OPTIONS='..']
        make try TOOL=abnfx TEXTS='file ..' | CASES=folder [OPTIONS='..']"""
-# What `rt try` tells on standard error after what the program tells: the last line has the program's status.
+# What `rt try` writes on standard error after the program's own lines: the last line has the program's status.
 ENDED = re.compile(r"(checked: .*\n|interpreter: .*\n)*run=ended status=(\d+) .*\n\Z")
 
 
