@@ -115,11 +115,13 @@ typedef struct fanquber_answer {
 
 /* Opens a closed judge by a grammar in ABNF, and writes what fanquber_abnf tells of the grammar into the buffer, its notes or
  * the fault of its text. The status is FANQUBER_DONE and the judge is open, or FANQUBER_REFUSED, FANQUBER_NO_MEMORY or
- * FANQUBER_BAD_SETTINGS, and it stays closed. The mode is not looked at, nor is the end of lines. out_len is 0. */
+ * FANQUBER_BAD_SETTINGS, and it stays closed. The mode must be valid, and has no other effect. The end of lines matters
+ * for hints alone. out_len is 0. */
 fanquber_result fanquber_abnf_open(const fanquber_settings *settings, const void *grammar, size_t grammar_len,
                                    const void *name, size_t name_len, fanquber_judge *judge, void *err, size_t err_size);
 
-/* Judges a line, as fanquber_abnf would. It may hold any bytes. */
+/* Judges a line, which may hold any bytes. A line without the byte that ends lines gets the answer that fanquber_abnf
+ * gives to it. */
 fanquber_answer fanquber_abnf_judge(fanquber_judge *judge, const void *line, size_t line_len);
 
 /* Frees what an open judge holds, and closes it. */
@@ -136,7 +138,8 @@ typedef struct fanquber_runner {
 
 /* Opens a closed runner by a grammar in the syntax of peg(1), and writes what fanquber_peg tells of the grammar into the
  * buffer, its notes or the fault of its text. The status is FANQUBER_DONE and the runner is open, or FANQUBER_REFUSED,
- * FANQUBER_NO_MEMORY or FANQUBER_BAD_SETTINGS, and it stays closed. The mode is not looked at. out_len is 0. */
+ * FANQUBER_NO_MEMORY or FANQUBER_BAD_SETTINGS, and it stays closed. The mode must be valid, and has no other effect.
+ * out_len is 0. */
 fanquber_result fanquber_peg_open(const fanquber_settings *settings, const void *grammar, size_t grammar_len,
                                   const void *name, size_t name_len, fanquber_runner *runner, void *err, size_t err_size);
 

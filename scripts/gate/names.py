@@ -29,7 +29,7 @@ DEFINITION = re.compile(r"(?:(?:unfoldable|abbrev|pub|data|record) )+([^\s(){}:.
 # Crates of the two grammar languages, which call what is the same in both by one name, and the crates on which both
 # stand and whose words they speak.
 LANGUAGES = (
-    {"abnfread", "abnfprint", "abnfexplain", "abnfcheck", "abnfrun", "flatgrammar"},
+    {"abnfread", "abnfprint", "abnfexplain", "abnfcheck", "abnfrun", "flatgrammar", "lowering"},
     {"pegread", "pegexplain", "pegnodes", "gramcheck", "pegrun", "pegmatch"},
     {"diagnostics", "lexer", "rulenames", "ruletable", "toolrun"},
 )

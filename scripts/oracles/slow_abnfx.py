@@ -42,14 +42,13 @@ def kind(line, has_feed):
 
 def lines(text):
     """Returns the number, the bytes and the kind of each line."""
-    parts = text.split(b"\n")
+    parts = re.split(rb"\r?\n", text)
     if not parts[-1]:
         parts.pop()
     found = []
     for number, part in enumerate(parts, 1):
-        bare = part[:-1] if part.endswith(b"\r") else part
-        line = bare.lstrip(b"\f")
-        found.append((number, line, kind(line, len(line) < len(bare))))
+        line = part.lstrip(b"\f")
+        found.append((number, line, kind(line, len(line) < len(part))))
     return found
 
 

@@ -1,49 +1,123 @@
--- A text is cut at its first LF.
+-- A text is cut at the end of its first line.
 -- Serves: kept_lines
-use Rattle.std.proofs.Common.{◌≡◌, ℕ, suc, ◌+◌, ◌<◌, ◌==◌, not, Bool, List, [], ◌∷◌, length, take, drop, refl, ap}
-use Rattle.std.proofs.Common.{inl, inr, arith, ◌∙◌, sym, ◌≤◌}
+use Rattle.std.proofs.Common.{◌≡◌, ℕ, suc, ◌+◌, ◌-◌, ◌<◌, ◌≤◌, ◌==◌, ◌&&◌, not, Bool, true, false, List, [], ◌∷◌}
+use Rattle.std.proofs.Common.{length, take, drop, refl, ap, bytes_eq, codes, inl, inr, arith, ◌∙◌, sym, if◌then◌else◌}
 use Rattle.std.proofs.lemmas.Bool.{cases_Bool}
-use Rattle.std.proofs.lemmas.List.{drop-drop, drop_all, length-drop}
+use Rattle.std.proofs.lemmas.List.{drop-drop, length-drop, take_all}
 use Rattle.std.specs.List.{prefix_len}
+use Rattle.std.specs.Option.{unwrap_or}
+use Rattle.abnfblocks.specs.LineKinds.{strip_end}
+use Rattle.abnfblocks.specs.RuleLines.{begins_by}
 use Rattle.abnfblocks.specs.TextLines.{line_parts, with_byte}
 
-abbrev pub is_inside : ℕ → Bool
-is_inside b = not (b == 10)
+-- a part without CR at its end
+abbrev pub without_cr : List ℕ → List ℕ
+without_cr part = unwrap_or (strip_end part (codes "\r")) part
 
-one-part : (b : ℕ) (bytes : List ℕ) → (0 < length bytes → line_parts bytes
-    ≡ take (prefix_len is_inside bytes) bytes ∷ line_parts (drop (suc (prefix_len is_inside bytes)) bytes))
-    → with_byte b (line_parts bytes)
-    ≡ (b ∷ take (prefix_len is_inside bytes) bytes) ∷ line_parts (drop (suc (prefix_len is_inside bytes)) bytes)
-one-part b [] h = refl
-one-part b (c ∷ bytes) h = ap (with_byte b) (h (omega arith))
+-- how many bytes stand before the first LF
+abbrev pub size_inside : List ℕ → ℕ
+size_inside text = prefix_len (λ b. not (b == 10)) text
 
-pub first-part : (text : List ℕ) → 0 < length text
-    → line_parts text ≡ take (prefix_len is_inside text) text ∷ line_parts (drop (suc (prefix_len is_inside text)) text)
-first-part [] h = absurd (omega arith)
-first-part (b ∷ bytes) h = elim (cases_Bool (b == 10)) [
-  | inl e ↦ rw e refl
-  | inr e ↦ (let more : prefix_len is_inside (b ∷ bytes) ≡ suc (prefix_len is_inside bytes) = rw e (omega arith) in
-      rw (more, e) (one-part b bytes (λ lt. first-part bytes lt)))
+-- and those bytes
+abbrev pub text_inside : List ℕ → List ℕ
+text_inside text = take (size_inside text) text
+
+-- a CR that ends a part stands after its other bytes
+cr-behind : (b c : ℕ) (bytes : List ℕ) → without_cr (b ∷ c ∷ bytes) ≡ b ∷ without_cr (c ∷ bytes)
+cr-behind b c bytes =
+    let next : suc (suc (length bytes)) - 1 ≡ suc (suc (length bytes) - 1) = omega arith in
+    elim (cases_Bool (bytes_eq (drop (suc (length bytes) - 1) (c ∷ bytes)) (codes "\r"))) [
+      | inl e ↦ rw (next, e) refl
+      | inr e ↦ rw (next, e) refl
+    ]
+
+more-inside : (b : ℕ) (bytes : List ℕ) → (b == 10) ≡ false → size_inside (b ∷ bytes) ≡ suc (size_inside bytes)
+more-inside b bytes e = rw e (omega arith)
+
+-- a byte that neither is LF nor stands as CR before it
+byte-kept : (b : ℕ) (bytes : List ℕ) → begins_by 10 bytes ≡ false
+    → (if (b == 13) && begins_by 10 bytes then line_parts bytes else with_byte b (line_parts bytes))
+    ≡ with_byte b (line_parts bytes)
+byte-kept b bytes e = elim (cases_Bool (b == 13)) [
+  | inl f ↦ rw (e, f) refl
+  | inr f ↦ rw (e, f) refl
 ]
 
-pub part-before : (text first behind rest : List ℕ) (b n : ℕ) → 0 < length text → n ≡ prefix_len is_inside text
-    → first ≡ take n text → behind ≡ drop n text → behind ≡ b ∷ rest → line_parts text ≡ first ∷ line_parts rest
-part-before text first behind rest b n lt size front back more =
-    let next : n + 1 ≡ suc (prefix_len is_inside text) = omega arith in
-    let after : rest ≡ drop (suc (prefix_len is_inside text)) text =
-    ap (drop 1) (sym more ∙ back) ∙ drop-drop 1 n text ∙ ap (λ (k : ℕ). drop k text) next in
-    rw (after, front, size) (first-part text lt)
+byte-before : (b c : ℕ) (bytes : List ℕ) (others : List (List ℕ))
+    → line_parts (c ∷ bytes) ≡ without_cr (text_inside (c ∷ bytes)) ∷ others
+    → (if (b == 13) && begins_by 10 (c ∷ bytes) then line_parts (c ∷ bytes) else with_byte b (line_parts (c ∷ bytes)))
+    ≡ without_cr (b ∷ text_inside (c ∷ bytes)) ∷ others
+byte-before b c bytes others h = elim (cases_Bool (c == 10)) [
+  | inl e ↦
+      let parts : [] ∷ line_parts bytes ≡ [] ∷ others = rw e at h in
+      elim (cases_Bool (b == 13)) [
+        | inl f ↦ rw (e, f) parts
+        | inr f ↦ rw (e, f) (ap (with_byte b) parts)
+      ]
+  | inr e ↦
+      let more = more-inside c bytes e in
+      byte-kept b (c ∷ bytes) e ∙ ap (with_byte b) h
+      ∙ ap (λ (part : List ℕ). part ∷ others) (rw more (sym (cr-behind b c (text_inside bytes))))
+]
+
+-- what a line's end ends
+pub part-ended : (text : List ℕ) (b : ℕ) (rest : List ℕ) → drop (size_inside text) text ≡ b ∷ rest
+    → line_parts text ≡ without_cr (text_inside text) ∷ line_parts rest
+part-ended [] b rest h = cc
+part-ended (x ∷ bytes) b rest h = elim (cases_Bool (x == 10)) [
+  | inl e ↦
+      let at : x ∷ bytes ≡ b ∷ rest = rw e at h in
+      let same : bytes ≡ rest = cc in
+      rw (e, same) refl
+  | inr e ↦
+      let more = more-inside x bytes e in
+      let at : drop (size_inside bytes) bytes ≡ b ∷ rest = rw more at h in
+      rw (more, e) (byte-more x bytes at (part-ended bytes b rest at))
+]
+  where
+    byte-more : (x : ℕ) (bytes : List ℕ) → drop (size_inside bytes) bytes ≡ b ∷ rest
+        → line_parts bytes ≡ without_cr (text_inside bytes) ∷ line_parts rest
+        → (if (x == 13) && begins_by 10 bytes then line_parts bytes else with_byte x (line_parts bytes))
+        ≡ without_cr (x ∷ text_inside bytes) ∷ line_parts rest
+    byte-more x [] at h = cc
+    byte-more x (c ∷ bytes) at h = byte-before x c bytes (line_parts rest) h
+
+-- a last line that nothing ends
+pub part-left : (text : List ℕ) → 0 < length text → length text ≤ size_inside text → line_parts text ≡ text ∷ []
+part-left [] lt le = absurd (omega arith)
+part-left (x ∷ bytes) lt le = elim (cases_Bool (x == 10)) [
+  | inl e ↦ absurd (let none : size_inside (x ∷ bytes) ≡ 0 = rw e refl in omega arith)
+  | inr e ↦
+      let more = more-inside x bytes e in
+      rw e (byte-left x bytes (omega arith) (λ lt. part-left bytes lt (omega arith)))
+]
+  where
+    byte-left : (x : ℕ) (bytes : List ℕ) → length bytes ≤ size_inside bytes
+        → (0 < length bytes → line_parts bytes ≡ bytes ∷ [])
+        → (if (x == 13) && begins_by 10 bytes then line_parts bytes else with_byte x (line_parts bytes))
+        ≡ (x ∷ bytes) ∷ []
+    byte-left x [] le h = byte-kept x [] refl
+    byte-left x (c ∷ bytes) le h = elim (cases_Bool (c == 10)) [
+      | inl e ↦ absurd (let none : size_inside (c ∷ bytes) ≡ 0 = rw e refl in omega arith)
+      | inr e ↦ byte-kept x (c ∷ bytes) e ∙ ap (with_byte x) (h (omega arith))
+    ]
+
+pub part-before : (text first behind rest : List ℕ) (b n : ℕ) → n ≡ size_inside text
+    → first ≡ take n text → behind ≡ drop n text → behind ≡ b ∷ rest
+    → line_parts text ≡ without_cr first ∷ line_parts rest
+part-before text first behind rest b n size front back more =
+    let at : drop (size_inside text) text ≡ b ∷ rest = ap (λ (k : ℕ). drop k text) (sym size) ∙ sym back ∙ more in
+    rw (front, size) (part-ended text b rest at)
 
 none-left : (rest : List ℕ) → length rest ≡ 0 → rest ≡ []
 none-left [] e = refl
 none-left (b ∷ rest) e = absurd (omega arith)
 
-pub part-last : (text first behind rest : List ℕ) (n : ℕ) → 0 < length text → n ≡ prefix_len is_inside text
+pub part-last : (text first behind rest : List ℕ) (n : ℕ) → 0 < length text → n ≡ size_inside text
     → first ≡ take n text → behind ≡ drop n text → length behind ≡ 0 → rest ≡ behind
     → line_parts text ≡ first ∷ line_parts rest
 part-last text first behind rest n lt size front back none same =
-    let few : length text ≤ suc (prefix_len is_inside text) =
-    omega (arith, ap length back, length-drop n text) in
-    let after : rest ≡ drop (suc (prefix_len is_inside text)) text =
-    same ∙ none-left behind none ∙ sym (drop_all _ text few) in
-    rw (after, front, size) (first-part text lt)
+    let few : length text ≤ n = omega (arith, ap length back, length-drop n text) in
+    let whole : first ≡ text = front ∙ take_all n text few in
+    let ends : rest ≡ [] = same ∙ none-left behind none in
+    rw (whole, ends) (part-left text lt (omega arith))

@@ -36,7 +36,3 @@ begins_comment line = begins_by (code ";") (behind_margin line)
 abbrev pub begins_rule_line : List ℕ → Bool
 begins_rule_line line =
     begins_letter (behind_margin line) && begins_by (code "=") (behind_margin (behind_name (behind_margin line)))
-
--- of a line that begins so, `/` stands right behind `=`
-abbrev pub adds_rule : List ℕ → Bool
-adds_rule line = begins_by (code "/") (drop 1 (behind_margin (behind_name (behind_margin line))))

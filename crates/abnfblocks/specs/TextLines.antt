@@ -1,11 +1,11 @@
--- The lines of a text: LF ends each of them, and belongs to none; the last one may lack it.
+-- The lines of a text: LF or CR LF ends each of them, and belongs to none; the last one may lack it.
 use Prim.Native.Char.{code}
-use Rattle.std.specs.Prelude.{ℕ, ◌+◌, ◌==◌, nat_lt, List, [], ◌∷◌, drop, codes, if◌then◌else◌}
-use Rattle.std.specs.Option.{unwrap_or}
+use Rattle.std.specs.Prelude.{ℕ, ◌+◌, ◌==◌, ◌&&◌, nat_lt, List, [], ◌∷◌, drop, if◌then◌else◌}
 use Rattle.std.specs.List.{prefix_len}
 use Rattle.abnfblocks.specs.declared.rfctext.line_kind.LineKind.{LineKind}
 use Rattle.abnfblocks.specs.declared.rfctext.text_line.TextLine.{TextLine}
-use Rattle.abnfblocks.specs.LineKinds.{is_feed, kind_of, strip_end}
+use Rattle.abnfblocks.specs.LineKinds.{is_feed, kind_of}
+use Rattle.abnfblocks.specs.RuleLines.{begins_by}
 
 -- a line: its number in the text, from 1, its bytes, and what it looks like
 pub record NumberedLine : Type 0 where
@@ -22,21 +22,18 @@ abbrev pub with_byte : ℕ → List (List ℕ) → List (List ℕ)
 with_byte b [] = (b ∷ []) ∷ []
 with_byte b (part ∷ parts) = (b ∷ part) ∷ parts
 
--- what LF ends, and what stands behind the last LF if that is something
+-- What LF or CR LF ends, and what stands after the last of these if that is something. A CR that no LF follows is text.
 abbrev pub line_parts : List ℕ → List (List ℕ)
 line_parts [] = []
-line_parts (b ∷ bytes) = if b == code "\n" then [] ∷ line_parts bytes else with_byte b (line_parts bytes)
-
--- CR before LF belongs to no line.
-abbrev pub without_cr : List ℕ → List ℕ
-without_cr part = unwrap_or (strip_end part (codes "\r")) part
+line_parts (b ∷ bytes) = if b == code "\n" then [] ∷ line_parts bytes
+    else if (b == code "\r") && begins_by (code "\n") bytes then line_parts bytes
+    else with_byte b (line_parts bytes)
 
 -- Form feeds that begin a line stand before it.
 abbrev pub line_in : ℕ → List ℕ → NumberedLine
 line_in number part =
-    let bare = without_cr part in
-    let feeds = prefix_len is_feed bare in
-    record { number = number; bytes = drop feeds bare; kind = kind_of (nat_lt 0 feeds) (drop feeds bare) }
+    let feeds = prefix_len is_feed part in
+    record { number = number; bytes = drop feeds part; kind = kind_of (nat_lt 0 feeds) (drop feeds part) }
 
 abbrev pub lines_from : ℕ → List (List ℕ) → List NumberedLine
 lines_from number [] = []

@@ -10,7 +10,7 @@ use ruletable::{Memory, ReadFault};
 use std::alloc::Global;
 
 /// What is found among the lines of a text. Lines count from 0, as they stand in the list.
-#[derive(Clone, Copy, Debug, PartialEq, Eq)]
+#[derive(Clone, Copy)]
 pub enum Found {
     /// So many lines from the first one on are ABNF.
     Piece { first: usize, count: usize },

@@ -11,4 +11,4 @@ mod rule_line;
 pub use block::{joined_text, rule_size};
 pub use found::{Found, find_blocks, one_finding};
 pub use rfctext::{LineKind, TextLine, is_blank, kept_lines, one_keeping};
-pub use rule_line::{adds_to_rule, margin};
+pub use rule_line::margin;

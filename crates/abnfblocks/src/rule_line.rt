@@ -1,10 +1,9 @@
 //! What a line begins with.
-ghost use Rattle.std.specs.Prelude.{◌≡◌, ◌≤◌, length, drop};
+ghost use Rattle.std.specs.Prelude.{◌≡◌, ◌≤◌, length};
 ghost use Rattle.std.specs.List.{prefix_len};
 ghost use Rattle.abnfread.specs.AbnfSlices.{continues_name};
 ghost use Rattle.abnfblocks.specs.RuleLines.{is_margin, margin_of, behind_margin, begins_rule_line, begins_comment};
 ghost use Rattle.abnfblocks.specs.RuleLines.{begins_by as begins, begins_letter as letter_begins, behind_name};
-ghost use Rattle.abnfblocks.specs.RuleLines.{adds_rule};
 
 // Whether the byte belongs to a margin: a space or a tab.
 fn is_space(b: u8) -> bool
@@ -101,23 +100,4 @@ pub(crate) fn is_rule_line(line: &[u8]) -> bool
 {
     let text = after_margin(line);
     begins_letter(text) && begins_by(after_margin(after_name(text)), b'=')
-}
-
-// The text without its first byte.
-fn after_first(text: &[u8]) -> &[u8]
-    ensures { result.now ≡ drop 1 text.now }
-{
-    match text.split_first() {
-        Some((_, rest)) => rest,
-        None => text,
-    }
-}
-
-/// Returns whether `/` stands right behind the `=` of a line that begins, behind its margin, with a rule's name and
-/// `=`.
-pub fn adds_to_rule(line: &[u8]) -> bool
-    ensures { result ≡ adds_rule line.now }
-{
-    let sign = after_margin(after_name(after_margin(line)));
-    begins_by(after_first(sign), b'/')
 }

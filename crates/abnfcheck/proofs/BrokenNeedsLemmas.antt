@@ -131,7 +131,7 @@ module _ (rules : List Rule) (given : Option (List ℕ)) (names : List (List ℕ
       old.is in
       record {
         id = id_of rules u.name;
-        is = id_at rules given names rows judged graph u.place;
+        is = id_at rules given names rows judged graph u.place_is;
         reachable = by_name (subst (λ v. Reachable rules s v) same old.reachable) u.body_is u.within;
       }
 

@@ -10,7 +10,7 @@ use Rattle.fixpoint.specs.StepRows.{Step, AreStepsWithin}
 use Rattle.fixpoint.proofs.ContainsLemmas.{none_of, in_first, in_later, cons_cases}
 use Rattle.ruletable.specs.declared.table.NameCase.TheVariants.{Fold}
 use Rattle.rulenames.specs.FirstUses.{news}
-use Rattle.rulenames.specs.NameUses.{IsPlace, AreIdsOf, no_uses, one_use}
+use Rattle.rulenames.specs.NameUses.{IsPlace, here, there, AreIdsOf, no_uses, one_use}
 use Rattle.rulenames.proofs.IsPlaceLemmas.{place_below}
 use Rattle.abnfread.specs.Element as e
 use Rattle.abnfread.specs.Element.{Element, Elements, Rule, bodies, id_of}
@@ -19,7 +19,7 @@ use Rattle.abnfcheck.specs.AbnfGrammar.{of_later, Reachable, judged_rule, by_nam
 use Rattle.abnfcheck.specs.AbnfNotes.{judged_in}
 use Rattle.abnfcheck.specs.AbnfUses.{names_in, names_in_all, names_used, rule_names, Uses, HoldsProse}
 use Rattle.std.specs.Prelude.{option_to_list}
-use Rattle.abnfcheck.specs.NameIds.{IsIdAt, IsJudged, IsGraph}
+use Rattle.abnfcheck.specs.NameIds.{IsIdAt, IsJudged, IsGraph, UsesNameAt}
 use Rattle.abnfcheck.specs.ProseIn.{prose_in, prose_in_one, prose_marks}
 use Rattle.abnfcheck.proofs.NameIdsLemmas.{place_id, judged_id}
 
@@ -177,6 +177,14 @@ id_use {names = names} m (one_use {used = used} {uses = uses} {id = id} {ids = i
     (λ later. let u = id_use m rest later in record { name = u.name; among = in_tail u.among; place = u.place })
     (cons_cases id m ids h)
 
+-- a name stands at one position first
+pub place_is_one : {name : List ℕ} {xs : List (List ℕ)} {i j : ℕ} → IsPlace Fold name xs i → IsPlace Fold name xs j
+    → i ≡ j
+place_is_one (here is) (here too) = refl
+place_is_one (here is) (there other p) = let e : true ≡ false = sym is ∙ other in absurd (cc e)
+place_is_one (there other p) (here is) = let e : true ≡ false = sym is ∙ other in absurd (cc e)
+place_is_one (there other p) (there unlike q) = ap suc (place_is_one p q)
+
 record IdOf (names : List (List ℕ)) (ids : List ℕ) (used : List ℕ) : Type 0 where
   id : ℕ
   among : Contains ids id
@@ -211,24 +219,22 @@ module _ (rules : List Rule) (given : Option (List ℕ)) (names : List (List ℕ
   pub user_below : (user m : ℕ) → Step rows user m → user < count
   user_below user m step = ⊎_elim (λ lt. lt) (λ le. absurd (empty_row user m le step)) (cases_lt user count)
 
-  pub record StepUse (user m : ℕ) : Type 0 where
-    pub body : Element
-    pub name : List ℕ
-    pub body_is : slice_get (bodies rules) user ≡ Some body
-    pub within : Within body (e.Name name)
-    pub place : IsPlace Fold name names m
-
-  pub step_use : (user m : ℕ) → Step rows user m → StepUse user m
+  pub step_use : (user m : ℕ) → Step rows user m → UsesNameAt rules names user m
   step_use user m step =
       let b = body_there rules user (user_below user m step) in
       let u = id_use m (graph.are_rows.ids user b.0 b.1) step in
-      record { body = b.0; name = u.name; body_is = b.1; within = name_within b.0 u.among; place = u.place }
+      record { body = b.0; name = u.name; body_is = b.1; within = name_within b.0 u.among; place_is = u.place }
+
+  pub use_step : (user m : ℕ) → UsesNameAt rules names user m → Step rows user m
+  use_step user m u =
+      let f = use_id (graph.are_rows.ids user u.body u.body_is) (within_name u.within) in
+      subst (λ v. Step rows user v) (place_is_one f.place u.place_is) f.among
 
   pub steps_within : AreStepsWithin rows
   steps_within =
       record {
         within = λ n m step. let u = step_use n m step in
-            let lt = place_below Fold u.place in let c = graph.are_rows.count in omega (arith, lt, c);
+            let lt = place_below Fold u.place_is in let c = graph.are_rows.count in omega (arith, lt, c);
       }
 
   -- a step to a rule's name is a use of the rule
@@ -236,7 +242,7 @@ module _ (rules : List Rule) (given : Option (List ℕ)) (names : List (List ℕ
   step_uses user id lt step =
       let u = step_use user id step in
       let is : id_of rules u.name ≡ id = ⊎_elim (λ low. low.1)
-      (λ high. absurd (let le = high.0 in omega (arith, lt, le))) (id_at u.place) in
+      (λ high. absurd (let le = high.0 in omega (arith, lt, le))) (id_at u.place_is) in
       record { body = u.body; name = u.name; body_is = u.body_is; within = u.within; id_is = is }
 
   pub record StepFor (user id : ℕ) : Type 0 where
@@ -280,7 +286,7 @@ module _ (rules : List Rule) (given : Option (List ℕ)) (names : List (List ℕ
       old.is in
       record {
         id = id_of rules u.name;
-        is = id_at u.place;
+        is = id_at u.place_is;
         reachable = by_name (subst (λ v. Reachable rules judged_rule_id v) same old.reachable) u.body_is u.within;
       }
 

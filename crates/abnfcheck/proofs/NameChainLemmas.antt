@@ -1,44 +1,58 @@
 -- The chain of names from the judged rule is one.
 -- Serves: chain_to, name_chains, one_name_chain
-use Rattle.std.proofs.Common.{◌≡◌, ℕ, suc, ◌<◌, ◌≤◌, true, false, List, [], ◌∷◌, length, map, position, Option, Some}
-use Rattle.std.proofs.Common.{None, refl, sym, ◌∙◌, ap, subst, arith, ⊎_elim, Vec, Global}
-use Rattle.std.specs.Prelude.{option_map, MatchOption}
-use Rattle.std.proofs.lemmas.Bool.{cases_lt}
-use Rattle.std.proofs.lemmas.List.{ext_get_or}
-use Rattle.fixpoint.specs.StepRows.{row_at}
+use Rattle.std.proofs.Common.{◌≡◌, ◌↔◌, ℕ, ◌<◌, List, length, position, Option, Some}
+use Rattle.std.proofs.Common.{None, refl, sym, ◌∙◌, ap, subst, arith, Vec, Global}
+use Rattle.std.specs.Prelude.{option_map}
+use Rattle.fixpoint.specs.StepRows.{Step}
 use Rattle.ruletable.specs.Rules.{Rules, find_in, names_of, same_name}
 use Rattle.ruletable.specs.declared.table.NameCase.TheVariants.{Fold}
-use Rattle.rulenames.specs.NameUses.{AreIdsOf, IsPlace, here, there, no_uses, one_use}
 use Rattle.rulenames.proofs.IsAddedLemmas.{found_in}
 use Rattle.rulenames.proofs.IsPlaceLemmas.{place_below, place_of}
-use Rattle.shortestpaths.specs.ShortChains.{IsChainIfReached}
+use Rattle.fixpoint.specs.Distances.{Distance, Steps, no_step, one_more}
+use Rattle.fixpoint.specs.ShortChains.{Back, ChainTo, IsChainIfReached, Nearer, at_start, behind}
 use Rattle.abnfread.specs.Element.{Rule}
 use Rattle.abnfcheck.specs.NameChains.{IsChainAt, IsNameChain, names_at}
-use Rattle.abnfcheck.specs.NameIds.{AreRows, IsGraph, IsJudged}
-use Rattle.abnfcheck.proofs.GraphLemmas.{body_there}
+use Rattle.abnfcheck.specs.NameIds.{IsGraph, IsJudged, UsesNameAt, all_names}
+use Rattle.abnfcheck.proofs.GraphLemmas.{place_is_one, step_use, use_step}
 
-place_is_one : {name : List ℕ} {xs : List (List ℕ)} {i j : ℕ} → IsPlace Fold name xs i → IsPlace Fold name xs j → i ≡ j
-place_is_one (here is) (here too) = refl
-place_is_one (here is) (there other p) = let e : true ≡ false = sym is ∙ other in absurd (cc e)
-place_is_one (there other p) (here is) = let e : true ≡ false = sym is ∙ other in absurd (cc e)
-place_is_one (there other p) (there unlike q) = ap suc (place_is_one p q)
+-- chains of the same steps
+module _ (a b : List (List ℕ)) (s : ℕ) (to : (u v : ℕ) → Step a u v → Step b u v) where
+  steps_moved : {v n : ℕ} → Steps a s v n → Steps b s v n
+  steps_moved no_step = no_step
+  steps_moved (one_more {u = u} {v = v} chain step) = one_more (steps_moved chain) (to u v step)
 
-ids_are_one : {names uses : List (List ℕ)} {a b : List ℕ} → AreIdsOf Fold names uses a → AreIdsOf Fold names uses b
-    → a ≡ b
-ids_are_one no_uses no_uses = refl
-ids_are_one (one_use {ids = is} p r) (one_use {id = j} q t) =
-    ap (λ z. z ∷ is) (place_is_one p q) ∙ ap (λ z. j ∷ z) (ids_are_one r t)
+module _ (a b : List (List ℕ)) (s : ℕ) (to : (u v : ℕ) → Step a u v → Step b u v)
+    (from : (u v : ℕ) → Step b u v → Step a u v) where
+  distance_moved : {v n : ℕ} → Distance a s v n → Distance b s v n
+  distance_moved d = record {
+    chain = steps_moved a b s to d.chain;
+    least = λ m chain. d.least m (steps_moved b a s from chain);
+  }
 
-module _ (rules : List Rule) where
-  row_is_one : (names a b : List (List ℕ)) → AreRows rules names a → AreRows rules names b → (id : ℕ)
-      → row_at a id ≡ row_at b id
-  row_is_one names a b g h id = ⊎_elim
-      (λ lt. let body = body_there rules id lt in ids_are_one (g.ids id body.0 body.1) (h.ids id body.0 body.1))
-      (λ le. g.others id le ∙ sym (h.others id le))
-      (cases_lt id (length rules))
+  nearer_moved : {v u : ℕ} → Nearer a s v u → Nearer b s v u
+  nearer_moved {v = v} {u = u} h =
+      record { n = h.n; far = distance_moved h.far; near = distance_moved h.near; step = to u v h.step }
 
-  rows_are_one : (names a b : List (List ℕ)) → AreRows rules names a → AreRows rules names b → a ≡ b
-  rows_are_one names a b g h = ext_get_or [] a b (g.count ∙ sym h.count) (λ id lt. row_is_one names a b g h id)
+module _ (a b : List (List ℕ)) (s : ℕ) (to : (u v : ℕ) → Step a u v → Step b u v)
+    (from : (u v : ℕ) → Step b u v → Step a u v) where
+  back_moved : {v u : ℕ} → Back a s v u → Back b s v u
+  back_moved h = record {
+    nearer = nearer_moved a b s to from h.nearer;
+    first = λ w near. h.first w (nearer_moved b a s from to near);
+  }
+
+  chain_moved : {v : ℕ} {ns : List ℕ} → ChainTo a s v ns → ChainTo b s v ns
+  chain_moved at_start = at_start
+  chain_moved (behind back chain) = behind (back_moved back) (chain_moved chain)
+
+  reached_moved : (v : ℕ) (chain : Option (List ℕ)) → IsChainIfReached a s v chain → IsChainIfReached b s v chain
+  reached_moved v None h = λ n steps. h n (steps_moved b a s from steps)
+  reached_moved v (Some ns) h = chain_moved h
+
+  at_moved : (names : List (List ℕ)) (place : Option ℕ) (chain : Option (List (List ℕ)))
+      → IsChainAt names a s place chain → IsChainAt names b s place chain
+  at_moved names None chain h = h
+  at_moved names (Some place) chain h = (h.0, reached_moved place h.0 h.1, h.2)
 
 judged_is_one : (given : Option (List ℕ)) (names : List (List ℕ)) (i j : ℕ) → IsJudged given names i
     → IsJudged given names j → i ≡ j
@@ -59,23 +73,34 @@ names_are_one law names rows judged (Some place) a b g h =
 pub chain_is_one : NumbersAreOne → (rules : List Rule) (given : Option (List ℕ)) (name : List ℕ)
     (a b : Option (List (List ℕ))) → IsNameChain rules given name a → IsNameChain rules given name b → a ≡ b
 chain_is_one law rules given name a b g h =
-    names_are_one law g.names g.rows g.judged (position (same_name Fold name) g.names) a b g.is_chain moved
+    names_are_one law names g.rows g.judged (position (same_name Fold name) names) a b g.is_chain
+    (at_moved h.rows g.rows g.judged (λ u v step. (g.steps u v).1 ((h.steps u v).0 step))
+    (λ u v step. (h.steps u v).1 ((g.steps u v).0 step)) names (position (same_name Fold name) names) b
+    (subst (λ z. IsChainAt names h.rows z (position (same_name Fold name) names) b)
+    (judged_is_one given names h.judged g.judged h.is_judged g.is_judged) h.is_chain))
   where
-    names : h.names ≡ g.names
-    names = h.graph.all ∙ sym g.graph.all
+    names : List (List ℕ)
+    names = all_names rules given
 
-    rows : h.rows ≡ g.rows
-    rows = rows_are_one rules g.names h.rows g.rows (subst (λ z. AreRows rules z h.rows) names h.graph.are_rows)
-        g.graph.are_rows
-
-    judged : h.judged ≡ g.judged
-    judged = judged_is_one given g.names h.judged g.judged (subst (λ z. IsJudged given z h.judged) names
-        h.graph.is_judged) g.graph.is_judged
-
-    moved : IsChainAt g.names g.rows g.judged (position (same_name Fold name) g.names) b
-    moved = subst (λ z. IsChainAt g.names g.rows z (position (same_name Fold name) g.names) b) judged
-        (subst (λ z. IsChainAt g.names z h.judged (position (same_name Fold name) g.names) b) rows
-        (subst (λ z. IsChainAt z h.rows h.judged (position (same_name Fold name) z) b) names h.is_chain))
+-- a chain by the rows of a grammar
+pub chain_by_rows : (rules : List Rule) (given : Option (List ℕ)) (name : List ℕ) (names rows : List (List ℕ))
+    (judged : ℕ) (chain : Option (List (List ℕ))) → IsGraph rules given names rows judged
+    → IsChainAt names rows judged (position (same_name Fold name) names) chain → IsNameChain rules given name chain
+chain_by_rows rules given name names rows judged chain graph is = record {
+  rows = rows;
+  judged = judged;
+  steps = λ user place. subst (λ (ns : List (List ℕ)). Step rows user place ↔ UsesNameAt rules ns user place) graph.all
+      (both user place);
+  is_judged = subst (λ (ns : List (List ℕ)). IsJudged given ns judged) graph.all graph.is_judged;
+  is_chain = subst (λ (ns : List (List ℕ)). IsChainAt ns rows judged (position (same_name Fold name) ns) chain)
+      graph.all is;
+}
+  where
+    both : (user place : ℕ) → Step rows user place ↔ UsesNameAt rules names user place
+    both user place = (
+      step_use rules given names rows judged graph user place,
+      use_step rules given names rows judged graph user place,
+    )
 
 -- where a table that compares without case finds a name
 pub found_folded : (table : Rules (Unit {0})) (name : List ℕ) → table.names ≡ Fold

@@ -3,10 +3,7 @@ use Rattle.std.specs.Prelude.{◌≡◌, ℕ, suc, ◌+◌, ◌≤◌, Bool, tru
 use Rattle.std.specs.Prelude.{Some, None, if◌then◌else◌, ltb}
 use Rattle.abnfread.specs.Element.{Element, Elements, Text, Values, Range, Concat, Alt, Rep, Opt, Name, none, more}
 use Rattle.abnfread.specs.Element.{Rule, bodies, body_of}
-
--- a US-ASCII letter in lower case
-abbrev pub small : ℕ → ℕ
-small c = if ltb 64 c && ltb c 91 then c + 32 else c
+use Rattle.letters.specs.Letters.{small}
 
 -- a letter of a text and one that may stand for it
 abbrev pub StandsFor : Bool → ℕ → ℕ → Type 0

@@ -1,11 +1,12 @@
 -- By which rules the judged one reaches a name. Own.
-use Rattle.std.specs.Prelude.{◌≡◌, ℕ, ◌≤◌, List, [], length, map, position, slice_index_or, Option, Some, None}
+use Rattle.std.specs.Prelude.{◌≡◌, ◌↔◌, ℕ, ◌≤◌, List, [], length, map, position, slice_index_or, Option, Some, None}
 use Rattle.std.specs.Prelude.{MatchOption, option_map}
+use Rattle.fixpoint.specs.StepRows.{Step}
 use Rattle.ruletable.specs.Rules.{names_of, same_name}
 use Rattle.ruletable.specs.declared.table.NameCase.TheVariants.{Fold}
-use Rattle.shortestpaths.specs.ShortChains.{AreChains, IsChainIfReached}
+use Rattle.fixpoint.specs.ShortChains.{AreChains, IsChainIfReached}
 use Rattle.abnfread.specs.Element.{Rule}
-use Rattle.abnfcheck.specs.NameIds.{IsGraph}
+use Rattle.abnfcheck.specs.NameIds.{IsGraph, IsJudged, UsesNameAt, all_names}
 use Rattle.abnfcheck.specs.declared.reached_names.NameChains.{NameChains as Found}
 
 -- the names at these places
@@ -19,15 +20,17 @@ IsChainAt names rows judged (Some place) chain =
     (ids : Option (List ℕ)) × IsChainIfReached rows judged place ids × (chain ≡ option_map (names_at names) ids)
 
 -- The chain of names from that of the judged rule to a name, each of a rule in whose body the next one stands, if one
--- reaches it: a shortest one, and among these that which has before each name the first rule in their order. Names that
--- no rule has stand behind those of the rules, by first use. A name that is given for the judged rule stands for it.
+-- reaches it: a shortest one, and among these that which has before each name the first rule in their order. A name
+-- that is given for the judged rule stands for it.
 pub record IsNameChain (rules : List Rule) (given : Option (List ℕ)) (name : List ℕ)
     (chain : Option (List (List ℕ))) : Type 0 where
-  pub names : List (List ℕ)
   pub rows : List (List ℕ)
   pub judged : ℕ
-  pub graph : IsGraph rules given names rows judged
-  pub is_chain : IsChainAt names rows judged (position (same_name Fold name) names) chain
+  -- steps lead from a rule to the names in its body, and nowhere else
+  pub steps : (user place : ℕ) → Step rows user place ↔ UsesNameAt rules (all_names rules given) user place
+  pub is_judged : IsJudged given (all_names rules given) judged
+  pub is_chain : IsChainAt (all_names rules given) rows judged
+      (position (same_name Fold name) (all_names rules given)) chain
 
 -- the code has the names of a grammar, and the chains from the judged one
 pub record AreNameChains (rules : List Rule) (given : Option (List ℕ)) (found : Found) : Type 0 where

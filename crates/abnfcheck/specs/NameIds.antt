@@ -5,7 +5,8 @@ use Rattle.fixpoint.specs.StepRows.{row_at}
 use Rattle.ruletable.specs.declared.table.NameCase.TheVariants.{Fold}
 use Rattle.rulenames.specs.FirstUses.{news}
 use Rattle.rulenames.specs.NameUses.{IsPlace, AreIdsOf}
-use Rattle.abnfread.specs.Element.{Element, Rule, bodies}
+use Rattle.abnfread.specs.Element.{Element, Name, Rule, bodies}
+use Rattle.abnfcheck.specs.AbnfGrammar.{Within}
 use Rattle.abnfcheck.specs.AbnfUses.{names_in, names_used, rule_names}
 
 -- the id of a name by its place: the number of rules stands for a name without a rule
@@ -30,9 +31,22 @@ abbrev pub IsJudged : Option (List ℕ) → List (List ℕ) → ℕ → Type 0
 IsJudged None names judged = judged ≡ 0
 IsJudged (Some name) names judged = IsPlace Fold name names judged
 
+-- the names of the rules, and then those that no rule has, by first use; a name given for the judged rule is a use
+-- before all others
+abbrev pub all_names : List Rule → Option (List ℕ) → List (List ℕ)
+all_names rules given = rule_names rules ++ news Fold (rule_names rules) (option_to_list given ++ names_used rules)
+
+-- the body of the rule with the first id has a name that stands at the second position of a list
+pub record UsesNameAt (rules : List Rule) (names : List (List ℕ)) (user place : ℕ) : Type 0 where
+  pub body : Element
+  pub name : List ℕ
+  pub body_is : slice_get (bodies rules) user ≡ Some body
+  pub within : Within body (Name name)
+  pub place_is : IsPlace Fold name names place
+
 -- the names by id, of each rule the ids of the names in its body, and the place of the given name
 pub record IsGraph (rules : List Rule) (given : Option (List ℕ)) (names : List (List ℕ)) (rows : List (List ℕ))
     (judged : ℕ) : Type 0 where
-  pub all : names ≡ rule_names rules ++ news Fold (rule_names rules) (option_to_list given ++ names_used rules)
+  pub all : names ≡ all_names rules given
   pub are_rows : AreRows rules names rows
   pub is_judged : IsJudged given names judged

@@ -2,16 +2,15 @@
 ghost use Rattle.std.specs.Prelude.{◌≡◌, ◌≤◌, ℕ, List, length, Option, MatchOption, IfOk, option_copied, option_map};
 ghost use Rattle.fixpoint.specs.StepRows.{rows_of, AreStepsWithin};
 ghost use Rattle.ruletable.specs.Rules.{names_of};
-ghost use Rattle.shortestpaths.specs.ShortChains.{AreChains};
+ghost use Rattle.fixpoint.specs.ShortChains.{AreChains};
 ghost use Rattle.abnfread.specs.AbnfViews.{rules_of};
 ghost use Rattle.abnfread.specs.Element.{Rule};
 ghost use Rattle.abnfcheck.specs.NameChains.{AreNameChains, IsNameChain, names_at};
 
 use crate::name_ids::name_ids;
 use abnfread::Elem;
-use fixpoint::slices;
+use fixpoint::{Chains, chains_from, one_chain, slices};
 use ruletable::{Memory, NameCase, RuleTable};
-use shortestpaths::{Chains, chains_from, one_chain};
 use std::alloc::Global;
 
 /// The names of a grammar, and the chains by which the judged rule reaches them.

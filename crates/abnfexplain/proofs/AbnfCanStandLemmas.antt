@@ -1,5 +1,5 @@
 -- Which tokens can stand behind tokens that the machine took.
--- Serves: explain_fault
+-- Serves: explain_abnf_fault, nothing_left_out_of_abnf
 use Rattle.std.proofs.Common.{◌≡◌, ℕ, ◌⊎◌, inl, inr, Bool, true, false, Option, Some, None, List, [], ◌∷◌, ◌++◌}
 use Rattle.std.proofs.Common.{length, refl, sym, ap, ◌∙◌}
 use Rattle.std.proofs.Math.Seq.{take-append_seam}
@@ -129,41 +129,45 @@ pub record StandsAt (c : Config) (place : Place) : Type 0 where
   pub stand : stand_of c ≡ place.stand
   pub brackets : open_of c ≡ brackets_of place
 
-module _ (c : Config) (place : Place) (at : StandsAt c place) where
-  same-test : (k : AbnfKind) (g f : Bool) → allows_marked (stand_of c) (innermost (open_of c)) k g f
-      ≡ place_allows place (record { kind = k; gap = g; first = f })
-  same-test k g f = rw (at.stand, at.brackets) refl
+-- the test says which tokens can stand after the configuration
+abbrev pub TestsForms : Config → (Form → Bool) → Type 0
+TestsForms c can = (k : AbnfKind) (g f : Bool) → allows_marked (stand_of c) (innermost (open_of c)) k g f
+    ≡ can (record { kind = k; gap = g; first = f })
 
-  pub goes-on : (s : Said) (g f : Bool) → place_allows place (record { kind = kind_said s; gap = g; first = f }) ≡ true
+pub place-tests : (c : Config) (place : Place) → StandsAt c place → TestsForms c (place_allows place)
+place-tests c place at k g f = rw (at.stand, at.brackets) refl
+
+module _ (c : Config) (can : Form → Bool) (same-test : TestsForms c can) where
+  pub goes-on : (s : Said) (g f : Bool) → can (record { kind = kind_said s; gap = g; first = f }) ≡ true
       → Onward c g f s
   goes-on s g f e = there-onward c g f s _ (step c (word g f s)) refl (step-comes c g f s)
       (same-test (kind_said s) g f ∙ e)
 
   pub stops-there : (k : AbnfKind) (z : List ℕ) (p : Span) (g f : Bool)
-      → place_allows place (record { kind = k; gap = g; first = f }) ≡ false → (w : Word)
+      → can (record { kind = k; gap = g; first = f }) ≡ false → (w : Word)
       → Says (marked (tok k z p) g f) w → step c w ≡ None
   stops-there k z p g f e w (says {s} h) =
       let kind = said-kind h in
       none-there _ _ _ (step c (word g f s)) (step-comes c g f s)
       (same-test (kind_said s) g f
-      ∙ ap (λ (j : AbnfKind). place_allows place (record { kind = j; gap = g; first = f })) kind ∙ e)
+      ∙ ap (λ (j : AbnfKind). can (record { kind = j; gap = g; first = f })) kind ∙ e)
 
   module _ {ms : List Marked} {ws : List Word} (say : SayAll ms ws) (runs : run start ws ≡ Some c) where
-    pub can-stand : (form : Form) → place_allows place form ≡ true → (us : List Marked)
+    pub can-stand : (form : Form) → can form ≡ true → (us : List Marked)
         → CanStand (ms ++ us) (length ms) form
     can-stand form e us = by-sample (some-sample form.kind)
       where
         by-sample : (form.kind ≡ kinds.Bad) ⊎ Sample form.kind → CanStand (ms ++ us) (length ms) form
         by-sample (inl bad) =
-            let none = bad-nowhere place.stand (innermost (brackets_of place)) form.gap form.first in
-            let some : allows_marked place.stand (innermost (brackets_of place)) kinds.Bad form.gap form.first ≡ true
-            = rw bad at e in
+            let none = bad-nowhere (stand_of c) (innermost (open_of c)) form.gap form.first in
+            let some : allows_marked (stand_of c) (innermost (open_of c)) kinds.Bad form.gap form.first ≡ true =
+            same-test kinds.Bad form.gap form.first
+            ∙ ap (λ (j : AbnfKind). can (record { kind = j; gap = form.gap; first = form.first })) (sym bad) ∙ e in
             absurd (let no : true ≡ false = sym some ∙ none in cc)
         by-sample (inr s) =
             let kind = said-kind s.says_so in
             let there = goes-on s.said form.gap form.first
-            (ap (λ (j : AbnfKind). place_allows place (record { kind = j; gap = form.gap; first = form.first })) kind
-            ∙ e) in
+            (ap (λ (j : AbnfKind). can (record { kind = j; gap = form.gap; first = form.first })) kind ∙ e) in
             record {
               token = tok form.kind s.slice no_span;
               kind = refl;
@@ -173,7 +177,7 @@ module _ (c : Config) (place : Place) (at : StandsAt c place) where
                   there.config (says s.says_so) there.steps);
             }
 
-    pub cannot-stand : (form : Form) → place_allows place form ≡ false → (us : List Marked)
+    pub cannot-stand : (form : Form) → can form ≡ false → (us : List Marked)
         → CanStand (ms ++ us) (length ms) form → ⊥
     cannot-stand form e us h =
         let v = h.viable in
@@ -184,5 +188,4 @@ module _ (c : Config) (place : Place) (at : StandsAt c place) where
         not-here (tok k z p) kind = lemmas.not-viable Says Grammar step start runs-begins stops-begins one-word c say
             runs (marked (tok k z p) form.gap form.first)
             (stops-there k z p form.gap form.first
-            (ap (λ (j : AbnfKind). place_allows place (record { kind = j; gap = form.gap; first = form.first })) kind
-            ∙ e))
+            (ap (λ (j : AbnfKind). can (record { kind = j; gap = form.gap; first = form.first })) kind ∙ e))

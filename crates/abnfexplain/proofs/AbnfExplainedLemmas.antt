@@ -54,7 +54,8 @@ pub name-is : (text : List ℕ) (o b : Option Marked) (p q m : Marked) (n : ℕ)
 name-is text o b p q m n e f t a = rw (e, f, t, a) refl
 
 -- the tokens of marked ones
-marks-tokens : (text : List ℕ) (m : Option ℕ) (n : ℕ) (xs : List (Tok AbnfKind)) → map tok_of (marks text m n xs) ≡ xs
+pub marks-tokens : (text : List ℕ) (m : Option ℕ) (n : ℕ) (xs : List (Tok AbnfKind))
+    → map tok_of (marks text m n xs) ≡ xs
 marks-tokens text m n [] = refl
 marks-tokens text m n (x ∷ xs) = ap (λ (ys : List (Tok AbnfKind)). x ∷ ys) (marks-tokens text m (end_of x) xs)
 

@@ -4,5 +4,6 @@ mod ChainLinesLemmas
 pub mod LargeRunLemmas
 pub mod AbnfCanStandLemmas
 pub mod TakenMarksLemmas
+mod TellsFormsLemmas
 pub mod AbnfExplainedLemmas
 pub mod AbnfWhyLemmas

@@ -33,7 +33,8 @@ use Rattle.abnfexplain.specs.declared.abnf_stand.Stand.TheVariants.{Start}
 use Rattle.abnfexplain.specs.AbnfDecisions.{first_marked, last_marked, IsTokenOf, IsRefused, NoneDecides}
 use Rattle.abnfexplain.specs.AbnfPlaces.{brackets_of, place_allows, IsPlaceAt}
 use Rattle.abnfexplain.specs.AbnfStands.{behind, brackets_behind, innermost}
-use Rattle.abnfexplain.proofs.AbnfCanStandLemmas.{StandsAt, Onward, goes-on, stops-there, can-stand, cannot-stand}
+use Rattle.abnfexplain.proofs.AbnfCanStandLemmas.{StandsAt, TestsForms, Onward, place-tests, goes-on, stops-there}
+use Rattle.abnfexplain.proofs.AbnfCanStandLemmas.{can-stand, cannot-stand}
 use Rattle.abnfexplain.proofs.AbnfCanStandLemmas.{said-kind, bad-nowhere}
 use Rattle.abnfexplain.proofs.AbnfStandLemmas.{open-count}
 
@@ -124,16 +125,21 @@ module _ {text : List ℕ} {left : List Marked → Type 0} {place : Place} {orig
   viable-so_far : Viable ms
   viable-so_far = lemmas.viable-run Says Grammar step start runs-begins stops-begins one-word t.config h.say h.reached
 
+  form-tests : TestsForms t.config (place_allows place)
+  form-tests = place-tests t.config place t.stands
+
   -- no such token can stand there
   pub refused-there : (r : Refused) → r.place ≡ place → r.origin ≡ origin → r.before ≡ before
       → place_allows place form ≡ false → IsTokenOf text here (IsRefused r)
   refused-there r at first last e = there-is (IsRefused r) (record {
     hopeless = lemmas.hopeless-at Viable AreWithin ms here others viable-so_far within-here
         (lemmas.not-viable Says Grammar step start runs-begins stops-begins one-word t.config h.say h.reached here
-        (stops-there t.config place t.stands k z p g f e));
+        (stops-there t.config (place_allows place) form-tests k z p g f e));
     tells = rw at (record {
-      stand = λ other does. can-stand t.config place t.stands h.say h.reached other does (here ∷ others);
-      other = λ other not. cannot-stand t.config place t.stands h.say h.reached other not (here ∷ others);
+      stand = λ other does. can-stand t.config (place_allows place) form-tests h.say h.reached other does
+          (here ∷ others);
+      other = λ other not. cannot-stand t.config (place_allows place) form-tests h.say h.reached other not
+          (here ∷ others);
     });
     origin = rw (first, take-append_seam ms (here ∷ others)) t.origin_is;
     before = rw (last, take-append_seam ms (here ∷ others)) t.before_is;
@@ -155,7 +161,7 @@ module _ {text : List ℕ} {left : List Marked → Type 0} {place : Place} {orig
     said = said-here.0
 
     step-onward : Onward t.config g f said
-    step-onward = goes-on t.config place t.stands said g f
+    step-onward = goes-on t.config (place_allows place) form-tests said g f
         (let kind = said-kind said-here.1 in
         ap (λ (j : AbnfKind). place_allows place (record { kind = j; gap = g; first = f })) kind ∙ does)
 

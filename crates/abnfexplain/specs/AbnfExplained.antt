@@ -2,7 +2,7 @@
 use Rattle.std.specs.Prelude.{◌≡◌, ℕ, ◌<◌, ◌≤◌, ◌&&◌, Bool, true, false, length, slice_get, take, List, [], ◌∷◌, ◌++◌}
 use Rattle.std.specs.Prelude.{Option, Some, None, codes, decimal, if◌then◌else◌}
 use Rattle.lexer.specs.TokenLists.{tok, kind_of, start_of}
-use Rattle.lexer.specs.declared.limits.TheConstants.{MAX_GRAMMAR}
+use Rattle.lexer.specs.GrammarLimits.{max_grammar}
 use Rattle.diagnostics.specs.FirstBytes.{Row, first_told}
 use Rattle.diagnostics.specs.LinesAround.{bytes_before}
 use Rattle.diagnostics.specs.PhraseLists.{listed}
@@ -87,18 +87,18 @@ token_facts text o b m = bad_fact m ++ (line_fact text o m ++ name_fact text o b
 
 -- The lines that explain why the text is no grammar.
 pub data Why (text : List ℕ) : List ℕ → Type 0 where
-  too_long : MAX_GRAMMAR < length text → Why text (codes "  a grammar has at most 1048576 bytes\n")
+  too_long : max_grammar < length text → Why text (codes "  a grammar has at most 1048576 bytes\n")
   -- with that token the tokens begin no grammar: what could stand in its place
-  hopeless : {all : List Marked} {i : ℕ} {m : Marked} {told : List (List ℕ)} → length text ≤ MAX_GRAMMAR
+  hopeless : {all : List Marked} {i : ℕ} {m : Marked} {told : List (List ℕ)} → length text ≤ max_grammar
       → AreMarked text all → slice_get all i ≡ Some m → IsHopeless all i → AreTold (CanStand all i) phrases told →
       Why text (token_place text m ++ (codes "expected " ++ (listed told ++ (codes "\n"
       ++ token_facts text (first_marked (take i all)) (last_marked (take i all)) m))))
   -- that bracket is one too many of those open at once
-  too_deep : {all : List Marked} {i : ℕ} {m : Marked} → length text ≤ MAX_GRAMMAR → AreMarked text all
+  too_deep : {all : List Marked} {i : ℕ} {m : Marked} → length text ≤ max_grammar → AreMarked text all
       → slice_get all i ≡ Some m → IsOver all i → is_bracket m ≡ true →
       Why text (token_place text m ++ codes "200 brackets are open before it\n")
   -- that number is over its limit
-  too_large : {all : List Marked} {i : ℕ} {m : Marked} → length text ≤ MAX_GRAMMAR → AreMarked text all
+  too_large : {all : List Marked} {i : ℕ} {m : Marked} → length text ≤ max_grammar → AreMarked text all
       → slice_get all i ≡ Some m → IsOver all i → is_bracket m ≡ false →
       Why text (token_place text m ++ codes "above 4294967295\n")
 

@@ -2,7 +2,6 @@
 use Rattle.std.specs.Prelude.{ℕ, zero, suc, ◌-◌, List, [], ◌∷◌, ◌++◌, Option, Some, None, length, drop, codes, decimal}
 use Rattle.std.specs.List.{flat_map}
 use Rattle.diagnostics.specs.ShownBytes.{cut}
-use Rattle.abnfexplain.specs.declared.chain_lines.TheConstants.{MAX_LAST}
 
 -- a name as it is told
 abbrev pub in_quotes : List ℕ → List ℕ
@@ -17,9 +16,9 @@ left_out (suc n) = codes " > " ++ (decimal (suc n) ++ codes " more")
 abbrev pub names_behind : List (List ℕ) → List ℕ
 names_behind names = flat_map (λ name. codes " > " ++ in_quotes name) names
 
--- how many are left out, and the last ones
+-- how many are left out, and the last seven
 abbrev pub last_told : List (List ℕ) → List ℕ
-last_told names = left_out (length names - MAX_LAST) ++ names_behind (drop (length names - MAX_LAST) names)
+last_told names = left_out (length names - 7) ++ names_behind (drop (length names - 7) names)
 
 -- a chain of at least two names
 abbrev pub chain_line : List (List ℕ) → List ℕ

@@ -3,13 +3,13 @@ use Prim.Native.Char.{code}
 use Rattle.std.specs.Prelude.{ℕ, ◌+◌, ◌*◌, ◌==◌, ◌||◌, nat_lt, Bool, false, List, [], ◌∷◌, if◌then◌else◌}
 use Rattle.std.specs.Char.{digit_value}
 use Rattle.abnfread.specs.BaseDigits.{is_digit}
-use Rattle.abnfread.specs.declared.number.TheConstants.{MAX_VALUE}
+use Rattle.abnfread.specs.Numerals.{max_number}
 
 -- whether a run of digits is over, where the digits before say n
 abbrev pub runs_over : ℕ → ℕ → List ℕ → Bool
 runs_over base n [] = false
 runs_over base n (b ∷ bs) = if is_digit base b
-    then (nat_lt MAX_VALUE (n * base + digit_value b) || runs_over base (n * base + digit_value b) bs)
+    then (nat_lt max_number (n * base + digit_value b) || runs_over base (n * base + digit_value b) bs)
     else runs_over base 0 bs
 
 -- the base that the letter tells

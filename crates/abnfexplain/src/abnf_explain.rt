@@ -1,7 +1,7 @@
 //! What explains a fault of a grammar in ABNF.
 ghost use Rattle.std.specs.Prelude.{◌≡◌, ℕ, ◌≤◌, ◌++◌, ◌&&◌, List, Some, true, length, map, codes, OnOk, IfOk};
 ghost use Rattle.std.specs.Option.{option_map};
-ghost use Rattle.lexer.specs.declared.limits.TheConstants.{MAX_GRAMMAR};
+ghost use Rattle.lexer.specs.GrammarLimits.{max_grammar};
 ghost use Rattle.diagnostics.specs.FactRows.{row_of};
 ghost use Rattle.diagnostics.specs.PhraseLists.{listed};
 ghost use Rattle.diagnostics.specs.ToldPhrases.{AreTold};
@@ -258,7 +258,7 @@ fn limit_lines(
 
 // The lines on the token that decides.
 fn explain_token(alloc: Global, text: &[u8]) -> Result<Vec<u8>, Memory>
-    requires within { length text.now ≤ MAX_GRAMMAR }
+    requires within { length text.now ≤ max_grammar }
     requires decided { NoneDecides text.now → ⊥ }
     ensures { IfOk result (λ why. Why text.now why.items) }
 {

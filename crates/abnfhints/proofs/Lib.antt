@@ -1,4 +1,5 @@
 mod AbnfHintsLemmas
+mod AbnfNamesInLemmas
 mod AreReversedLemmas
 mod BarrenNamesLemmas
 mod DerivesOnlyWithLemmas

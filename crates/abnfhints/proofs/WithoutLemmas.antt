@@ -21,7 +21,8 @@ use Rattle.abnfread.specs.AbnfViews.{element_of, elements, elements_of}
 use Rattle.abnfread.specs.declared.elem.Elem.{Elem}
 use Rattle.abnfcheck.specs.Derivable as der
 use Rattle.abnfcheck.specs.Derivable.{AreLetters, AtMost, Derives, DerivesAll, DerivesSome, DerivesTimes, all_done}
-use Rattle.abnfcheck.specs.Derivable.{then, this, later, no_more, one_more, Spelled, StandsFor, small, RuleDerives}
+use Rattle.abnfcheck.specs.Derivable.{then, this, later, no_more, one_more, Spelled, StandsFor, RuleDerives}
+use Rattle.letters.specs.Letters.{small}
 use Rattle.abnfcheck.specs.RuleMarks.{AreProductive}
 use Rattle.abnfhints.specs.WithoutLetter.{IsWithout, keeps_text, drops_text, keeps_values, drops_values, keeps_range}
 use Rattle.abnfhints.specs.WithoutLetter.{cuts_range, splits_range, in_concat, in_alt, in_rep, in_opt, keeps_name}

@@ -8,16 +8,14 @@ use Rattle.abnfcheck.specs.AbnfUses.{rule_names}
 use Rattle.abnfcheck.specs.Derivable.{AreLetters, RuleDerives}
 use Rattle.abnfexplain.specs.AbnfNoteLines.{sign_of}
 use Rattle.abnfhints.specs.LineEnds.{end_byte}
-use Rattle.abnfhints.specs.declared.hints.TheConstants.{MAX_HINTS}
 use Rattle.abnfhints.specs.declared.line_end.LineEnd.{LineEnd}
 use Rattle.abnfhints.specs.declared.line_end.LineEnd.TheVariants.{Lf as AtLf, Nul as AtNul}
 use Rattle.abnfread.specs.AbnfKinds.{ends_list}
 use Rattle.abnfread.specs.AbnfSlices.{White, First}
 use Rattle.abnfread.specs.AbnfWords as words
 use Rattle.abnfread.specs.Element.{Rule}
-use Rattle.abnfread.specs.Numerals.{SaysNum}
+use Rattle.abnfread.specs.Numerals.{SaysNum, max_number}
 use Rattle.abnfread.specs.declared.kind.AbnfKind.{AbnfKind}
-use Rattle.abnfread.specs.declared.number.TheConstants.{MAX_VALUE}
 use Rattle.lexer.specs.TokenLists.{Tok, AreTokens}
 use Rattle.diagnostics.specs.BodyMentions.{MentionedAt, mentions_in}
 use Rattle.diagnostics.specs.DefinitionHeads.{DefinedAt, definitions_in, sign_at}
@@ -51,7 +49,7 @@ pub record IsReversed (slice : List ℕ) : Type 0 where
   pub low : ℕ
   pub high : ℕ
   pub says : SaysNum slice (words.Range low high)
-  pub small : low ≤ MAX_VALUE
+  pub small : low ≤ max_number
   pub less : high < low
 
 -- the reversed ranges of what bodies mention, in order
@@ -62,9 +60,9 @@ pub data AreReversed : List MentionedAt → List MentionedAt → Type 0 where
   other_mention : {m : MentionedAt} {ms rs : List MentionedAt} → (m.kind ≡ Number → IsReversed m.text → ⊥)
       → AreReversed ms rs → AreReversed (m ∷ ms) rs
 
--- the first ones as they are told, and how many more there are
+-- the first 16 as they are told, and how many more there are
 abbrev pub told_first : {A : Type 0} → (A → List ℕ) → List A → List ℕ
-told_first told xs = flat_map told (take MAX_HINTS xs) ++ more_told (length xs - MAX_HINTS)
+told_first told xs = flat_map told (take 16 xs) ++ more_told (length xs - 16)
 
 -- the name at the head of a definition, if there is one
 abbrev pub name_of_head : Option DefinedAt → List ℕ

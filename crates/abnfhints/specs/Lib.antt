@@ -1,3 +1,4 @@
 pub mod AbnfHints
+pub mod AbnfTrees
 pub mod LineEnds
 pub mod WithoutLetter

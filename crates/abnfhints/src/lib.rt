@@ -4,6 +4,7 @@
 mod barren;
 mod hinted;
 mod hints;
+mod laws;
 mod line_end;
 mod lineless;
 mod marks;
@@ -13,4 +14,5 @@ mod without;
 
 pub use hinted::Hinted;
 pub use hints::{MAX_HINTS, abnf_hints, one_text_of_abnf_hints};
+pub use laws::no_name_left_out;
 pub use line_end::LineEnd;

@@ -5,6 +5,7 @@ ghost use Rattle.std.specs.Str.Parse.{digits_value};
 ghost use Rattle.abnfhints.specs.AbnfHints.{IsReversed};
 ghost use Rattle.abnfread.specs.AbnfSlices.{Run, Stops, Digits};
 ghost use Rattle.abnfread.specs.BaseDigits.{is_digit as is_digit_in, Tells};
+ghost use Rattle.abnfread.specs.Numerals.{max_number};
 
 use abnfread::MAX_VALUE;
 use lexer::after_byte;
@@ -93,8 +94,8 @@ fn ends_of(base: u8, digits: &[u8]) -> Option<(&[u8], &[u8])>
 fn number_in(base: u8, digits: &[u8]) -> Option<u32>
     requires least { 2 ≤ base }
     requires most { base ≤ 36 }
-    ensures { MatchOption result (MAX_VALUE < digits_value base digits.now)
-        (λ n. (n ≡ digits_value base digits.now) × (n ≤ MAX_VALUE)) }
+    ensures { MatchOption result (max_number < digits_value base digits.now)
+        (λ n. (n ≡ digits_value base digits.now) × (n ≤ max_number)) }
 {
     let mut number: u64 = 0;
     let mut rest = digits;
@@ -112,7 +113,7 @@ fn number_in(base: u8, digits: &[u8]) -> Option<u32>
 fn is_above(base: u8, low: &[u8], high: &[u8]) -> bool
     requires least { 2 ≤ base }
     requires most { base ≤ 36 }
-    ensures { IsTrue result ↔ ((digits_value base low.now ≤ MAX_VALUE)
+    ensures { IsTrue result ↔ ((digits_value base low.now ≤ max_number)
         × (digits_value base high.now < digits_value base low.now)) }
 {
     match (number_in(base, low), number_in(base, high)) {

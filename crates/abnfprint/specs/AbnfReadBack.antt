@@ -1,7 +1,7 @@
 -- That a canonical text is read as the rules that it was made of.
 use Rattle.std.specs.Prelude.{◌≡◌, ℕ, ◌≤◌, length, map, List, []}
 use Rattle.ruletable.specs.Rules as table
-use Rattle.lexer.specs.declared.limits.TheConstants.{MAX_GRAMMAR}
+use Rattle.lexer.specs.GrammarLimits.{max_grammar}
 use Rattle.abnfread.specs.declared.elem.Elem.{Elem}
 use Rattle.abnfread.specs.AbnfReading.{Reads}
 use Rattle.abnfread.specs.AbnfTable.{firsts, agains, earlies, IsTableOf}
@@ -38,7 +38,7 @@ pub record IsRead (source : List ℕ) (rules : table.Rules Elem) (redefined earl
 -- the rules that a text reads as, its canonical text reads as again, where that is not too long
 abbrev pub ReadBack : Type 0
 ReadBack = (source : List ℕ) (ds : List Definition) → Reads source ds → length (grammar_text (file_rules ds))
-    ≤ MAX_GRAMMAR → ReadsAs (grammar_text (file_rules ds)) (file_rules ds)
+    ≤ max_grammar → ReadsAs (grammar_text (file_rules ds)) (file_rules ds)
 
 -- the canonical text tells nothing of spans
 abbrev pub SpansUnseen : Type 0

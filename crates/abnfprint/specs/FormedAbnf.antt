@@ -1,11 +1,10 @@
 -- What the elements of a grammar in ABNF that was read are like.
 use Rattle.std.specs.Prelude.{◌≡◌, ℕ, ◌≤◌, true, List, [], ◌∷◌, All}
 use Rattle.std.specs.Char.{is_ascii_alphabetic}
-use Rattle.abnfread.specs.declared.number.TheConstants.{MAX_REPEAT, MAX_VALUE}
 use Rattle.abnfread.specs.AbnfSlices.{Run, continues_name, is_quotable, is_prose}
 use Rattle.abnfread.specs.Element.{Element, Elements, Text, Values, Range, Concat, Alt, Rep, Opt, Name, Prose, none}
 use Rattle.abnfread.specs.Element.{more, Rule}
-use Rattle.abnfread.specs.Numerals.{IsWithin}
+use Rattle.abnfread.specs.Numerals.{IsWithin, max_number}
 
 -- a letter, and then letters, digits and `-`
 pub data IsName : List ℕ → Type 0 where
@@ -26,11 +25,11 @@ abbrev mutual
   -- texts and prose hold what they may, values are there, and numbers keep to their limits
   pub IsFormed : Element → Type 0
   IsFormed (Text c t) = Run is_quotable t []
-  IsFormed (Values vs) = IsSome vs × All (λ v. v ≤ MAX_VALUE) vs
-  IsFormed (Range a b) = (a ≤ MAX_VALUE) × (b ≤ MAX_VALUE)
+  IsFormed (Values vs) = IsSome vs × All (λ v. v ≤ max_number) vs
+  IsFormed (Range a b) = (a ≤ max_number) × (b ≤ max_number)
   IsFormed (Concat xs) = AreMany xs × AreFormed xs
   IsFormed (Alt xs) = AreMany xs × AreFormed xs
-  IsFormed (Rep a b x) = IsWithin MAX_REPEAT a b × IsFormed x
+  IsFormed (Rep a b x) = IsWithin max_number a b × IsFormed x
   IsFormed (Opt x) = IsFormed x
   IsFormed (Name n) = IsName n
   IsFormed (Prose t) = Run is_prose t []

@@ -1,5 +1,6 @@
 //! Writes a grammar's canonical text.
 ghost use Rattle.std.specs.Prelude.{◌≡◌, ◌≤◌, ◌++◌, ◌∷◌, ◌==◌, ℕ, cond, List, [], length, false};
+ghost use Rattle.lexer.specs.GrammarLimits.{max_grammar};
 ghost use Rattle.ruletable.specs.Writing.{Writes, Flags};
 ghost use Rattle.abnfread.specs.Element as element;
 ghost use Rattle.abnfread.specs.AbnfViews.{element_of, elements_of, rules_of};
@@ -9,7 +10,6 @@ ghost use Rattle.abnfprint.specs.CanonicalAbnf as canon;
 use crate::place::{Place, is_wrapped};
 use crate::terminal::{print_prose, print_range, print_repeat, print_text, print_values};
 use abnfread::{Abnf, Elem};
-use lexer::MAX_GRAMMAR;
 use ruletable::{Sink, WriteFault, write_pieces, write_whole};
 
 // An element within another, in parentheses where it needs them.
@@ -155,7 +155,7 @@ pub fn print_abnf<W: Sink>(abnf: &Abnf, w: &mut W) -> Result<(), WriteFault>
     ensures bytes { Writes (W.contents w.old) (W.contents w.new) (canon.grammar_text (rules_of abnf.now.rules)) result }
     ensures flag { Flags (W.failed w.old) (W.failed w.new) result }
     ensures read_back { (source : List ℕ) → IsRead source abnf.now.rules abnf.now.redefined.items
-        abnf.now.extended.items → length (canon.grammar_text (rules_of abnf.now.rules)) ≤ MAX_GRAMMAR
+        abnf.now.extended.items → length (canon.grammar_text (rules_of abnf.now.rules)) ≤ max_grammar
         → ReadsAs (canon.grammar_text (rules_of abnf.now.rules)) (rules_of abnf.now.rules) }
 {
     for id in 0..abnf.rules.len() {

@@ -5,7 +5,7 @@ use Rattle.ruletable.specs.declared.lines.LineRule.TheVariants.{Lf}
 use Rattle.ruletable.specs.declared.fault.ReadFault.{ReadFault}
 use Rattle.ruletable.specs.declared.fault.ReadFault.TheVariants as faults
 use Rattle.lexer.specs.TokenLists.{tok, start_of}
-use Rattle.lexer.specs.declared.limits.TheConstants.{MAX_GRAMMAR}
+use Rattle.lexer.specs.GrammarLimits.{max_grammar}
 use Rattle.abnfread.specs.declared.kind.AbnfKind.TheVariants.{LParen, LBrack}
 use Rattle.abnfread.specs.AbnfSays.{SayAll, AreWithin, IsHopeless, IsOver}
 use Rattle.abnfread.specs.AbnfSpelling.{Grammar}
@@ -15,7 +15,7 @@ use Rattle.abnfread.specs.MarkedTokens.{Marked, marked, tok_of, AreMarked}
 
 -- The text spells the definitions, and keeps to the limits: of its length, of brackets open at once, and of numbers.
 pub record Reads (text : List ℕ) (definitions : List Definition) : Type 0 where
-  pub size : length text ≤ MAX_GRAMMAR
+  pub size : length text ≤ max_grammar
   pub tokens : List Marked
   pub are_tokens : AreMarked text tokens
   pub words : List Word
@@ -25,7 +25,7 @@ pub record Reads (text : List ℕ) (definitions : List Definition) : Type 0 wher
 
 -- a token of the text decides, and stands on that line
 pub record IsDecidedAt (text : List ℕ) (line : ℕ) (Decides : List Marked → ℕ → Marked → Type 0) : Type 0 where
-  pub size : length text ≤ MAX_GRAMMAR
+  pub size : length text ≤ max_grammar
   pub all : List Marked
   pub are_tokens : AreMarked text all
   pub number : ℕ
@@ -56,6 +56,6 @@ abbrev pub IsFaultOf : List ℕ → ReadFault → Type 0
 IsFaultOf text (faults.Syntax line) = IsDecidedAt text line IsSyntax
 IsFaultOf text (faults.Depth line) = IsDecidedAt text line IsTooDeep
 IsFaultOf text (faults.NumberTooLarge line) = IsDecidedAt text line IsTooLarge
-IsFaultOf text faults.TooLong = MAX_GRAMMAR < length text
-IsFaultOf text faults.Memory = length text ≤ MAX_GRAMMAR
+IsFaultOf text faults.TooLong = max_grammar < length text
+IsFaultOf text faults.Memory = length text ≤ max_grammar
 IsFaultOf text (faults.CodePredicate line) = ⊥

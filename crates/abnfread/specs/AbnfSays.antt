@@ -4,16 +4,15 @@ use Rattle.std.specs.Prelude.{◌≡◌, ℕ, zero, suc, ◌≤◌, ◌||◌, �
 use Rattle.ruletable.specs.declared.span.Span.{Span}
 use Rattle.lexer.specs.TokenLists.{tok}
 use Rattle.lexer.specs.Viability as viability
-use Rattle.lexer.specs.declared.limits.TheConstants.{MAX_OPEN}
+use Rattle.lexer.specs.GrammarLimits.{max_open}
 use Rattle.abnfread.specs.declared.kind.AbnfKind.{AbnfKind}
 use Rattle.abnfread.specs.declared.kind.AbnfKind.TheVariants as kinds
-use Rattle.abnfread.specs.declared.number.TheConstants.{MAX_REPEAT, MAX_VALUE}
 use Rattle.abnfread.specs.AbnfSlices.{is_case}
 use Rattle.abnfread.specs.AbnfSpelling as spelling
 use Rattle.abnfread.specs.AbnfWords.{Word, word, Said, Name, Is, Adds, Slash, LParen, RParen, LBrack, RBrack, Repeat}
 use Rattle.abnfread.specs.AbnfWords.{Text, Values, Range, Prose, End}
 use Rattle.abnfread.specs.MarkedTokens.{Marked, marked}
-use Rattle.abnfread.specs.Numerals.{SaysRepeat, SaysNum, IsWithin}
+use Rattle.abnfread.specs.Numerals.{SaysRepeat, SaysNum, IsWithin, max_number}
 
 -- what a token says, which what begins no token has none of
 pub data SaysKind : AbnfKind → List ℕ → Span → Said → Type 0 where
@@ -52,9 +51,9 @@ Viable = viability.Viable Says spelling.Grammar
 
 -- its numbers are within the limits
 abbrev pub IsSmall : Said → Type 0
-IsSmall (Repeat a b) = IsWithin MAX_REPEAT a b
-IsSmall (Values vs) = All (λ v. v ≤ MAX_VALUE) vs
-IsSmall (Range a b) = (a ≤ MAX_VALUE) × (b ≤ MAX_VALUE)
+IsSmall (Repeat a b) = IsWithin max_number a b
+IsSmall (Values vs) = All (λ v. v ≤ max_number) vs
+IsSmall (Range a b) = (a ≤ max_number) × (b ≤ max_number)
 IsSmall s = Unit {0}
 
 abbrev pub AreSmall : List Word → Type 0
@@ -80,7 +79,7 @@ IsShallow m d (word g f s ∷ ws) = (d ≤ m) × IsShallow m (open_behind s d) w
 pub record AreWithin (ms : List Marked) : Type 0 where
   pub words : List Word
   pub say : SayAll ms words
-  pub shallow : IsShallow MAX_OPEN 0 words
+  pub shallow : IsShallow max_open 0 words
   pub small : AreSmall words
 
 -- with token i the tokens begin no rules any more

@@ -29,6 +29,10 @@ pub data SaysNum : List ℕ → Said → Type 0 where
   says_range : {base c : ℕ} {t ds es : List ℕ} → Tells c base → t ≡ ds ++ code "-" ∷ es → Digits base ds []
       → Digits base es [] → SaysNum (code "%" ∷ c ∷ t) (Range (digits_value base ds) (digits_value base es))
 
+-- the greatest number of a repetition, and of a terminal value
+abbrev pub max_number : ℕ
+max_number = 4294967295
+
 -- neither number of a repeat is over the limit
 abbrev pub IsWithin : ℕ → ℕ → Option ℕ → Type 0
 IsWithin limit a b = (a ≤ limit) × MatchOption b (Unit {0}) (λ n. n ≤ limit)

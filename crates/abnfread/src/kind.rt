@@ -3,7 +3,7 @@ ghost use Rattle.std.specs.Prelude.{◌≡◌};
 ghost use Rattle.abnfread.specs.AbnfKinds.{is_repeat as repeats};
 
 /// What a token is (RFC 5234, section 4).
-#[derive(Clone, Copy, Debug, PartialEq, Eq)]
+#[derive(Clone, Copy)]
 pub enum AbnfKind {
     /// A letter, then letters, digits and `-`.
     Name,

@@ -7,7 +7,7 @@ use crate::kind::AbnfKind;
 use lexer::{Kind, Token, TokenIter};
 
 /// A token with its marks.
-#[derive(Clone, Copy, Debug)]
+#[derive(Clone, Copy)]
 pub struct MarkedToken<'a> {
     pub token: Token<'a, AbnfKind>,
     /// White space stands directly before it.

@@ -9,6 +9,7 @@ ghost use Rattle.abnfread.specs.AbnfTable.{IsTableOf, IsCoreTable};
 ghost use Rattle.abnfread.specs.AbnfWords.{Said, Word};
 ghost use Rattle.abnfread.specs.Element.{Definition as Read};
 ghost use Rattle.abnfread.specs.MarkedTokens.{Marked, marked_of};
+ghost use Rattle.lexer.specs.GrammarLimits.{max_grammar};
 ghost use Rattle.lexer.specs.TokenLists.{Next, tok};
 ghost use Rattle.ruletable.specs.Lines.{line_at};
 ghost use Rattle.ruletable.specs.declared.span.Span.{Span};
@@ -26,7 +27,7 @@ use std::alloc::Global;
 
 // Reads the definitions of a text that is not too long.
 fn read_definitions(alloc: Global, text: &[u8]) -> Result<Vec<Definition<'_>>, ReadFault>
-    requires { length text.now ≤ MAX_GRAMMAR }
+    requires { length text.now ≤ max_grammar }
     ensures found { IfOk result (λ ds. Reads text.now (definitions_from ds.items)) }
     ensures fault { IfErr result (λ f. IsFaultOf text.now f) }
 {
@@ -105,7 +106,7 @@ fn take_token<'a>(
 ///   with LF.
 /// - `Memory` if an allocation fails.
 pub fn read_abnf(alloc: Global, text: &[u8]) -> Result<Abnf, ReadFault>
-    ensures long { MAX_GRAMMAR < length text.now → result ≡ Err ReadFault.TooLong }
+    ensures long { max_grammar < length text.now → result ≡ Err ReadFault.TooLong }
     ensures found { IfOk result (λ abnf. (definitions : List Read) × Reads text.now definitions
         × IsTableOf definitions abnf.rules abnf.redefined.items abnf.extended.items) }
     ensures only { (definitions : List Read) → Reads text.now definitions

@@ -7,7 +7,9 @@ use Rattle.ruletable.specs.declared.fault.ReadFault.TheVariants.{TooLong}
 use Rattle.ruletable.specs.declared.note.NoteKind.TheVariants.{Redefined}
 use Rattle.std.specs.Prelude.{Contains}
 use Rattle.abnfread.specs.AbnfReading.{Reads, IsFaultOf}
-use Rattle.abnfread.specs.Element.{Definition, Rule}
+use Rattle.abnfread.specs.AbnfTable.{earlies}
+use Rattle.abnfread.specs.CoreRules.{core_list}
+use Rattle.abnfread.specs.Element.{Definition, Rule, body_of}
 use Rattle.abnfread.proofs.AbnfFaultLemmas.{one-reading, one-fault, no-fault}
 use Rattle.abnfcheck.proofs.AbnfNotesLemmas.{notes_same, those_same}
 use Rattle.abnfexplain.specs.AbnfExplained.{Explains}
@@ -15,7 +17,7 @@ use Rattle.abnfrun.specs.AbnfExplainedNotes.{ExplainsAbnfNote}
 use Rattle.abnfrun.specs.AbnfAnswers.{AbnfStates, refused, unexplained, noted, checked, judges, cut_notes}
 use Rattle.abnfrun.specs.AbnfAnswers.{again, cut_again, printed, no_memory}
 use Rattle.abnfprint.specs.AbnfReadBack.{file_rules}
-use Rattle.abnfrun.specs.AbnfNoted.{all_rules, again_in, early_in, judged_of, AreNotesOn, IsRefusedFor, AreAgain}
+use Rattle.abnfrun.specs.AbnfNoted.{all_rules, again_in, judged_of, AreNotesOn, IsRefusedFor, AreAgain}
 use Rattle.abnfrun.specs.AbnfNoted.{rule_given}
 use Rattle.abnfrun.specs.AbnfTextHints.{AreTextHints}
 use Rattle.abnfrun.specs.AbnfReply.{AnswersFor, RefusalFor, form_of, printed_rules, JudgeReply}
@@ -88,7 +90,7 @@ module _ (settings : Settings) (input : Input) where
   notes_are_one : (definitions : List Definition) (a b : List Said) → AreNotesOn definitions (rule_given settings) a
       → AreNotesOn definitions (rule_given settings) b → a ≡ b
   notes_are_one definitions = notes_same (file_rules definitions) (all_rules definitions) (again_in definitions)
-      (early_in definitions) (rule_given settings)
+      (earlies (body_of core_list) 0 [] definitions) (rule_given settings)
 
   module _ (text : List ℕ) where
     abbrev IsStated : List ℕ → Reply → Type 0

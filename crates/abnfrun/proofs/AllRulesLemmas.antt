@@ -1,7 +1,7 @@
 -- The rules of the table of a file and of the core rules are those of its definitions.
 -- Serves: run_abnf (right)
 use Rattle.std.proofs.Common.{◌≡◌, ℕ, Bool, true, false, not, ◌||◌, cond, List, [], ◌∷◌, ◌++◌, map, Option, Some, None}
-use Rattle.std.proofs.Common.{refl, sym, ◌∙◌, ap}
+use Rattle.std.proofs.Common.{◌<◌, length, refl, sym, ◌∙◌, ap, arith}
 use Rattle.std.specs.Prelude.{MatchOption, filter}
 use Rattle.std.specs.List.{list_any}
 use Rattle.std.proofs.lemmas.List.{map-append}
@@ -22,7 +22,6 @@ use Rattle.abnfcheck.specs.WithCore.{has_name, one_each, left_alone, with_core}
 use Rattle.abnfrun.specs.AbnfLanguage.{IsChecked, IsPrintable}
 use Rattle.abnfprint.specs.AbnfReadBack.{file_rules}
 use Rattle.abnfrun.specs.AbnfNoted.{AreRedefinitions, IsRefusedFor, all_rules, judged_of}
-use Rattle.abnfrun.proofs.EarlyInLemmas.{earlies_are_early}
 
 any_map : {A B : Type 0} (f : A → B) (p : B → Bool) (xs : List A) → list_any p (map f xs)
     ≡ list_any (λ x. p (f x)) xs
@@ -48,10 +47,6 @@ one_each_map names (rule ∷ rules) = ap (λ l. rule_of rule ∷ l)
     (λ (later : Rule). not (same_name names later.name rule.name)) (λ later. refl) (one_each names rules)
     ∙ ap (filter (λ (later : Rule). not (same_name names later.name rule.name))) (one_each_map names rules))
 
--- no two core rules have one name
-core_rules_apart : one_each Fold core_list ≡ core_list
-core_rules_apart = refl
-
 pub all_same : (definitions : List Definition) (file core : table.Rules Elem) → file.names ≡ Fold
     → rules_of file ≡ file_rules definitions → rules_of core ≡ core_list →
     rules_of (with_core file core.rules) ≡ all_rules definitions
@@ -64,8 +59,23 @@ all_same definitions file core folds kept listed =
     (one_each file.names core.rules)
     ∙ ap (filter (λ (rule : Rule). not (has_name file.names (rules_of file) rule.name)))
     (one_each_map file.names core.rules))
-    ∙ rw (folds, kept, listed) (ap (λ l. file_rules definitions
-    ++ filter (λ (rule : Rule). not (has_name Fold (file_rules definitions) rule.name)) l) core_rules_apart)
+    ∙ rw (folds, kept, listed) refl
+
+-- there is a rule: core rules follow those of a file without rules
+pub some_rules : (definitions : List Definition) → 0 < length (all_rules definitions)
+some_rules definitions = by (file_rules definitions)
+  where
+    some_left : (names : NameCase) (rules : List Rule) → 0 < length rules
+        → 0 < length (left_alone (record { names = names; rules = [] }) rules)
+    some_left names [] some = some
+    some_left names (rule ∷ rules) some = omega arith
+
+    core_count : length core_list ≡ 16
+    core_count = refl
+
+    by : (file : List Rule) → 0 < length ((with_core (record { names = Fold; rules = file }) core_list).rules)
+    by [] = some_left Fold core_list (omega (arith, core_count))
+    by (rule ∷ file) = omega arith
 
 pub is_checked : (text : List ℕ) (given : Option (List ℕ)) (file core : table.Rules Elem) (again early : List ℕ)
     (notes : List Said) (sound : Option Grammar) →
@@ -77,7 +87,7 @@ pub is_checked : (text : List ℕ) (given : Option (List ℕ)) (file core : tabl
 is_checked text given file core again early notes sound (ds, reads, t) c are ready = record {
   definitions = ds;
   reads = reads;
-  are_notes = rw (all, t.kept, t.again, t.before ∙ earlies_are_early ds) at are;
+  are_notes = rw (all, t.kept, t.again, t.before) at are;
   ready = by sound ready;
 }
   where

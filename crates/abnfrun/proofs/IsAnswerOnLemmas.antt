@@ -12,12 +12,12 @@ use Rattle.abnfcheck.specs.Beginnings.{IsFurthest}
 use Rattle.abnfcheck.specs.Decided.{Says}
 use Rattle.abnfcheck.specs.Derivable.{RuleDerives}
 use Rattle.abnfrun.specs.LetterAnswers.{IsAnswerOn}
-use Rattle.flatgrammar.specs.Verdicts.{IsVerdict}
-use Rattle.flatgrammar.specs.declared.verdict.Verdict.{Verdict}
-use Rattle.flatgrammar.specs.declared.verdict.Verdict.TheVariants as verdict
+use Rattle.lowering.specs.Verdicts.{IsVerdict}
+use Rattle.lowering.specs.declared.verdict.Verdict.{Verdict}
+use Rattle.lowering.specs.declared.verdict.Verdict.TheVariants as verdict
 use Rattle.flatgrammar.specs.Flat.{Flat}
-use Rattle.flatgrammar.specs.Lowered.{IsLowered}
-use Rattle.flatgrammar.specs.ToldBeginnings.{TellsBeginnings}
+use Rattle.lowering.specs.Lowered.{IsLowered}
+use Rattle.lowering.specs.ToldBeginnings.{TellsBeginnings}
 use Rattle.linejudge.specs.declared.answers.Answer.{Answer}
 use Rattle.linejudge.specs.declared.answers.Answer.TheVariants.{Yes, No, NoAfter}
 

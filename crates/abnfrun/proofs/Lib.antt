@@ -3,7 +3,6 @@ pub mod AbnfStatesLemmas
 pub mod AbnfTextHintsLemmas
 pub mod AllRulesLemmas
 pub mod AreRedefinitionsLemmas
-pub mod EarlyInLemmas
 pub mod IsAnswerOnLemmas
 pub mod IsAnswerToLemmas
 pub mod OpenAbnfLemmas

@@ -1,39 +1,23 @@
 -- The rules of a grammar's text, and the notes on them.
-use Rattle.std.specs.Prelude.{◌≡◌, ℕ, Bool, false, not, List, [], ◌++◌, map, filter, filter_map, find, Option, Some}
-use Rattle.std.specs.Prelude.{None, Contains, option_copied, if◌then◌else◌}
-use Rattle.std.specs.List.{enumerate_from}
-use Rattle.std.specs.Option.{option_map_or}
+use Rattle.std.specs.Prelude.{◌≡◌, ℕ, List, [], map, Option, Contains, option_copied}
 use Rattle.ruletable.specs.Notes.{Said, said}
 use Rattle.ruletable.specs.declared.note.NoteKind.TheVariants.{Redefined}
-use Rattle.ruletable.specs.Rules.{same_name}
 use Rattle.ruletable.specs.declared.table.NameCase.TheVariants.{Fold}
-use Rattle.abnfread.specs.AbnfTable.{agains, is_early}
+use Rattle.abnfread.specs.AbnfTable.{agains, earlies}
 use Rattle.abnfread.specs.CoreRules.{core_list}
 use Rattle.abnfread.specs.Element.{Rule, Definition, body_of}
 use Rattle.abnfcheck.specs.AbnfNotes.{Those, AreNotes, IsRefused, judged_in}
-use Rattle.abnfcheck.specs.WithCore.{has_name}
+use Rattle.abnfcheck.specs.WithCore.{with_core}
 use Rattle.abnfprint.specs.AbnfReadBack.{file_rules}
 use Rattle.toolrun.specs.declared.settings.Settings.{Settings}
 
 -- the file's rules, then those core rules whose names it does not have (RFC 5234, appendix B.1)
 abbrev pub all_rules : List Definition → List Rule
-all_rules definitions =
-    file_rules definitions ++ filter (λ rule. not (has_name Fold (file_rules definitions) rule.name)) core_list
+all_rules definitions = (with_core (record { names = Fold; rules = file_rules definitions }) core_list).rules
 
 -- the ids of the rules that the file defines again
 abbrev pub again_in : List Definition → List ℕ
 again_in definitions = agains (body_of core_list) [] definitions
-
--- whether the first definition of the rule's name begins with `=/`, and no core rule has the name
-abbrev pub begins_early : List Definition → Rule → Bool
-begins_early definitions rule =
-    option_map_or (is_early (body_of core_list)) (find (λ d. same_name Fold rule.name d.name) definitions) false
-
--- the ids of the rules that the file extends before it defines them
-abbrev pub early_in : List Definition → List ℕ
-early_in definitions =
-    filter_map (λ r. if begins_early definitions r.1 then Some r.0 else None)
-    (enumerate_from 0 (file_rules definitions))
 
 -- the id of the judged rule: of that with the given name, or of the first
 abbrev pub judged_of : List Definition → Option (List ℕ) → ℕ
@@ -42,7 +26,8 @@ judged_of definitions given = judged_in given (all_rules definitions)
 -- the notes on the grammar of these definitions
 abbrev pub AreNotesOn : List Definition → Option (List ℕ) → List Said → Type 0
 AreNotesOn definitions given notes =
-    AreNotes (file_rules definitions) (all_rules definitions) (again_in definitions) (early_in definitions) given notes
+    AreNotes (file_rules definitions) (all_rules definitions) (again_in definitions)
+    (earlies (body_of core_list) 0 [] definitions) given notes
 
 -- the grammar of these definitions is refused
 abbrev pub IsRefusedFor : List Definition → Option (List ℕ) → Type 0

@@ -1,7 +1,5 @@
 -- The hints on the grammar of a text, as settings ask for them.
-use Rattle.std.specs.Prelude.{ℕ, Bool, cond, List, length, position, Option, Some, None}
-use Rattle.ruletable.specs.Rules.{same_name}
-use Rattle.ruletable.specs.declared.table.NameCase.TheVariants.{Fold}
+use Rattle.std.specs.Prelude.{ℕ, Bool, cond, if◌then◌else◌, nat_lt, List, length, Option, Some, None}
 use Rattle.letters.specs.Letters.{has}
 use Rattle.abnfread.specs.AbnfReading.{Reads}
 use Rattle.abnfread.specs.Element.{Definition, Rule}
@@ -9,13 +7,12 @@ use Rattle.abnfhints.specs.AbnfHints.{AreAbnfHints}
 use Rattle.abnfhints.specs.declared.line_end.LineEnd.{LineEnd}
 use Rattle.abnfhints.specs.declared.line_end.LineEnd.TheVariants.{Lf, Nul}
 use Rattle.abnfprint.specs.AbnfReadBack.{file_rules}
-use Rattle.abnfrun.specs.AbnfNoted.{all_rules, rule_given}
+use Rattle.abnfrun.specs.AbnfNoted.{all_rules, judged_of, rule_given}
 use Rattle.toolrun.specs.declared.settings.Settings.{Settings}
 
--- the id of the judged rule, of that with the given name or of the first, if there is one
-abbrev pub judged_rule : List Rule → Option (List ℕ) → Option ℕ
-judged_rule rules None = Some 0
-judged_rule rules (Some name) = position (λ rule. same_name Fold name rule.name) rules
+-- an id, if a rule has it
+abbrev pub id_of_rule : List Rule → ℕ → Option ℕ
+id_of_rule rules id = if nat_lt id (length rules) then Some id else None
 
 -- the byte that ends lines: NUL, if settings ask for it
 abbrev pub end_for : Bool → LineEnd
@@ -26,4 +23,5 @@ pub record AreTextHints (text : List ℕ) (settings : Settings) (hints : List �
   pub definitions : List Definition
   pub reads : Reads text definitions
   pub are_hints : AreAbnfHints (has settings.letters) (all_rules definitions) (length (file_rules definitions))
-      (judged_rule (all_rules definitions) (rule_given settings)) (end_for settings.nul) text hints
+      (id_of_rule (all_rules definitions) (judged_of definitions (rule_given settings))) (end_for settings.nul)
+      text hints

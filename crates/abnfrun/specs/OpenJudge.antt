@@ -4,8 +4,8 @@ use Rattle.abnfread.specs.AbnfViews.{rules_of}
 use Rattle.abnfread.specs.Element.{Rule}
 use Rattle.abnfcheck.specs.AbnfGrammar.{Grammar}
 use Rattle.flatgrammar.specs.Flat.{Flat}
-use Rattle.flatgrammar.specs.Lowered.{IsLowered}
-use Rattle.flatgrammar.specs.ToldBeginnings.{TellsBeginnings}
+use Rattle.lowering.specs.Lowered.{IsLowered}
+use Rattle.lowering.specs.ToldBeginnings.{TellsBeginnings}
 use Rattle.letters.specs.Letters.{has}
 use Rattle.letters.specs.declared.alphabet.Alphabet.{Alphabet}
 

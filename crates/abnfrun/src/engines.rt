@@ -2,15 +2,16 @@
 ghost use Rattle.std.specs.Prelude.{◌≡◌, ◌↔◌, ◌≤◌, ℕ, List, length, map, IfOk, IfSome, IsTrue};
 ghost use Rattle.abnfcheck.specs.Derivable.{RuleDerives};
 ghost use Rattle.abnfread.specs.Element.{Rule};
-ghost use Rattle.flatgrammar.specs.Lowered.{IsLowered};
-ghost use Rattle.flatgrammar.specs.ToldBeginnings.{TellsBeginnings};
-ghost use Rattle.flatgrammar.specs.Verdicts.{IsVerdict};
+ghost use Rattle.lowering.specs.Lowered.{IsLowered};
+ghost use Rattle.lowering.specs.ToldBeginnings.{TellsBeginnings};
+ghost use Rattle.lowering.specs.Verdicts.{IsVerdict};
 ghost use Rattle.letters.specs.Letters.{has};
 
 use earley::{Chart, judge, viable};
-use flatgrammar::{Flat, Verdict};
+use flatgrammar::Flat;
 use lazydfa::Automaton;
 use letters::Letter;
+use lowering::Verdict;
 use ruletable::Memory;
 
 /// The memory that letters are judged in: that of a chart, and the automaton that is asked first, if there is one.

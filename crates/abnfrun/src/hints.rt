@@ -1,8 +1,9 @@
 //! Hints on a grammar in ABNF, as settings ask for them.
-ghost use Rattle.std.specs.Prelude.{◌≡◌, ℕ, List, IfOk, option_copied};
+ghost use Rattle.std.specs.Prelude.{◌≡◌, ◌<◌, ℕ, List, length, IfOk, option_copied};
+ghost use Rattle.abnfcheck.specs.AbnfNotes.{judged_in};
 ghost use Rattle.abnfread.specs.AbnfViews.{rules_of};
 ghost use Rattle.abnfrun.specs.AbnfExplainedNotes.{AreNotePlaces};
-ghost use Rattle.abnfrun.specs.AbnfTextHints.{AreTextHints, end_for, judged_rule as the_rule};
+ghost use Rattle.abnfrun.specs.AbnfTextHints.{AreTextHints, end_for, id_of_rule};
 
 use crate::abnf_places::AbnfPlaces;
 use abnfhints::{Hinted, LineEnd, abnf_hints};
@@ -14,7 +15,8 @@ use toolrun::Settings;
 // Returns the id of the judged rule, if there is one. `Memory` if an allocation fails.
 fn judged_rule(rules: &RuleTable<Elem>, start: Option<&str>) -> Result<Option<usize>, Memory>
     requires { rules.now.names ≡ NameCase.Fold }
-    ensures { IfOk result (λ id. id ≡ the_rule (rules_of rules.now) (option_copied start.entry)) }
+    ensures { IfOk result (λ id. 0 < length (rules_of rules.now)
+        → id ≡ id_of_rule (rules_of rules.now) (judged_in (option_copied start.entry) (rules_of rules.now))) }
 {
     match start {
         Some(name) => rules.find(name.as_bytes()),

@@ -1,17 +1,16 @@
 -- The lines that are kept of a text hold no LF, and those that look blank hold blanks alone.
 -- Serves: joined_reading
-use Rattle.std.proofs.Common.{◌≡◌, ℕ, ◌+◌, ◌-◌, ◌==◌, ◌&&◌, Bool, true, false, bytes_eq, nat_lt, List}
-use Rattle.std.proofs.Common.{[]}
-use Rattle.std.proofs.Common.{◌∷◌, length, drop, refl, inl, inr, codes}
+use Rattle.std.proofs.Common.{◌≡◌, ℕ, ◌+◌, ◌==◌, ◌&&◌, Bool, true, false, nat_lt, List, [], ◌∷◌, drop, refl, inl, inr}
 use Rattle.std.proofs.lemmas.Bool.{cases_Bool}
 use Rattle.std.specs.List.{list_all, prefix_len}
 use Rattle.abnfblocks.specs.Furniture.{KeepsLines, none_left, stays, goes}
 use Rattle.abnfblocks.specs.KeptSteps.{is_blank_kind}
 use Rattle.abnfblocks.specs.LineKinds.{is_blank, is_blank_line, is_dated, is_feed, is_foot, kind_of}
-use Rattle.abnfblocks.specs.TextLines.{NumberedLine, line_in, line_parts, lines_from, text_lines, with_byte, without_cr}
+use Rattle.abnfblocks.specs.RuleLines.{begins_by}
+use Rattle.abnfblocks.specs.TextLines.{NumberedLine, line_in, line_parts, lines_from, text_lines, with_byte}
 use Rattle.abnfblocks.specs.declared.rfctext.line_kind.LineKind.{LineKind}
 use Rattle.abnfread.specs.AbnfSlices.{is_inside}
-use Rattle.abnftexts.proofs.EachLemmas.{Each, each_none, each_next, each-take, each-drop}
+use Rattle.abnftexts.proofs.EachLemmas.{Each, each_none, each_next, each-drop}
 
 -- bytes without LF
 abbrev pub AreInside : List ℕ → Type 0
@@ -31,13 +30,10 @@ parts-inside : (bytes : List ℕ) → Each AreInside (line_parts bytes)
 parts-inside [] = each_none
 parts-inside (b ∷ bytes) = elim (cases_Bool (b == 10)) [
   | inl e ↦ rw e (each_next each_none (parts-inside bytes))
-  | inr e ↦ rw e (with_byte-inside b (line_parts bytes) (rw e refl) (parts-inside bytes))
-]
-
-without_cr-inside : (part : List ℕ) → AreInside part → AreInside (without_cr part)
-without_cr-inside part h = elim (cases_Bool (bytes_eq (drop (length part - 1) part) (codes "\r"))) [
-  | inl e ↦ rw e (each-take (length part - 1) h)
-  | inr e ↦ rw e h
+  | inr e ↦ elim (cases_Bool ((b == 13) && begins_by 10 bytes)) [
+    | inl f ↦ rw (e, f) (parts-inside bytes)
+    | inr f ↦ rw (e, f) (with_byte-inside b (line_parts bytes) (rw e refl) (parts-inside bytes))
+  ]
 ]
 
 each-pass : (p : ℕ → Bool) (bytes : List ℕ) → list_all p bytes ≡ true → Each (λ b. p b ≡ true) bytes
@@ -72,11 +68,10 @@ blank-kind has_feed bytes e = elim (cases_Bool (is_blank_line bytes)) [
 
 line-clear : (number : ℕ) (part : List ℕ) → AreInside part → IsClear (line_in number part)
 line-clear number part h =
-    let bare = without_cr part in
-    let feeds = prefix_len is_feed bare in
+    let feeds = prefix_len is_feed part in
     record {
-      inside = each-drop feeds (without_cr-inside part h);
-      blank = λ e. each-pass is_blank (drop feeds bare) (blank-kind (nat_lt 0 feeds) (drop feeds bare) e);
+      inside = each-drop feeds h;
+      blank = λ e. each-pass is_blank (drop feeds part) (blank-kind (nat_lt 0 feeds) (drop feeds part) e);
     }
 
 lines-clear : (number : ℕ) (parts : List (List ℕ)) → Each AreInside parts → Each IsClear (lines_from number parts)

@@ -21,11 +21,12 @@ use Rattle.toolrun.specs.Reply.{Reply}
 use Rattle.toolrun.specs.Status.{code_of}
 use Rattle.toolrun.specs.Stop.{unread}
 use Rattle.toolrun.specs.Stopped.{Performs}
+use Rattle.toolrun.specs.Stream.{no_input}
 use Rattle.toolrun.specs.declared.status.Status.{Status}
 use Rattle.toolrun.specs.declared.stop.Stop.{Stop}
 use Rattle.toolrun.specs.declared.stop.Stop.TheVariants.{NoMemory, Quiet, Refused}
 use Rattle.abnftexts.specs.JoinRun.{IsWrittenAs, JoinStates, JoinedReply, TriedReply, grammar_form, joined_status}
-use Rattle.abnftexts.specs.JoinRun.{no_input, text_written, too_long, tries}
+use Rattle.abnftexts.specs.JoinRun.{text_written, too_long, tries}
 use Rattle.abnftexts.specs.JoinRun.{as_it_is, canonical, joins, no_room, nothing, refused, writes}
 use Rattle.abnftexts.specs.JoinRun as run
 use Rattle.abnftexts.specs.JoinedGrammar.{AreTextsJoined, GrammarJoined}

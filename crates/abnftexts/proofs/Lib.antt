@@ -7,12 +7,16 @@ pub mod OwnRuleLemmas
 pub mod OneDefinitionLemmas
 pub mod OneRuleLemmas
 pub mod OwnLinesLemmas
-pub mod RuleSignLemmas
+pub mod RuleTextLemmas
 pub mod RulesTakenLemmas
 pub mod SpelledRulesLemmas
 pub mod TextRulesLemmas
 pub mod UndefinedLemmas
 pub mod AllSameLemmas
+pub mod AloneRulesLemmas
+pub mod PlacedRulesLemmas
+pub mod SplitTextLemmas
+pub mod SplitWordLemmas
 pub mod FatesLemmas
 pub mod JoinedLemmas
 pub mod LineEndLemmas

@@ -1,5 +1,5 @@
 -- What texts spell one behind the other, and how that is what they read as.
--- Serves: linked_reading
+-- Serves: joined_reading, linked_reading
 use Rattle.std.proofs.Common.{◌≡◌, ℕ, nat_le, ◌-◌, ◌≤◌, ◌&&◌, not, Bool, true, false, Option, Some, None, List, [], ◌∷◌}
 use Rattle.std.proofs.Common.{◌++◌, length, map, refl, sym, ap, ◌∙◌, arith}
 use Rattle.std.proofs.lemmas.Bool.Decides.{nat_tests}
@@ -33,10 +33,10 @@ module _ {text : List ℕ} {ds : List Definition} (h : SpellsAtMargin text ds) w
   words-within : h.within.words ≡ h.words
   words-within = let w = h.within in one-words Says one-word w.say h.say
 
-  shallow-words : IsShallow MAX_OPEN 0 h.words
+  pub shallow-words : IsShallow MAX_OPEN 0 h.words
   shallow-words = let w = h.within in let e = words-within in let s = w.shallow in rw e at s
 
-  small-words : AreSmall h.words
+  pub small-words : AreSmall h.words
   small-words = let w = h.within in let e = words-within in let s = w.small in rw e at s
 
 pub spells-linked : {a b : List ℕ} {first second : List Definition} → EndsLine a → SpellsAtMargin a first

@@ -1,5 +1,5 @@
 -- The tokens of texts one behind the other are those of each text.
--- Serves: linked_reading
+-- Serves: joined_reading, linked_reading
 use Rattle.std.proofs.Common.{◌≡◌, ℕ, ◌+◌, ◌≤◌, ◌<◌, ◌==◌, ◌&&◌, not, Bool, true, false, Option, Some, List, [], ◌∷◌}
 use Rattle.std.proofs.Common.{◌++◌, length, take, map, refl, sym, ap, ◌∙◌, arith, append_assoc, length-append}
 use Rattle.std.proofs.Math.Seq.{take-append-add}
@@ -34,7 +34,7 @@ indent-append i [] ys = refl
 indent-append i (x ∷ xs) ys = indent-append (indented i x) xs ys
 
 -- a place behind a line's end, and one before it
-indent-behind : {a : List ℕ} (b : List ℕ) (n : ℕ) → EndsLine a → indent_at (a ++ b) (length a + n) ≡ indent_at b n
+pub indent-behind : {a : List ℕ} (b : List ℕ) (n : ℕ) → EndsLine a → indent_at (a ++ b) (length a + n) ≡ indent_at b n
 indent-behind {a} b n l = ap (indent_from (Some 0)) (take-append-add a b n) ∙ indent-append (Some 0) a (take n b)
     ∙ ap (λ (i : Option ℕ). indent_from i (take n b)) (line-indent l (Some 0))
 
@@ -88,7 +88,7 @@ eqb-moved : (n a b : ℕ) → not (n + a == n + b) ≡ not (a == b)
 eqb-moved n a b = grind (arith, nat_tests)
 
 -- a token whose marks are those
-says-so : {k : AbnfKind} {z : List ℕ} {p : Span} {s : Said} {g h f e : Bool} → g ≡ h → f ≡ e → SaysKind k z p s
+pub says-so : {k : AbnfKind} {z : List ℕ} {p : Span} {s : Said} {g h f e : Bool} → g ≡ h → f ≡ e → SaysKind k z p s
     → Says (marked (tok k z p) g f) (word h e s)
 says-so p q k = rw (p, q) (says k)
 
@@ -137,7 +137,7 @@ say-gap text n j m [] lt say_none = say_none
 say-gap text n j m (tok k z p ∷ ts) lt (say_more (says h) more) =
     say_more (says-so (gap-behind n p.start j lt) refl h) more
 
-line-length : {t : List ℕ} → EndsLine t → 1 ≤ length t
+pub line-length : {t : List ℕ} → EndsLine t → 1 ≤ length t
 line-length lf = omega arith
 line-length (behind_byte l) = omega arith
 
@@ -176,7 +176,7 @@ pub record TellsFirst (text : List ℕ) (place : ℕ) (t : List ℕ) (ws others 
   pub whole : ws ≡ front ++ word gap false End ∷ []
   pub tells : TellsBehind text place t (front ++ others)
 
-first-same : (a b : List ℕ) (k : AbnfKind) (z : List ℕ) (p : Span) → p.start ≤ length a
+pub first-same : (a b : List ℕ) (k : AbnfKind) (z : List ℕ) (p : Span) → p.start ≤ length a
     → is_first (a ++ b) (Some 0) (tok k z p) ≡ is_first a (Some 0) (tok k z p)
 first-same a b k z p le =
     ap (λ (i : Option ℕ). not (ends_list k) && begins_rule (Some 0) i) (indent-front a b p.start le)

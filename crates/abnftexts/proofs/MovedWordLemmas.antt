@@ -1,5 +1,5 @@
 -- The machine takes the words of a text behind those of another as it takes them alone.
--- Serves: linked_reading
+-- Serves: joined_reading, linked_reading
 use Rattle.std.proofs.Common.{◌≡◌, ℕ, ◌≤◌, Bool, true, false, Option, Some, None, List, [], ◌∷◌, ◌++◌, map, refl}
 use Rattle.std.proofs.Common.{sym, ap, ◌∙◌, append_assoc, append-nil, ◌⊎◌, inl, inr}
 use Rattle.std.proofs.lemmas.List.{map-append}
@@ -38,7 +38,7 @@ module _ (n : ℕ) (ds : List Definition) where
   abbrev moved_head : Head → Head
   moved_head (head more a z p) = head (behind_them more) a z (moved_span n p)
 
-  abbrev moved_config : Config → Config
+  abbrev pub moved_config : Config → Config
   moved_config start = start
   moved_config (named more z p) = named (behind_them more) z (moved_span n p)
   moved_config (body h o bs es l) = body (moved_head h) o bs es l
@@ -122,6 +122,62 @@ module _ (n : ℕ) (ds : List Definition) where
   run-moved (w ∷ ws) c q h = option-moved ws (λ d r k. run-moved ws d r k) (step c w)
       (step (moved_config c) (moved_word n w)) (step-moves c w q) h
 
+  option-back : {all : List Definition} (ws : List Word) → ((c : Config) → (c ≡ start → ⊥)
+      → run (moved_config c) (map (moved_word n) ws) ≡ Some (done all)
+      → (rules : List Definition) × (run c ws ≡ Some (done rules)) × (all ≡ behind_them rules)) → (x y : Option Config)
+      → Moves x y → (elim y [ None ↦ None | Some d ↦ run d (map (moved_word n) ws) ]) ≡ Some (done all)
+      → (rules : List Definition) × ((elim x [ None ↦ None | Some d ↦ run d ws ]) ≡ Some (done rules))
+      × (all ≡ behind_them rules)
+  option-back ws f None y m k = absurd (let l = rw m at k in cc)
+  option-back ws f (Some start) y m k = absurd m
+  option-back ws f (Some (named more z p)) y m k = f (named more z p) (λ e. cc) (rw m at k)
+  option-back ws f (Some (body i o bs es l)) y m k = f (body i o bs es l) (λ e. cc) (rw m at k)
+  option-back ws f (Some (done more)) y m k = f (done more) (λ e. cc) (rw m at k)
+
+  -- where the moved configuration takes the moved words, the configuration takes the words
+  pub run-back : {all : List Definition} (ws : List Word) (c : Config) → (c ≡ start → ⊥)
+      → run (moved_config c) (map (moved_word n) ws) ≡ Some (done all)
+      → (rules : List Definition) × (run c ws ≡ Some (done rules)) × (all ≡ behind_them rules)
+  run-back [] start q h = absurd (q refl)
+  run-back [] (named more z p) q h = absurd (cc)
+  run-back [] (body i o bs es l) q h = absurd (cc)
+  run-back {all} [] (done more) q h = (more, refl, (let e : behind_them more ≡ all = cc in sym e))
+  run-back (w ∷ ws) c q h = option-back ws (λ d r k. run-back ws d r k) (step c w)
+      (step (moved_config c) (moved_word n w)) (step-moves c w q) h
+
+pub option-some : {C : Type 0} (x : Option C) → (x ≡ None) ⊎ ((c : C) × (x ≡ Some c))
+option-some None = inl refl
+option-some (Some c) = inr (c, refl)
+
+abbrev pub run_behind : List Word → Option Config → Option Config
+run_behind us x = elim x [ None ↦ None | Some d ↦ run d us ]
+
+moves-leave : (c : Config) (w : Word) → (c ≡ start → ⊥) → step c w ≡ Some start → ⊥
+moves-leave c w q h = let moves = step-moves 0 [] c w q in rw h at moves
+
+-- no step leads to the start
+step-leaves : (c : Config) (w : Word) (d : Config) → step c w ≡ Some d → d ≡ start → ⊥
+step-leaves start (word g true (Name z p)) d h e = cc
+step-leaves start (word g true _) d h e = cc
+step-leaves start (word g false s) d h e = cc
+step-leaves (named more z p) w d h e = moves-leave (named more z p) w (λ q. cc) (h ∙ ap Some e)
+step-leaves (body i o bs es l) w d h e = moves-leave (body i o bs es l) w (λ q. cc) (h ∙ ap Some e)
+step-leaves (done more) w d h e = moves-leave (done more) w (λ q. cc) (h ∙ ap Some e)
+
+-- nor do several
+steps-leave : (ws : List Word) (c d : Config) → (c ≡ start → ⊥) → run c ws ≡ Some d → d ≡ start → ⊥
+steps-leave [] c d q h e = q (let same : c ≡ d = cc in same ∙ e)
+steps-leave (w ∷ ws) c d q h e = elim (option-some (step c w)) [
+  | inl x ↦ (let k : None ≡ Some d = sym (ap (run_behind ws) x) ∙ h in cc)
+  | inr x ↦ steps-leave ws x.0 d (step-leaves c w x.0 x.1) (sym (ap (run_behind ws) x.1) ∙ h) e
+]
+
+pub run-leaves : (w : Word) (ws : List Word) (c d : Config) → run c (w ∷ ws) ≡ Some d → d ≡ start → ⊥
+run-leaves w ws c d h e = elim (option-some (step c w)) [
+  | inl x ↦ (let k : None ≡ Some d = sym (ap (run_behind ws) x) ∙ h in cc)
+  | inr x ↦ steps-leave ws x.0 d (step-leaves c w x.0 x.1) (sym (ap (run_behind ws) x.1) ∙ h) e
+]
+
 -- Where the end of a text may follow, a rule may, and no bracket is open.
 record MayEnd (c : Config) (ds : List Definition) : Type 0 where
   next : (g : Bool) (z : List ℕ) (p : Span) → step c (word g true (Name z p)) ≡ Some (named ds z p)
@@ -144,10 +200,6 @@ record FrontTaken (front : List Word) (ds : List Definition) : Type 0 where
   config : Config
   reached : run start front ≡ Some config
   ends : MayEnd config ds
-
-option-some : {C : Type 0} (x : Option C) → (x ≡ None) ⊎ ((c : C) × (x ≡ Some c))
-option-some None = inl refl
-option-some (Some c) = inr (c, refl)
 
 front-taken : (front : List Word) (g : Bool) {ds : List Definition} → Grammar (front ++ word g false End ∷ []) ds
     → FrontTaken front ds
@@ -205,7 +257,7 @@ grammar-linked front g n {ws} {first} {second} h k =
     runs-grammar (first ++ map (moved_definition n) second) (front ++ words_behind n ws)
     (ap (λ (v : List Word). run start (front ++ words_behind n v)) whole ∙ linked)
 
-open-moved : (n : ℕ) (s : Said) (d : ℕ) → open_behind (moved_said n s) d ≡ open_behind s d
+pub open-moved : (n : ℕ) (s : Said) (d : ℕ) → open_behind (moved_said n s) d ≡ open_behind s d
 open-moved n (Name z p) d = refl
 open-moved n _ d = refl
 
@@ -237,9 +289,6 @@ pub small-linked : (front : List Word) (g : Bool) (n : ℕ) (ws : List Word)
     → AreSmall (front ++ word g false End ∷ []) → AreSmall ws → AreSmall (front ++ words_behind n ws)
 small-linked front g n ws h k = small-join front (words_behind n ws) (word g false End ∷ []) h
     (small-gap (map (moved_word n) ws) (small-words n ws k))
-
-abbrev run_behind : List Word → Option Config → Option Config
-run_behind us x = elim x [ None ↦ None | Some d ↦ run d us ]
 
 -- behind words that open as many brackets as they close
 shallow-more : (m : ℕ) (ws us : List Word) (c d : Config) → run start ws ≡ Some c → IsShallow m 0 ws

@@ -1,13 +1,13 @@
 -- What is taken of texts, step by step.
 -- Serves: join_texts
-use Rattle.std.proofs.Common.{◌≡◌, ℕ, suc, ◌+◌, ◌<◌, ◌≤◌, List, [], ◌∷◌, length, get_or, map, take, drop, sym, ap}
-use Rattle.std.proofs.Common.{◌∙◌, ◌++◌, ◌≢◌, append-nil, append_assoc, arith, subst, length-drop, refl}
+use Rattle.std.proofs.Common.{◌≡◌, ℕ, zero, suc, ◌+◌, ◌<◌, ◌≤◌, List, [], ◌∷◌, ◌++◌, length, get_or, map, take, drop}
+use Rattle.std.proofs.Common.{refl, sym, ap, ◌∙◌, append-nil, append_assoc, arith, subst, length-drop}
 use Rattle.std.proofs.Math.Seq.{drop-cons}
 use Rattle.std.proofs.lemmas.List.{at_drop_all, drop-drop, drop-map, length-map, take-map}
 use Rattle.ruletable.specs.declared.fault.ReadFault.{ReadFault}
-use Rattle.ruletable.specs.declared.fault.ReadFault.TheVariants as ReadFaults
-use Rattle.abnfread.specs.AbnfReading.{IsFaultOf}
-use Rattle.abnftexts.specs.GivenRules.{text_rule}
+use Rattle.abnfread.specs.AbnfReading.{Reads}
+use Rattle.abnfread.specs.Element.{Definition}
+use Rattle.abnftexts.specs.GivenRules.{RuleGiven, text_rule}
 use Rattle.abnftexts.specs.declared.join.given.GivenRule.{GivenRule}
 use Rattle.abnfblocks.specs.TextLines.{NumberedLine, numbered}
 use Rattle.abnfblocks.specs.declared.rfctext.text_line.TextLine.{TextLine}
@@ -16,13 +16,15 @@ use Rattle.abnfblocks.specs.declared.found.Found.{Found}
 use Rattle.abnfblocks.specs.declared.found.Found.TheVariants as found
 use Rattle.abnftexts.specs.RulesGathered.{RuleLines, RulesGathered, NamedText, both_given, lines_placed, named_text}
 use Rattle.abnftexts.specs.RulesGathered.{none_given, one_rule, told_alone}
-use Rattle.abnftexts.specs.TakenRules.{TakesMore}
-use Rattle.abnftexts.specs.TextRules.{GivesFound, GivesPiece, GivesRule, GivesText, GiveTexts, next_piece, next_rule}
-use Rattle.abnftexts.specs.TextRules.{SpellRule, a_rule, next_text, no_lines, no_piece, no_rule, no_texts}
-use Rattle.abnftexts.specs.TextRules.{none_found, piece_at}
+use Rattle.abnftexts.specs.TakenRules.{SpellAlone, TakesMore, TakesRule, TakesRules, none_alone, next_alone}
+use Rattle.abnftexts.specs.TextRules.{GivesFound, GivesPiece, GivesRules, GivesText, GiveTexts, given_by, next_piece}
+use Rattle.abnftexts.specs.TextRules.{next_rule, next_text, no_lines, no_piece, no_texts, none_found, piece_at}
 use Rattle.abnftexts.specs.TextPlaces.{not_abnf_told}
 use Rattle.abnftexts.specs.declared.gathered.RulePlace.{RulePlace}
 use Rattle.abnftexts.specs.declared.gathered.SourceText.{SourceText}
+use Rattle.abnftexts.proofs.AloneRulesLemmas.{IsReadAlone, ReadAlone}
+use Rattle.abnftexts.proofs.EachLemmas.{Each, each_next}
+use Rattle.abnftexts.proofs.RuleTextLemmas.{all-given}
 
 -- the element at a place stands in front of what is behind it
 pub one-behind : {A : Type 0} (xs : List A) (i : ℕ) (d : A) → i < length xs
@@ -69,50 +71,66 @@ more-taken One Other Both g h end join one other =
     (both_given one.0 other.0, join one.0 other.0 one.1 other.1, e)
 
 module _ (name : List ℕ) (margin : ℕ) where
+  abbrev place_with : List NumberedLine → RuleLines
+  place_with rows = record { name = name; margin = margin; lines = rows }
+
   pub rule-taken : (rows : List NumberedLine) (place : RulePlace) (rule : GivenRule) (g h : RulesGathered)
-      → SpellRule margin rows (text_rule rule)
-      → lines_placed place ≡ record { name = name; margin = margin; lines = rows }
-      → h ≡ both_given g (one_rule (lines_placed place) (text_rule rule)) → TakesMore (GivesRule name margin rows) g h
-  rule-taken rows place rule g h spelled is more = (
-    one_rule (record { name = name; margin = margin; lines = rows }) (text_rule rule),
-    a_rule spelled,
-    more ∙ ap (λ (p : RuleLines). both_given g (one_rule p (text_rule rule))) is,
-  )
+      → ((d : Definition) → Reads (block_text margin rows) (d ∷ []) → text_rule rule ≡ given_by d)
+      → lines_placed place ≡ place_with rows
+      → h ≡ both_given g (one_rule (lines_placed place) (text_rule rule)) → TakesRule name margin rows g h
+  rule-taken rows place rule g h is there more = λ d reads.
+      more ∙ ap (λ (p : RuleLines). both_given g (one_rule p (text_rule rule))) there
+      ∙ ap (λ (r : RuleGiven). both_given g (one_rule (place_with rows) r)) (is d reads)
 
-  pub fault-taken : (rows : List NumberedLine) (fault : ReadFault) (g : RulesGathered) (told : List ℕ)
-      → IsFaultOf (block_text margin rows) fault × (fault ≢ ReadFaults.Memory)
-      → told ≡ g.told ++ not_abnf_told name rows fault
-      → TakesMore (GivesRule name margin rows) g (record { places = g.places; rules = g.rules; told = told })
-  fault-taken rows fault g told is more =
-      (told_alone (not_abnf_told name rows fault), no_rule is.0 is.1, with-told g told _ more)
+  none-left : (g : RulesGathered) → (ds : List Definition) → SpellAlone margin [] ds
+      → TakesMore (GivesRules name margin [] ds) g g
+  none-left g ds none_alone =
+      none-taken (GivesRules name margin [] []) g (record { rules = refl; places = no_lines; none_told = refl })
 
-  piece-ended : (rows : List NumberedLine) (g : RulesGathered) → length rows ≡ 0
-      → TakesMore (GivesPiece name margin rows) g g
-  piece-ended [] g e = none-taken (GivesPiece name margin []) g no_lines
+  piece-ended : (rows : List NumberedLine) (g : RulesGathered) → length rows ≡ 0 → TakesRules name margin rows g g
+  piece-ended [] g e = none-left g
   piece-ended (row ∷ rows) g e = absurd (omega arith)
 
   pub piece-all : (lines : List TextLine) (at : ℕ) (g : RulesGathered) → length lines ≤ at
-      → TakesMore (GivesPiece name margin (map numbered (drop at lines))) g g
+      → TakesRules name margin (map numbered (drop at lines)) g g
   piece-all lines at g le = piece-ended _ g
       (omega (arith, length-map (drop at lines) numbered, length-drop at lines))
 
+  -- a rule, and those of the lines after it
+  rules-both : (row : NumberedLine) (rows : List NumberedLine) (d : Definition) (ds : List Definition)
+      (a b : RulesGathered) → a ≡ one_rule (place_with (take (rule_lines (row ∷ rows)) (row ∷ rows))) (given_by d)
+      → GivesRules name margin (drop (rule_lines (row ∷ rows)) (row ∷ rows)) ds b
+      → GivesRules name margin (row ∷ rows) (d ∷ ds) (both_given a b)
+  rules-both row rows d ds a b e h =
+      rw e (record {
+        rules = ap (λ (rules : List RuleGiven). given_by d ∷ rules) h.rules;
+        places = next_rule h.places;
+        none_told = h.none_told;
+      })
+
+  rule-next : (row : NumberedLine) (rows own : List NumberedLine) (g h end : RulesGathered)
+      → own ≡ take (rule_lines (row ∷ rows)) (row ∷ rows) → TakesRule name margin own g h
+      → TakesRules name margin (drop (rule_lines (row ∷ rows)) (row ∷ rows)) h end → (ds : List Definition)
+      → SpellAlone margin (row ∷ rows) ds → TakesMore (GivesRules name margin (row ∷ rows) ds) g end
+  rule-next row rows own g h end e one more ds (next_alone {d = d} {ds = others} reads alone) =
+      let first = one_rule (place_with (take (rule_lines (row ∷ rows)) (row ∷ rows))) (given_by d) in
+      let here : TakesRule name margin (take (rule_lines (row ∷ rows)) (row ∷ rows)) g h =
+      subst (λ (xs : List NumberedLine). TakesRule name margin xs g h) e one in
+      more-taken (λ x. x ≡ first) (GivesRules name margin (drop (rule_lines (row ∷ rows)) (row ∷ rows)) others)
+      (GivesRules name margin (row ∷ rows) (d ∷ others)) g h end (λ a b x y. rules-both row rows d others a b x y)
+      (first, refl, here d reads) (more others alone)
+
   rule-first : (rows own : List NumberedLine) (g h end : RulesGathered) → 0 < length rows
-      → own ≡ take (rule_lines rows) rows → TakesMore (GivesRule name margin own) g h
-      → TakesMore (GivesPiece name margin (drop (rule_lines rows) rows)) h end
-      → TakesMore (GivesPiece name margin rows) g end
+      → own ≡ take (rule_lines rows) rows → TakesRule name margin own g h
+      → TakesRules name margin (drop (rule_lines rows) rows) h end → TakesRules name margin rows g end
   rule-first [] own g h end lt e one more = absurd (omega arith)
-  rule-first (row ∷ rows) own g h end lt e one more =
-      let first = take (rule_lines (row ∷ rows)) (row ∷ rows) in
-      let last = drop (rule_lines (row ∷ rows)) (row ∷ rows) in
-      more-taken (GivesRule name margin first) (GivesPiece name margin last) (GivesPiece name margin (row ∷ rows))
-      g h end (λ a b x y. next_rule x y)
-      (subst (λ (xs : List NumberedLine). TakesMore (GivesRule name margin xs) g h) e one) more
+  rule-first (row ∷ rows) own g h end lt e one more = rule-next row rows own g h end e one more
 
   pub rule-more : (lines rest own : List TextLine) (at n : ℕ) (g h end : RulesGathered) → at < length lines
       → rest ≡ drop at lines → n ≡ rule_lines (map numbered rest) → own ≡ take n rest
-      → TakesMore (GivesRule name margin (map numbered own)) g h
-      → TakesMore (GivesPiece name margin (map numbered (drop (at + n) lines))) h end
-      → TakesMore (GivesPiece name margin (map numbered (drop at lines))) g end
+      → TakesRule name margin (map numbered own) g h
+      → TakesRules name margin (map numbered (drop (at + n) lines)) h end
+      → TakesRules name margin (map numbered (drop at lines)) g end
   rule-more lines rest own at n g h end lt from size front one more =
       let rows : List NumberedLine = map numbered (drop at lines) in
       let same : map numbered rest ≡ rows = ap (λ (xs : List TextLine). map numbered xs) from in
@@ -125,22 +143,51 @@ module _ (name : List ℕ) (margin : ℕ) where
       ∙ sym (drop-map numbered n (drop at lines)) ∙ ap (λ (k : ℕ). drop k rows) count in
       rule-first rows (map numbered own) g h end
       (omega (arith, lt, length-map (drop at lines) numbered, length-drop at lines)) first one
-      (subst (λ (xs : List NumberedLine). TakesMore (GivesPiece name margin xs) h end) last more)
+      (subst (λ (xs : List NumberedLine). TakesRules name margin xs h end) last more)
+
+-- a piece whose rules read alone
+read-taken : (name : List ℕ) (lines : List NumberedLine) (g h : RulesGathered) → ReadAlone lines
+    → TakesRules name (margin_at lines) lines g h → TakesMore (GivesPiece name lines) g h
+read-taken name lines g h r takes =
+    let like = r.like in
+    let one = takes like.alone like.are in
+    let gives = one.1 in (
+      one.0,
+      record {
+        definitions = r.definitions;
+        reads = r.reads;
+        gives = record {
+          rules = gives.rules ∙ sym (all-given r.definitions like.alone like.same);
+          places = gives.places;
+          none_told = gives.none_told;
+        };
+      },
+      one.2,
+    )
+
+each-at : {X : Type 0} (P : X → Type 0) (xs : List X) (i : ℕ) (d : X) → Each P xs → i < length xs → P (get_or xs i d)
+each-at P [] i d h lt = absurd (omega arith)
+each-at P (x ∷ xs) zero d (each_next p h) lt = p
+each-at P (x ∷ xs) (suc i) d (each_next p h) lt = each-at P xs i d h (omega arith)
 
 module _ (name : List ℕ) (kept : List NumberedLine) (all : List Found) (i : ℕ) (d : Found) where
   pub piece-more : (first count : ℕ) (lines : List TextLine) (g h end : RulesGathered) → i < length all
       → get_or all i d ≡ found.Piece first count → map numbered lines ≡ piece_at kept first count
-      → TakesMore (GivesPiece name (margin_at (map numbered lines)) (map numbered lines)) g h
+      → Each (IsReadAlone kept) all
+      → TakesRules name (margin_at (map numbered lines)) (map numbered lines) g h
       → TakesMore (GivesFound name kept (drop (i + 1) all)) h end → TakesMore (GivesFound name kept (drop i all)) g end
-  piece-more first count lines g h end lt is rows one more =
+  piece-more first count lines g h end lt is rows alone takes more =
       let here : drop i all ≡ found.Piece first count ∷ drop (i + 1) all =
       one-behind all i d lt ∙ ap (λ (x : Found). x ∷ drop (i + 1) all) is in
       let piece = piece_at kept first count in
       let others = drop (i + 1) all in
+      let reads : ReadAlone piece =
+      subst (λ (x : Found). IsReadAlone kept x) is (each-at (IsReadAlone kept) all i d alone lt) in
+      let one = read-taken name piece g h reads
+      (subst (λ (xs : List NumberedLine). TakesRules name (margin_at xs) xs g h) rows takes) in
       subst (λ (xs : List Found). TakesMore (GivesFound name kept xs) g end) (sym here)
-      (more-taken (GivesPiece name (margin_at piece) piece) (GivesFound name kept others)
-      (GivesFound name kept (found.Piece first count ∷ others)) g h end (λ a b x y. next_piece x y)
-      (subst (λ (xs : List NumberedLine). TakesMore (GivesPiece name (margin_at xs) xs) g h) rows one) more)
+      (more-taken (GivesPiece name piece) (GivesFound name kept others)
+      (GivesFound name kept (found.Piece first count ∷ others)) g h end (λ a b x y. next_piece x y) one more)
 
   pub no_piece-more : (first : ℕ) (fault : ReadFault) (lines : List NumberedLine) (g : RulesGathered) (told : List ℕ)
       (end : RulesGathered) → i < length all → get_or all i d ≡ found.NotAbnf first fault → lines ≡ drop first kept

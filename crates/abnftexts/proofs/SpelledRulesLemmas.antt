@@ -1,49 +1,38 @@
 -- The printed grammar spells what the lines of its rules spell, one rule's behind another's.
 -- Serves: joined_reading
-use Rattle.std.proofs.Common.{◌≡◌, ◌≢◌, ℕ, zero, suc, ◌+◌, ◌/◌, ◌%◌, ◌≤◌, ◌==◌, ◌||◌, ◌&&◌, nat_lt, Bool, true}
-use Rattle.std.proofs.Common.{false, cond, Option, Some, None, List, [], ◌∷◌, ◌++◌, length, drop, map, refl}
-use Rattle.std.proofs.Common.{sym, ap, ◌∙◌, arith, inl, inr, subst, append-nil, append_assoc, min, decimal}
+use Rattle.std.proofs.Common.{◌≡◌, ◌≢◌, ℕ, zero, suc, ◌+◌, ◌/◌, ◌%◌, ◌≤◌, ◌==◌, ◌||◌, nat_lt, Bool, true, false, cond}
+use Rattle.std.proofs.Common.{Option, Some, None, List, [], ◌∷◌, ◌++◌, length, map, refl, sym, ap, ◌∙◌, arith, inl, inr}
+use Rattle.std.proofs.Common.{subst, append-nil, decimal}
 use Rattle.std.proofs.lemmas.Bool.{cases_Bool}
 use Rattle.std.proofs.lemmas.Bool.Decides.{nat_tests}
 use Rattle.std.proofs.lemmas.List.{map-append}
-use Rattle.std.specs.Char.{is_ascii_alphabetic}
 use Rattle.std.specs.Fmt.{digit_glyph, digits_onto, digits}
 use Rattle.lexer.specs.SliceEnds.{piece, no_more}
 use Rattle.lexer.specs.declared.limits.TheConstants.{MAX_GRAMMAR}
 use Rattle.diagnostics.specs.ShownBytes.{hex_digit, shown, shown_byte}
-use Rattle.abnfblocks.specs.TextLines.{NumberedLine}
 use Rattle.ruletable.specs.declared.fault.ReadFault.{ReadFault}
 use Rattle.ruletable.specs.declared.fault.ReadFault.TheVariants as faults
 use Rattle.abnfread.specs.AbnfReading.{IsFaultOf, Reads}
 use Rattle.abnfread.specs.AbnfSlices.{Run, none, more, White, blank, comment, is_inside}
-use Rattle.abnfread.specs.AbnfSpelling.{definition}
-use Rattle.abnfread.specs.AbnfTable.{first_body, firsts}
-use Rattle.abnfread.specs.CoreRules.{core_list, nowhere}
-use Rattle.abnfread.specs.Element.{Definition, body_of}
-use Rattle.abnfread.specs.MarkedTokens.{indented}
+use Rattle.abnfread.specs.Element.{Definition}
 use Rattle.abnfread.proofs.AbnfFaultLemmas.{no-fault, one-reading}
-use Rattle.abnfblocks.specs.RuleLines.{begins_letter, begins_by, behind_margin, behind_name, margin_of}
-use Rattle.abnfblocks.specs.TextBlocks.{block_text, cut_line, opens_block}
-use Rattle.abnftexts.specs.GivenRules.{RuleGiven}
-use Rattle.abnftexts.specs.LinkedTexts.{EndsLine, lf, behind_byte, SpellsAtMargin, moved_definition}
-use Rattle.abnftexts.proofs.LinkedTextLemmas.{spells-linked, spells-behind, spells-reads, reads-spells}
-use Rattle.abnftexts.proofs.LinkedTextLemmas.{nothing-reads}
-use Rattle.abnftexts.specs.GivenRules.{fates_of}
+use Rattle.abnfblocks.specs.TextBlocks.{block_text}
+use Rattle.abnftexts.specs.GivenRules.{RuleGiven, fates_of}
 use Rattle.abnftexts.specs.JoinedRules.{joined_order}
 use Rattle.abnftexts.specs.JoinedGrammar.{AreTextsJoined, GrammarJoined, comment_before, first_number, goes_behind_it}
 use Rattle.abnftexts.specs.JoinedGrammar.{printed_behind, rule_printed, standing_rules}
+use Rattle.abnftexts.specs.LinkedTexts.{EndsLine, lf, SpellsAtMargin, moved_definition}
 use Rattle.abnftexts.specs.RulesGathered.{NamedText, RuleLines}
-use Rattle.abnftexts.specs.SpelledRules.{AreSpelled, given_by, no_rules, next_rule, joined_places, joined_rules}
-use Rattle.abnftexts.specs.SpelledRules.{unplaced}
+use Rattle.abnftexts.specs.SpelledRules.{AreSpelled, no_rules, next_rule, joined_places, joined_rules, unplaced}
 use Rattle.abnftexts.specs.TextPlaces.{place_shown}
-use Rattle.abnftexts.specs.TextRules.{IsFirstGiven, SpellRule, adds_first}
-use Rattle.abnftexts.proofs.ClearLinesLemmas.{AreInside, IsClear}
-use Rattle.abnftexts.proofs.EachLemmas.{Each, each_none, each_next, each-both, each-drop}
-use Rattle.abnftexts.proofs.OneDefinitionLemmas.{text-one}
-use Rattle.abnftexts.proofs.OneRuleLemmas.{Later, block-later, indented-inner, inner-later}
-use Rattle.abnftexts.proofs.RuleSignLemmas.{sign-adds}
-use Rattle.abnftexts.proofs.OwnLinesLemmas.{OwnLines, ArePlaced, none_placed}
-use Rattle.abnftexts.proofs.OwnLinesLemmas.{next_placed, at-margin, placed-ordered, placed-standing, texts-placed}
+use Rattle.abnftexts.specs.TextRules.{given_by}
+use Rattle.abnftexts.proofs.ClearLinesLemmas.{AreInside}
+use Rattle.abnftexts.proofs.EachLemmas.{each_none, each_next, each-both}
+use Rattle.abnftexts.proofs.LinkedTextLemmas.{nothing-reads, spells-linked, spells-behind, spells-reads}
+use Rattle.abnftexts.proofs.OwnLinesLemmas.{OwnLines}
+use Rattle.abnftexts.proofs.PlacedRulesLemmas.{ArePlaced, none_placed, next_placed, placed-ordered, placed-standing}
+use Rattle.abnftexts.proofs.PlacedRulesLemmas.{texts-placed}
+use Rattle.abnftexts.proofs.RuleTextLemmas.{SameUnplaced, all-given, line-behind, moved-same, rule-text, text-spells}
 
 inside-hex : (d : ℕ) → is_inside (hex_digit d) ≡ true
 inside-hex d = elim (cases_Bool (nat_lt d 10)) [
@@ -98,136 +87,6 @@ run-inside : {bytes : List ℕ} (r : List ℕ) → AreInside bytes → Run is_in
 run-inside r each_none = none
 run-inside r (each_next p h) = more p (run-inside r h)
 
-line-behind : (front : List ℕ) {t : List ℕ} → EndsLine t → EndsLine (front ++ t)
-line-behind [] l = l
-line-behind (b ∷ front) l = behind_byte (line-behind front l)
-
--- The text of a rule begins with a letter, and LF ends it. Its first line tells the sign, and no other one begins a
--- rule.
-record RuleText (m : ℕ) (lines : List NumberedLine) : Type 0 where
-  first : ℕ
-  tail : List ℕ
-  others : List ℕ
-  whole : block_text m lines ≡ first ∷ (tail ++ 10 ∷ others)
-  letter : is_ascii_alphabetic first ≡ true
-  line : EndsLine (block_text m lines)
-  later : Later (indented (Some 0) first) (tail ++ 10 ∷ others)
-  sign : begins_by 61 (behind_margin (behind_name (first ∷ tail))) ≡ true
-  adds_is : adds_first lines ≡ begins_by 47 (drop 1 (behind_margin (behind_name (first ∷ tail))))
-
-record LetterFirst (t : List ℕ) : Type 0 where
-  first : ℕ
-  tail : List ℕ
-  is_letter : t ≡ first ∷ tail
-  letter : is_ascii_alphabetic first ≡ true
-
-letter-first : (t : List ℕ) → begins_letter t ≡ true → LetterFirst t
-letter-first [] e = cc
-letter-first (b ∷ t) e = record { first = b; tail = t; is_letter = refl; letter = e }
-
-letter-later : {b : ℕ} {tail rest : List ℕ} → AreInside (b ∷ tail) → Later (Some 0) rest
-    → Later (indented (Some 0) b) (tail ++ 10 ∷ rest)
-letter-later {b} (each_next p h) r = inner-later (indented (Some 0) b) (indented-inner (Some 0) b p) h r
-
-each-first : {X : Type 0} {P : X → Type 0} {x : X} {xs : List X} → Each P (x ∷ xs) → P x
-each-first (each_next p h) = p
-
-each-rest : {X : Type 0} {P : X → Type 0} {x : X} {xs : List X} → Each P (x ∷ xs) → Each P xs
-each-rest (each_next p h) = h
-
-lines-end : (m : ℕ) (line : NumberedLine) (lines : List NumberedLine) → EndsLine (block_text m (line ∷ lines))
-lines-end m line [] =
-    let e = append-nil (cut_line m line) in
-    rw e (line-behind (drop (min m (margin_of line.bytes)) line.bytes) lf)
-lines-end m line (next ∷ lines) = line-behind (cut_line m line) (lines-end m next lines)
-
-first-true : (x y : Bool) → (x && y) ≡ true → x ≡ true
-first-true true y e = refl
-first-true false y e = cc
-
-second-true : (x y : Bool) → (x && y) ≡ true → y ≡ true
-second-true true y e = e
-second-true false y e = cc
-
-min-same : (m : ℕ) → min m m ≡ m
-min-same m = omega arith
-
-own-line : {m : ℕ} {lines : List NumberedLine} (own : OwnLines m lines) → EndsLine (block_text m lines)
-own-line {m} own = subst EndsLine (sym (ap (block_text m) own.whole)) (lines-end m own.line own.others)
-
-rule-text : {m : ℕ} {lines : List NumberedLine} → OwnLines m lines → RuleText m lines
-rule-text {m} {lines} own =
-    let line = own.line in
-    let bytes = line.bytes in
-    let margin = at-margin line own.opens in
-    let opens : opens_block line ≡ true = second-true (margin_of bytes == m) (opens_block line) own.opens in
-    let letter : begins_letter (behind_margin bytes) ≡ true = first-true (begins_letter (behind_margin bytes))
-    (begins_by 61 (behind_margin (behind_name (behind_margin bytes)))) opens in
-    let sign : begins_by 61 (behind_margin (behind_name (behind_margin bytes))) ≡ true =
-    second-true (begins_letter (behind_margin bytes))
-    (begins_by 61 (behind_margin (behind_name (behind_margin bytes)))) opens in
-    let cut : min m (margin_of bytes) ≡ margin_of bytes =
-    ap (λ (k : ℕ). min k (margin_of bytes)) (sym margin) ∙ min-same (margin_of bytes) in
-    let others = block_text m own.others in
-    let x = letter-first (behind_margin bytes) letter in
-    let at = x.is_letter in
-    let clear : Each IsClear (line ∷ own.others) = subst (Each IsClear) own.whole own.clear in
-    let first_clear = each-first clear in
-    let inside : AreInside (x.first ∷ x.tail) = subst AreInside at (each-drop (margin_of bytes) first_clear.inside) in
-    let text : block_text m lines ≡ behind_margin bytes ++ 10 ∷ others = ap (block_text m) own.whole
-    ∙ ap (λ (k : ℕ). (drop k bytes ++ 10 ∷ []) ++ others) cut
-    ∙ append_assoc (behind_margin bytes) (10 ∷ []) others in
-    record {
-      first = x.first;
-      tail = x.tail;
-      others = others;
-      whole = text ∙ ap (λ (t : List ℕ). t ++ 10 ∷ others) at;
-      letter = x.letter;
-      line = own-line own;
-      later = letter-later inside (block-later m (each-rest clear) own.goes own.begins_none);
-      sign = subst (λ (t : List ℕ). begins_by 61 (behind_margin (behind_name t)) ≡ true) at sign;
-      adds_is = ap adds_first own.whole
-          ∙ ap (λ (t : List ℕ). begins_by 47 (drop 1 (behind_margin (behind_name t)))) at;
-    }
-
-text-spells : {m : ℕ} {lines : List NumberedLine} {ds : List Definition} (t : RuleText m lines)
-    → Reads (block_text m lines) ds → SpellsAtMargin (t.first ∷ (t.tail ++ 10 ∷ t.others)) ds
-text-spells {ds = ds} t h = reads-spells t.letter (subst (λ (x : List ℕ). Reads x ds) t.whole h)
-
--- what spells one definition
-given-first : (lines : List NumberedLine) {ds : List Definition} {given : RuleGiven} (d : Definition) → ds ≡ d ∷ []
-    → adds_first lines ≡ d.adds → IsFirstGiven (firsts (body_of core_list) [] ds) (adds_first lines) given
-    → map given_by ds ≡ given ∷ []
-given-first lines {given = given} d one adds h =
-    let here : given ≡ record { adds = adds_first lines; name = d.name; body = first_body (body_of core_list) d } =
-    rw one at h in
-    let same : given ≡ given_by d = here ∙ ap (λ (b : Bool). record {
-      adds = b;
-      name = d.name;
-      body = first_body (body_of core_list) d;
-    }) adds in
-    ap (map given_by) one ∙ ap (λ (r : RuleGiven). r ∷ []) (sym same)
-
--- the rule that lines of its own spell is the one definition that they read as
-rule-given : {m : ℕ} {lines : List NumberedLine} {given : RuleGiven} → OwnLines m lines
-    → (s : SpellRule m lines given) → map given_by s.definitions ≡ given ∷ []
-rule-given {lines = lines} own s =
-    let t = rule-text own in
-    let h = text-spells t s.reads in
-    let one = text-one t.first (t.tail ++ 10 ∷ t.others) t.later h.are_tokens h.say h.grammar in
-    let words = one.whole in
-    let adds = sign-adds t.first t.tail t.others t.letter t.sign h.are_tokens (let y = h.say in rw words at y)
-    one.assigns in
-    given-first lines (definition one.assigns_more one.name one.span one.body) one.is_one (t.adds_is ∙ adds) s.is_first
-
--- definitions that differ in where names stand alone
-abbrev pub SameUnplaced : List Definition → List Definition → Type 0
-SameUnplaced a b = map unplaced a ≡ map unplaced b
-
-moved-same : (n : ℕ) (ds : List Definition) → SameUnplaced (map (moved_definition n) ds) ds
-moved-same n [] = refl
-moved-same n (d ∷ ds) = ap (λ (x : List RuleGiven). unplaced d ∷ x) (moved-same n ds)
-
 -- the text spells these definitions, but for places, and LF ends it
 pub record SpellsLike (text : List ℕ) (alone : List Definition) : Type 0 where
   pub definitions : List Definition
@@ -260,10 +119,7 @@ row-spells : (before : Option RuleLines) (place : RuleLines) {ds : List Definiti
     → SpellsLike (rule_printed before place) ds
 row-spells before place own h =
     let t = rule-text own in
-    behind-comment before place (at-whole t.whole (text-spells t h)) t.line
-  where
-    at-whole : {t u : List ℕ} {ds : List Definition} → t ≡ u → SpellsAtMargin u ds → SpellsAtMargin t ds
-    at-whole e h = rw e h
+    behind-comment before place (text-spells t.whole t.letter h) t.line
 
 linked-like : {a b : List ℕ} {first second : List Definition} → SpellsLike a first → SpellsLike b second
     → SpellsLike (a ++ b) (first ++ second)
@@ -289,39 +145,20 @@ pub rows-spell : (before : Option RuleLines) (place : RuleLines) {places : List 
 rows-spell before place (next_placed own spells none_placed) =
     let like = row-spells before place own spells.reads in
     record {
-      alone = spells.definitions ++ [];
+      alone = spells.definition ∷ [];
       are = next_rule spells no_rules;
-      given = ap (map given_by) (append-nil spells.definitions) ∙ rule-given own spells;
-      like = (let e = append-nil (rule_printed before place) in let f = append-nil spells.definitions in
-          rw (e, f) like);
+      given = ap (λ (r : RuleGiven). r ∷ []) (sym spells.is);
+      like = (let e = append-nil (rule_printed before place) in rw e like);
     }
 rows-spell before place (next_placed {given} own spells (next_placed {place = next} theirs spelled h)) =
     let rest = rows-spell (Some place) next (next_placed theirs spelled h) in
     record {
-      alone = spells.definitions ++ rest.alone;
+      alone = spells.definition ∷ rest.alone;
       are = next_rule spells rest.are;
-      given = map-append given_by spells.definitions rest.alone
-          ∙ ap (λ (z : List RuleGiven). z ++ map given_by rest.alone) (rule-given own spells)
+      given = ap (λ (r : RuleGiven). r ∷ map given_by rest.alone) (sym spells.is)
           ∙ ap (λ (z : List RuleGiven). given ∷ z) rest.given;
       like = linked-like (row-spells before place own spells.reads) rest.like;
     }
-
--- it is told without its place
-abbrev given_of : RuleGiven → RuleGiven
-given_of r = given_by (record { adds = r.adds; name = r.name; span = nowhere; body = r.body })
-
-given-same : (x y : Definition) → unplaced x ≡ unplaced y → given_by x ≡ given_by y
-given-same x y e = ap given_of e
-
-all-given : (xs ys : List Definition) → SameUnplaced xs ys → map given_by xs ≡ map given_by ys
-all-given [] [] e = refl
-all-given [] (y ∷ ys) e = cc
-all-given (x ∷ xs) [] e = cc
-all-given (x ∷ xs) (y ∷ ys) e =
-    let first : unplaced x ≡ unplaced y = cc in
-    let rest : map unplaced xs ≡ map unplaced ys = cc in
-    ap (λ (r : RuleGiven). r ∷ map given_by xs) (given-same x y first)
-    ∙ ap (λ (rs : List RuleGiven). given_by y ∷ rs) (all-given xs ys rest)
 
 -- the rules that are printed have lines of their own
 joined-placed : {texts : List NamedText} {j : GrammarJoined} (a : AreTextsJoined texts j)

@@ -1,6 +1,6 @@
 -- What texts give is one list of rules, and one text that is told; and the names that rules use are one list.
 -- Serves: one_joining
-use Rattle.std.proofs.Common.{◌≡◌, ◌≢◌, ℕ, Bool, List, [], ◌∷◌, ◌++◌, None, drop, map, refl, sym, ap, ◌∙◌, subst}
+use Rattle.std.proofs.Common.{◌≡◌, ◌≢◌, ℕ, List, [], ◌∷◌, ◌++◌, None, take, drop, map, refl, sym, ap, ◌∙◌, subst}
 use Rattle.std.specs.List.{flat_map}
 use Rattle.lexer.specs.TokenLists.{Tok}
 use Rattle.diagnostics.specs.BodyMentions.{mentions_in}
@@ -12,29 +12,31 @@ use Rattle.abnfexplain.specs.AbnfNoteLines.{sign_of}
 use Rattle.ruletable.specs.declared.fault.ReadFault.{ReadFault}
 use Rattle.ruletable.specs.declared.fault.ReadFault.TheVariants as faults
 use Rattle.abnfread.specs.AbnfReading.{IsFaultOf, Reads}
-use Rattle.abnfread.specs.AbnfTable.{firsts}
-use Rattle.abnfread.specs.CoreRules.{core_list}
-use Rattle.abnfread.specs.Element.{Definition, Rule, body_of}
+use Rattle.abnfread.specs.Element.{Definition}
 use Rattle.abnftexts.specs.GivenRules.{RuleGiven}
 use Rattle.abnfblocks.specs.Furniture.{KeepsLines}
 use Rattle.abnfblocks.specs.TextLines.{NumberedLine}
 use Rattle.abnfblocks.specs.FoundBlocks.{AreFound}
-use Rattle.abnfblocks.specs.TextBlocks.{block_text}
+use Rattle.abnfblocks.specs.TextBlocks.{block_text, margin_at, rule_lines}
 use Rattle.abnfblocks.specs.declared.found.Found.{Found}
-use Rattle.abnftexts.specs.RulesGathered.{NamedText, RuleLines, RulesGathered, both_given, one_rule, told_alone}
+use Rattle.abnftexts.specs.RulesGathered.{NamedText, RuleLines, RulesGathered, both_given, told_alone}
 use Rattle.abnftexts.specs.TextPlaces.{not_abnf_told}
-use Rattle.abnftexts.specs.TextRules.{GivesFound, GivesPiece, GivesRule, GivesText, GiveTexts, IsFirstGiven, SpellRule}
-use Rattle.abnftexts.specs.TextRules.{a_rule, adds_first, next_piece, next_rule, next_text, no_lines, no_piece, no_rule}
-use Rattle.abnftexts.specs.TextRules.{no_texts, none_found}
+use Rattle.abnftexts.specs.TextRules.{AreRuleLines, GivesFound, GivesPiece, GivesText, GiveTexts, given_by, next_piece}
+use Rattle.abnftexts.specs.TextRules.{next_rule, next_text, no_lines, no_piece, no_texts, none_found}
 use Rattle.abnftexts.specs.UsedNames.{AreRuleUses, AreNameUses, UsedName, next_uses, no_rules, used_at}
-
-first-same : (rules : List Rule) (adds : Bool) (a b : RuleGiven) → IsFirstGiven rules adds a → IsFirstGiven rules adds b
-    → a ≡ b
-first-same [] adds a b x y = absurd x
-first-same (rule ∷ rules) adds a b x y = x ∙ sym y
 
 both-same : (a b c d : RulesGathered) → a ≡ b → c ≡ d → both_given a c ≡ both_given b d
 both-same a b c d e f = rw (e, f) refl
+
+abbrev gathered_with : List RuleLines → List RuleGiven → List ℕ → RulesGathered
+gathered_with places rules told = record { places = places; rules = rules; told = told }
+
+all-fields : (p q : List RuleLines) (r s : List RuleGiven) (t u : List ℕ) → p ≡ q → r ≡ s → t ≡ u
+    → gathered_with p r t ≡ gathered_with q s u
+all-fields p q r s t u e f g = rw (e, f, g) refl
+
+all-same : (a b : RulesGathered) → a.places ≡ b.places → a.rules ≡ b.rules → a.told ≡ b.told → a ≡ b
+all-same a b e f g = all-fields a.places b.places a.rules b.rules a.told b.told e f g
 
 -- what is known of readings, of lines that are kept, of what is found, and of tokens
 pub record OneReading : Type 0 where
@@ -48,36 +50,29 @@ pub record OneReading : Type 0 where
   pub tokens : (text : List ℕ) (a b : List (Tok AbnfKind)) → AreTokens text a → AreTokens text b → a ≡ b
 
 module _ (one : OneReading) where
-  spell-same : (margin : ℕ) (lines : List NumberedLine) (a b : RuleGiven) → SpellRule margin lines a
-      → SpellRule margin lines b → a ≡ b
-  spell-same margin lines a b x y =
-      let same : x.definitions ≡ y.definitions =
-      one.definitions (block_text margin lines) x.definitions y.definitions x.reads y.reads in
-      let first : IsFirstGiven (firsts (body_of core_list) [] y.definitions) (adds_first lines) a =
-      subst (λ (ds : List Definition). IsFirstGiven (firsts (body_of core_list) [] ds) (adds_first lines) a) same
-      x.is_first in
-      first-same (firsts (body_of core_list) [] y.definitions) (adds_first lines) a b first y.is_first
-
   module _ (name : List ℕ) where
-    rule-same : {margin : ℕ} {lines : List NumberedLine} {a b : RulesGathered} → GivesRule name margin lines a
-        → GivesRule name margin lines b → a ≡ b
-    rule-same {margin} {lines} (a_rule x) (a_rule y) =
-        ap (λ (r : RuleGiven). one_rule (record { name = name; margin = margin; lines = lines }) r)
-        (spell-same margin lines _ _ x y)
-    rule-same (a_rule x) (no_rule f n) = absurd (one.no_fault _ _ _ f n x.reads)
-    rule-same (no_rule f n) (a_rule y) = absurd (one.no_fault _ _ _ f n y.reads)
-    rule-same {margin} {lines} (no_rule f n) (no_rule g m) =
-        ap (λ (fault : ReadFault). told_alone (not_abnf_told name lines fault)) (one.one_fault _ _ _ f g n m)
+    lines-same : {margin : ℕ} {lines : List NumberedLine} {a b : List RuleLines} → AreRuleLines name margin lines a
+        → AreRuleLines name margin lines b → a ≡ b
+    lines-same no_lines no_lines = refl
+    lines-same {margin} (next_rule {line} {lines} h) (next_rule k) = ap (λ (places : List RuleLines). record {
+      name = name;
+      margin = margin;
+      lines = take (rule_lines (line ∷ lines)) (line ∷ lines);
+    } ∷ places) (lines-same h k)
 
-    piece-same : {margin : ℕ} {lines : List NumberedLine} {a b : RulesGathered} → GivesPiece name margin lines a
-        → GivesPiece name margin lines b → a ≡ b
-    piece-same no_lines no_lines = refl
-    piece-same (next_rule x h) (next_rule y k) = both-same _ _ _ _ (rule-same x y) (piece-same h k)
+    piece-same : {lines : List NumberedLine} (a b : RulesGathered) → GivesPiece name lines a → GivesPiece name lines b
+        → a ≡ b
+    piece-same {lines} a b x y =
+        let same = one.definitions (block_text (margin_at lines) lines) x.definitions y.definitions x.reads y.reads in
+        let here = x.gives in
+        let there = y.gives in
+        all-same a b (lines-same here.places there.places)
+        (here.rules ∙ ap (map given_by) same ∙ sym there.rules) (here.none_told ∙ sym there.none_told)
 
     found-same : {kept : List NumberedLine} {all : List Found} {a b : RulesGathered} → GivesFound name kept all a
         → GivesFound name kept all b → a ≡ b
     found-same none_found none_found = refl
-    found-same (next_piece x h) (next_piece y k) = both-same _ _ _ _ (piece-same x y) (found-same h k)
+    found-same (next_piece x h) (next_piece y k) = both-same _ _ _ _ (piece-same _ _ x y) (found-same h k)
     found-same {kept} (no_piece {first} {fault} h) (no_piece k) =
         ap (λ (x : RulesGathered). both_given (told_alone (not_abnf_told name (drop first kept) fault)) x)
         (found-same h k)

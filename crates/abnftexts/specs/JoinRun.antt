@@ -1,5 +1,5 @@
 -- What a run states that joins texts.
-use Rattle.std.specs.Prelude.{◌≡◌, ◌≢◌, ℕ, ◌==◌, Bool, false, List, [], length, Some, if◌then◌else◌}
+use Rattle.std.specs.Prelude.{◌≡◌, ◌≢◌, ℕ, ◌==◌, Bool, false, List, [], length, if◌then◌else◌}
 use Rattle.ruletable.specs.declared.fault.ReadFault.{ReadFault}
 use Rattle.ruletable.specs.declared.fault.ReadFault.TheVariants as faults
 use Rattle.abnfread.specs.AbnfReading.{Reads, IsFaultOf}
@@ -11,7 +11,6 @@ use Rattle.toolrun.specs.Input.{Input}
 use Rattle.toolrun.specs.Plan.{stopped}
 use Rattle.toolrun.specs.Reply.{Reply}
 use Rattle.toolrun.specs.Status.{code_of}
-use Rattle.toolrun.specs.Stream.{Stream}
 use Rattle.toolrun.specs.declared.status.Status.{Status}
 use Rattle.toolrun.specs.declared.status.Status.TheVariants as status
 use Rattle.toolrun.specs.declared.stop.Stop.TheVariants.{NoMemory, Refused}
@@ -63,7 +62,3 @@ pub data JoinStates (texts : List NamedText) (form : JoinForm) (input : Input) :
   joins : {j : GrammarJoined} {reply : Reply} → AreTextsJoined texts j → JoinedReply form j reply
       → JoinStates texts form input j.told reply
   no_room : JoinStates texts form input [] (stopped NoMemory)
-
--- a reader that has nothing, and is not asked
-abbrev pub no_input : Stream
-no_input = record { old = Some []; new = Some []; was = false; failed = false }

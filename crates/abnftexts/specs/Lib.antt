@@ -2,7 +2,6 @@ pub mod CodeUses
 pub mod JoinRun
 pub mod JoinedGrammar
 pub mod JoinedViews
-pub mod OwnReadings
 pub mod RulesGathered
 pub mod SpelledRules
 pub mod TakenRules

@@ -1,9 +1,7 @@
 -- What the rules that are printed spell.
-use Rattle.std.specs.Prelude.{List, [], ◌∷◌, ◌++◌, slice_get}
+use Rattle.std.specs.Prelude.{List, [], ◌∷◌, slice_get}
 use Rattle.std.specs.List.{filter_map}
-use Rattle.abnfread.specs.AbnfTable.{first_body}
-use Rattle.abnfread.specs.CoreRules.{core_list}
-use Rattle.abnfread.specs.Element.{Definition, body_of}
+use Rattle.abnfread.specs.Element.{Definition}
 use Rattle.abnftexts.specs.GivenRules.{RuleGiven}
 use Rattle.abnftexts.specs.JoinedRules.{joined_order}
 use Rattle.abnftexts.specs.JoinedGrammar.{ordered_rules, standing_places, standing_rules}
@@ -17,18 +15,13 @@ joined_rules g = filter_map (slice_get (standing_rules g)) (joined_order (standi
 abbrev pub joined_places : RulesGathered → List RuleLines
 joined_places g = ordered_rules (standing_places g) (joined_order (standing_rules g))
 
--- The rule that a definition is, wherever its name stands: what adds to a core rule (RFC 5234, appendix B.1) has that
--- rule's alternatives before its own.
-abbrev pub given_by : Definition → RuleGiven
-given_by d = record { adds = d.adds; name = d.name; body = first_body (body_of core_list) d }
-
 -- a definition, wherever its name stands
 abbrev pub unplaced : Definition → RuleGiven
 unplaced d = record { adds = d.adds; name = d.name; body = d.body }
 
--- The definitions that the lines of rules spell, each rule's read alone, one rule's behind another's.
+-- The definitions that the lines of rules spell, each rule's read alone, one after another.
 pub data AreSpelled : List RuleLines → List RuleGiven → List Definition → Type 0 where
   no_rules : AreSpelled [] [] []
   next_rule : {place : RuleLines} {given : RuleGiven} {places : List RuleLines} {rules : List RuleGiven}
       {others : List Definition} (spells : SpellRule place.margin place.lines given) → AreSpelled places rules others
-      → AreSpelled (place ∷ places) (given ∷ rules) (spells.definitions ++ others)
+      → AreSpelled (place ∷ places) (given ∷ rules) (spells.definition ∷ others)

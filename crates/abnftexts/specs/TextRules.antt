@@ -1,52 +1,51 @@
 -- Which rules texts give: those of their pieces of ABNF, each with its own lines; and what is told of the other lines.
-use Rattle.std.specs.Prelude.{◌≡◌, ◌≢◌, ℕ, Bool, false, List, [], ◌∷◌, take, drop}
+use Rattle.std.specs.Prelude.{◌≡◌, ℕ, List, [], ◌∷◌, map, take, drop}
 use Rattle.ruletable.specs.declared.fault.ReadFault.{ReadFault}
-use Rattle.ruletable.specs.declared.fault.ReadFault.TheVariants as faults
-use Rattle.abnfread.specs.AbnfReading.{Reads, IsFaultOf}
-use Rattle.abnfread.specs.AbnfTable.{firsts}
+use Rattle.abnfread.specs.AbnfReading.{Reads}
+use Rattle.abnfread.specs.AbnfTable.{first_body}
 use Rattle.abnfread.specs.CoreRules.{core_list}
-use Rattle.abnfread.specs.Element.{Definition, Rule, body_of}
+use Rattle.abnfread.specs.Element.{Definition, body_of}
 use Rattle.abnftexts.specs.GivenRules.{RuleGiven}
 use Rattle.abnfblocks.specs.Furniture.{KeepsLines}
 use Rattle.abnfblocks.specs.TextLines.{NumberedLine, text_lines}
 use Rattle.abnfblocks.specs.FoundBlocks.{AreFound}
-use Rattle.abnfblocks.specs.RuleLines.{adds_rule}
 use Rattle.abnfblocks.specs.TextBlocks.{block_text, margin_at, rule_lines}
 use Rattle.abnfblocks.specs.declared.found.Found.{Found}
 use Rattle.abnfblocks.specs.declared.found.Found.TheVariants as found
-use Rattle.abnftexts.specs.RulesGathered.{NamedText, RulesGathered, both_given, none_given, one_rule, told_alone}
+use Rattle.abnftexts.specs.RulesGathered.{NamedText, RuleLines, RulesGathered, both_given, none_given, told_alone}
 use Rattle.abnftexts.specs.TextPlaces.{not_abnf_told}
 
--- whether `=/` is the sign of the first of these lines
-abbrev pub adds_first : List NumberedLine → Bool
-adds_first [] = false
-adds_first (line ∷ lines) = adds_rule line.bytes
+-- The rule that a definition is, wherever its name stands: what adds to a core rule (RFC 5234, appendix B.1) has that
+-- rule's alternatives before its own.
+abbrev pub given_by : Definition → RuleGiven
+given_by d = record { adds = d.adds; name = d.name; body = first_body (body_of core_list) d }
 
--- the first of these rules is the given one, but for where it stands and whether it adds
-abbrev pub IsFirstGiven : List Rule → Bool → RuleGiven → Type 0
-IsFirstGiven [] adds given = ⊥
-IsFirstGiven (rule ∷ rules) adds given = given ≡ record { adds = adds; name = rule.name; body = rule.body }
-
--- The lines alone spell the rule: they are read without the margin.
+-- The lines alone spell one definition, which is the rule: they are read without the margin.
 pub record SpellRule (margin : ℕ) (lines : List NumberedLine) (given : RuleGiven) : Type 0 where
+  pub definition : Definition
+  pub reads : Reads (block_text margin lines) (definition ∷ [])
+  pub is : given ≡ given_by definition
+
+-- The lines of a piece, rule by rule: each has all lines up to the next one that begins a rule.
+pub data AreRuleLines (name : List ℕ) (margin : ℕ) : List NumberedLine → List RuleLines → Type 0 where
+  no_lines : AreRuleLines name margin [] []
+  next_rule : {line : NumberedLine} {lines : List NumberedLine} {places : List RuleLines}
+      → AreRuleLines name margin (drop (rule_lines (line ∷ lines)) (line ∷ lines)) places
+      → AreRuleLines name margin (line ∷ lines)
+      (record { name = name; margin = margin; lines = take (rule_lines (line ∷ lines)) (line ∷ lines) } ∷ places)
+
+-- The definitions are the rules, wherever their names stand, each with its own lines. There is no message.
+pub record GivesRules (name : List ℕ) (margin : ℕ) (lines : List NumberedLine) (definitions : List Definition)
+    (given : RulesGathered) : Type 0 where
+  pub rules : given.rules ≡ map given_by definitions
+  pub places : AreRuleLines name margin lines given.places
+  pub none_told : given.told ≡ []
+
+-- The rules of a piece are the definitions that its text reads as.
+pub record GivesPiece (name : List ℕ) (lines : List NumberedLine) (given : RulesGathered) : Type 0 where
   pub definitions : List Definition
-  pub reads : Reads (block_text margin lines) definitions
-  pub is_first : IsFirstGiven (firsts (body_of core_list) [] definitions) (adds_first lines) given
-
--- what the lines of one rule of a text give: the rule; or what is told where they are none
-pub data GivesRule (name : List ℕ) (margin : ℕ) (lines : List NumberedLine) : RulesGathered → Type 0 where
-  a_rule : {given : RuleGiven} → SpellRule margin lines given
-      → GivesRule name margin lines (one_rule (record { name = name; margin = margin; lines = lines }) given)
-  no_rule : {fault : ReadFault} → IsFaultOf (block_text margin lines) fault → fault ≢ faults.Memory
-      → GivesRule name margin lines (told_alone (not_abnf_told name lines fault))
-
--- The lines of a piece are cut into rules, each with all lines up to the next one that begins a rule.
-pub data GivesPiece (name : List ℕ) (margin : ℕ) : List NumberedLine → RulesGathered → Type 0 where
-  no_lines : GivesPiece name margin [] none_given
-  next_rule : {line : NumberedLine} {lines : List NumberedLine} {here behind : RulesGathered}
-      → GivesRule name margin (take (rule_lines (line ∷ lines)) (line ∷ lines)) here
-      → GivesPiece name margin (drop (rule_lines (line ∷ lines)) (line ∷ lines)) behind
-      → GivesPiece name margin (line ∷ lines) (both_given here behind)
+  pub reads : Reads (block_text (margin_at lines) lines) definitions
+  pub gives : GivesRules name (margin_at lines) lines definitions given
 
 -- the lines of a piece, among those that are kept of a text
 abbrev pub piece_at : List NumberedLine → ℕ → ℕ → List NumberedLine
@@ -56,8 +55,7 @@ piece_at kept first count = take count (drop first kept)
 pub data GivesFound (name : List ℕ) (kept : List NumberedLine) : List Found → RulesGathered → Type 0 where
   none_found : GivesFound name kept [] none_given
   next_piece : {first count : ℕ} {others : List Found} {here behind : RulesGathered}
-      → GivesPiece name (margin_at (piece_at kept first count)) (piece_at kept first count) here
-      → GivesFound name kept others behind
+      → GivesPiece name (piece_at kept first count) here → GivesFound name kept others behind
       → GivesFound name kept (found.Piece first count ∷ others) (both_given here behind)
   no_piece : {first : ℕ} {fault : ReadFault} {others : List Found} {behind : RulesGathered}
       → GivesFound name kept others behind

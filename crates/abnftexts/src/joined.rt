@@ -74,10 +74,10 @@ fn join_gathered(alloc: Global, gathered: Gathered<'_>) -> Result<JoinedTexts, M
 
 /// Returns the grammar that texts make up, one after another, and what is told of them.
 ///
-/// Each piece of ABNF in them is cut into rules. A rule that is the same as one before it is left out, and so is one of
-/// prose alone where a definition of that name has elements. What adds to a name stands behind its definition. The
-/// rules are printed as their texts have them, without the margin. A comment names the place where lines begin that
-/// stand together: `; NAME:LINE`.
+/// The rules of a piece of ABNF are the definitions that it reads as. A rule that is the same as one before it is left
+/// out, and so is one of prose alone where a definition of that name has elements. What adds to a name stands behind
+/// its definition. The rules are printed as their texts have them, without the margin. A comment names the place where
+/// lines begin that stand together: `; NAME:LINE`.
 ///
 /// A line that looks like a rule and is none is told, and so are two different definitions of a name, which both
 /// stand. So is the first use of each name that neither a rule nor a core rule (RFC 5234, appendix B.1) has, and that

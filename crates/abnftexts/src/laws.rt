@@ -2,11 +2,12 @@
 ghost use Rattle.std.specs.Prelude.{◌≡◌, ◌≢◌, ◌≤◌, ℕ, List, [], length, map};
 ghost use Rattle.abnfread.specs.AbnfReading.{IsFaultOf, Reads};
 ghost use Rattle.abnfread.specs.Element.{Definition};
-ghost use Rattle.lexer.specs.declared.limits.TheConstants.{MAX_GRAMMAR as MOST};
+ghost use Rattle.lexer.specs.GrammarLimits.{max_grammar};
 ghost use Rattle.abnftexts.specs.JoinRun.{JoinStates};
 ghost use Rattle.abnftexts.specs.JoinedGrammar.{AreTextsJoined, GrammarJoined};
 ghost use Rattle.abnftexts.specs.RulesGathered.{NamedText};
-ghost use Rattle.abnftexts.specs.SpelledRules.{AreSpelled, given_by, joined_places, joined_rules, unplaced};
+ghost use Rattle.abnftexts.specs.SpelledRules.{AreSpelled, joined_places, joined_rules, unplaced};
+ghost use Rattle.abnftexts.specs.TextRules.{given_by};
 ghost use Rattle.toolrun.specs.Input.{Input};
 ghost use Rattle.toolrun.specs.Reply.{Reply};
 
@@ -36,7 +37,7 @@ pub fn one_joining()
 /// where their names stand. A grammar that has some rule is read unless it is too long, and has no other fault.
 pub fn joined_reading()
     ensures reads { (texts : List NamedText) (j : GrammarJoined) → AreTextsJoined texts j → j.grammar ≢ []
-        → length j.grammar ≤ MOST → (definitions : List Definition) × Reads j.grammar definitions }
+        → length j.grammar ≤ max_grammar → (definitions : List Definition) × Reads j.grammar definitions }
     ensures long { (texts : List NamedText) (j : GrammarJoined) (fault : ReadFault) → AreTextsJoined texts j
         → j.grammar ≢ [] → IsFaultOf j.grammar fault → fault ≢ ReadFault.Memory → fault ≡ ReadFault.TooLong }
     ensures rules { (texts : List NamedText) (j : GrammarJoined) (definitions : List Definition)

@@ -1,41 +1,39 @@
-//! What lines alone are read as.
-ghost use Rattle.std.specs.Prelude.{◌≡◌, ◌<◌, length, map, IfOk};
+//! The rule that lines alone spell.
+ghost use Rattle.std.specs.Prelude.{◌≡◌, ◌<◌, ◌∷◌, [], length, map, IfOk};
+ghost use Rattle.abnfread.specs.AbnfReading.{Reads};
+ghost use Rattle.abnfread.specs.AbnfTable.{begun};
 ghost use Rattle.abnfread.specs.AbnfViews.{rules_of};
+ghost use Rattle.abnfread.specs.CoreRules.{core_list};
+ghost use Rattle.abnfread.specs.Element.{Definition, body_of};
 ghost use Rattle.abnftexts.specs.GivenRules.{text_rule};
+ghost use Rattle.abnfblocks.specs.TextBlocks.{block_text};
 ghost use Rattle.abnfblocks.specs.TextLines.{numbered};
-ghost use Rattle.abnftexts.specs.OwnReadings.{IsOwnReading};
-ghost use Rattle.abnftexts.specs.TextRules.{IsFirstGiven, adds_first as adds_there};
+ghost use Rattle.abnftexts.specs.TextRules.{given_by};
 
 use crate::join::GivenRule;
-use abnfblocks::{TextLine, adds_to_rule, joined_text};
-use abnfread::{Elem, read_abnf};
-use ruletable::{Memory, ReadFault, RuleTable};
+use abnfblocks::{TextLine, joined_text};
+use abnfread::{AbnfKind, Elem, abnf_tokens, read_abnf};
+use ruletable::{Memory, RuleTable};
 use std::alloc::Global;
 use std::mem;
 
-/// What lines alone are read as.
-#[derive(Drop)]
-pub(crate) enum OwnReading {
-    /// They spell that rule.
-    Rule(GivenRule),
-    /// They have that fault.
-    Fault(ReadFault),
-}
-
-// Whether `=/` is the sign of the first of these lines.
-fn adds_first(lines: &[TextLine<'_>]) -> bool
-    ensures { result ≡ adds_there (map numbered lines.now) }
+// Whether `=/` is the sign of the one definition that a text spells: its second token.
+fn adds(text: &[u8]) -> bool
+    ensures { (d : Definition) → Reads text.now (d ∷ []) → result ≡ d.adds }
 {
-    match lines.first() {
-        Some(line) => adds_to_rule(line.bytes),
+    let mut tokens = abnf_tokens(text);
+    let _name = tokens.next();
+    match tokens.next() {
+        Some(sign) => matches!(sign.token.kind, AbnfKind::Adds),
         None => false,
     }
 }
 
-// The first of these rules.
+// The first of these rules, which adds or does not.
 fn first_rule(alloc: Global, rules: RuleTable<Elem>, adds: bool) -> Result<GivenRule, Memory>
     requires { 0 < length rules.rules }
-    ensures { IfOk result (λ rule. IsFirstGiven (rules_of rules) adds (text_rule rule)) }
+    ensures { (d : Definition) → rules_of rules ≡ begun (body_of core_list) d ∷ [] → adds ≡ d.adds
+        → IfOk result (λ rule. text_rule rule ≡ given_by d) }
 {
     let mut rules = rules;
     let name = Vec::from_slice(alloc, rules.name(0))?;
@@ -43,24 +41,25 @@ fn first_rule(alloc: Global, rules: RuleTable<Elem>, adds: bool) -> Result<Given
     Ok(GivenRule { adds, name, body })
 }
 
-/// Returns what the lines alone are read as, without that margin.
+/// Returns the rule that the lines alone spell without that margin. They must spell one.
 ///
 /// # Errors
 /// `Memory` if an allocation fails.
-pub(crate) fn own_reading(
+pub(crate) fn own_rule(
     alloc: Global,
     margin_size: usize,
     lines: &[TextLine<'_>],
-) -> Result<OwnReading, Memory>
-    ensures { IfOk result (λ r. IsOwnReading margin_size (map numbered lines.now) r) }
+) -> Result<GivenRule, Memory>
+    ensures { (d : Definition) → Reads (block_text margin_size (map numbered lines.now)) (d ∷ [])
+        → IfOk result (λ rule. text_rule rule ≡ given_by d) }
 {
     let text = joined_text(alloc, margin_size, lines)?;
     match read_abnf(alloc, &text) {
         Ok(grammar) => {
-            let rule = first_rule(alloc, grammar.rules, adds_first(lines))?;
-            Ok(OwnReading::Rule(rule))
+            let rule = first_rule(alloc, grammar.rules, adds(&text))?;
+            Ok(rule)
         }
-        Err(ReadFault::Memory) => Err(Memory),
-        Err(fault) => Ok(OwnReading::Fault(fault)),
+        // Lines that spell a definition have no other fault.
+        Err(_) => Err(Memory),
     }
 }

@@ -2,14 +2,14 @@
 ghost use Rattle.std.specs.Prelude.{◌≡◌, ◌≢◌, [], false, map};
 ghost use Rattle.abnfread.specs.AbnfViews.{rules_of};
 ghost use Rattle.abnfprint.specs.CanonicalAbnf.{grammar_text};
-ghost use Rattle.abnftexts.specs.JoinRun.{IsWrittenAs, JoinStates, TriedReply, grammar_form, joined_status, no_input};
+ghost use Rattle.abnftexts.specs.JoinRun.{IsWrittenAs, JoinStates, TriedReply, grammar_form, joined_status};
 ghost use Rattle.abnftexts.specs.JoinedViews.{grammar_joined};
 ghost use Rattle.abnftexts.specs.RulesGathered.{named_text};
 ghost use Rattle.toolrun.specs.Right.{Comes};
 ghost use Rattle.toolrun.specs.Status.{code_of};
 ghost use Rattle.toolrun.specs.Stop.{unread};
 ghost use Rattle.toolrun.specs.Stopped.{Performs};
-ghost use Rattle.toolrun.specs.Stream.{passed};
+ghost use Rattle.toolrun.specs.Stream.{no_input, passed};
 
 use crate::gathered::SourceText;
 use crate::joined::{JoinedTexts, join_texts};
@@ -20,7 +20,7 @@ use std::alloc::Global;
 use toolrun::{Status, Stop, close_run, end_run};
 
 /// What is written of a joined grammar.
-#[derive(Clone, Copy, Debug, PartialEq, Eq)]
+#[derive(Clone, Copy)]
 pub enum JoinForm {
     /// Its rules as their texts have them.
     Plain,

@@ -4,12 +4,12 @@ ghost use Rattle.abnfblocks.specs.TextBlocks.{margin_at};
 ghost use Rattle.abnftexts.specs.GivenRules.{text_rule};
 ghost use Rattle.abnfblocks.specs.TextLines.{numbered};
 ghost use Rattle.abnftexts.specs.RulesGathered.{both_given, lines_placed, named_text, one_rule, rules_gathered};
-ghost use Rattle.abnftexts.specs.TakenRules.{TakesMore};
-ghost use Rattle.abnftexts.specs.TextRules.{GivesFound, GivesPiece, GivesRule, GivesText, GiveTexts};
+ghost use Rattle.abnftexts.specs.TakenRules.{TakesFound, TakesMore, TakesRule, TakesRules};
+ghost use Rattle.abnftexts.specs.TextRules.{GivesText, GiveTexts};
 
 use crate::gathered::{Gathered, RulePlace, SourceText};
 use crate::join::GivenRule;
-use crate::own::{OwnReading, own_reading};
+use crate::own::own_rule;
 use crate::told::push_not_abnf;
 use abnfblocks::{Found, TextLine, find_blocks, kept_lines, margin, rule_size};
 use ruletable::Memory;
@@ -47,7 +47,7 @@ fn place_of<'a>(
     })
 }
 
-// Takes the lines of a rule.
+// Takes the rule that the lines alone spell.
 fn take_rule<'a>(
     alloc: Global,
     gathered: &mut Gathered<'a>,
@@ -55,20 +55,13 @@ fn take_rule<'a>(
     margin_size: usize,
     lines: &[TextLine<'a>],
 ) -> Result<(), Memory>
-    ensures { OnOk result (TakesMore (GivesRule name.now margin_size (map numbered lines.now))
+    ensures { OnOk result (TakesRule name.now margin_size (map numbered lines.now)
         (rules_gathered gathered.old) (rules_gathered gathered.new)) }
 {
-    match own_reading(alloc, margin_size, lines)? {
-        OwnReading::Rule(rule) => {
-            let place = place_of(alloc, name, margin_size, lines)?;
-            push_rule(gathered, place, rule)?;
-            Ok(())
-        }
-        OwnReading::Fault(fault) => {
-            push_not_abnf(&mut gathered.told, name, lines, fault)?;
-            Ok(())
-        }
-    }
+    let rule = own_rule(alloc, margin_size, lines)?;
+    let place = place_of(alloc, name, margin_size, lines)?;
+    push_rule(gathered, place, rule)?;
+    Ok(())
 }
 
 // The margin of the first of these lines.
@@ -88,7 +81,7 @@ fn take_piece<'a>(
     name: &'a [u8],
     lines: &[TextLine<'a>],
 ) -> Result<(), Memory>
-    ensures { OnOk result (TakesMore (GivesPiece name.now (margin_at (map numbered lines.now)) (map numbered lines.now))
+    ensures { OnOk result (TakesRules name.now (margin_at (map numbered lines.now)) (map numbered lines.now)
         (rules_gathered gathered.old) (rules_gathered gathered.new)) }
 {
     let margin_size = margin_in(lines);
@@ -124,7 +117,7 @@ fn take_found<'a>(
     kept: &[TextLine<'a>],
     found: &[Found],
 ) -> Result<(), Memory>
-    ensures { OnOk result (TakesMore (GivesFound name.now (map numbered kept.now) found.now)
+    ensures { OnOk result (TakesFound name.now (map numbered kept.now) found.now
         (rules_gathered gathered.old) (rules_gathered gathered.new)) }
 {
     for it in found {

@@ -6,7 +6,6 @@ use Rattle.abnftexts.specs.JoinRun.{JoinStates}
 use Rattle.abnftexts.specs.RulesGathered.{NamedText}
 use Rattle.abnftexts.specs.declared.run.JoinForm.{JoinForm}
 use Rattle.abnfx.specs.JoinWords.{form_asked, paths_asked}
-use Rattle.abnfx.specs.declared.texts.TheConstants.{MAX_TEXT}
 use Rattle.abnfx.specs.declared.texts.Unread.{Unread}
 use Rattle.abnfx.specs.declared.texts.Unread.TheVariants.{Unreadable, TooLong, NoMemory}
 use Rattle.toolrun.specs.Input.{Input}
@@ -16,14 +15,10 @@ use Rattle.toolrun.specs.declared.status.Status.TheVariants as status
 use Rattle.toolrun.specs.declared.stop.Stop.{Stop}
 use Rattle.toolrun.specs.declared.stop.Stop.TheVariants as stop
 
--- this is told, and then the program stops so
-abbrev pub IsToldAnd : List ℕ → Stop → Input → List ℕ → Reply → Type 0
-IsToldAnd told why input notes reply = (notes ≡ told) × (reply ≡ stopped why)
-
 -- the texts have these paths for names, in order, and none is longer than a text may be
 pub record AreTextsOf (paths : List Text) (texts : List NamedText) : Type 0 where
   pub names : map (λ t. t.name) texts ≡ paths
-  pub lengths : All (λ t. length t.bytes ≤ MAX_TEXT) texts
+  pub lengths : All (λ t. length t.bytes ≤ 16777216) texts
 
 -- what is told where a text is not had
 abbrev pub unread_text : Unread → List ℕ

@@ -1,15 +1,14 @@
 //! The run of the program.
-ghost use Rattle.std.specs.Prelude.{◌≡◌, [], false, map, string_bytes};
-ghost use Rattle.std.specs.Io.KnownBytes.{Keeps};
+ghost use Rattle.std.specs.Prelude.{◌≡◌, ◌≢◌, [], false, map, string_bytes};
 ghost use Rattle.std.specs.List.{flat_map};
-ghost use Rattle.abnftexts.specs.JoinRun.{no_input};
-ghost use Rattle.abnfx.specs.JoinAnswers.{FilesJoined, IsToldAnd, JoinAnswers, both_forms, unread_stop, unread_text};
+ghost use Rattle.abnfx.specs.JoinAnswers.{FilesJoined, JoinAnswers, both_forms, unread_stop, unread_text};
 ghost use Rattle.abnfx.specs.JoinWords.{AreFlagTexts, abnfx_app, paths_asked};
 ghost use Rattle.clap.specs.Words.{fault_of, found_of, matches_of, rows_of};
-ghost use Rattle.cli.specs.Parsing.{Answers, EndsAs};
+ghost use Rattle.cli.specs.Parsing.{WordsState};
+ghost use Rattle.toolrun.specs.Plan.{IsToldAnd};
 ghost use Rattle.toolrun.specs.Right.{Comes};
 ghost use Rattle.toolrun.specs.Status.{code_of};
-ghost use Rattle.toolrun.specs.Stream.{passed};
+ghost use Rattle.toolrun.specs.Stream.{no_input, passed};
 
 use crate::command::{form_of, parse_words};
 use crate::texts::{Unread, read_texts, sources_of};
@@ -148,10 +147,9 @@ pub(crate) fn abnfx_main<R: Files + AllocGlobal, O: Sink, E: Sink>(
 ) -> Status
     requires out_is_fresh { O.failed out.old ≡ false }
     requires err_is_fresh { E.failed err.old ≡ false }
-    ensures words { Answers (fault_of abnfx_app (map string_bytes words.now))
-        (Keeps (O.contents out.old) (O.contents out.new) ×
-        EndsAs (O.failed out.new) (E.failed err.new) Status.Refused result)
-        (EndsAs (O.failed out.new) (E.failed err.new) Status.Done result) }
+    ensures words { fault_of abnfx_app (map string_bytes words.now) ≢ [] →
+        Comes (WordsState (fault_of abnfx_app (map string_bytes words.now))) no_input
+        (passed O.contents O.failed out.old out.new) (passed E.contents E.failed err.old err.new) (code_of result) }
     ensures right { fault_of abnfx_app (map string_bytes words.now) ≡ [] →
         Comes (JoinAnswers (matches_of abnfx_app (map string_bytes words.now))) no_input
         (passed O.contents O.failed out.old out.new) (passed E.contents E.failed err.old err.new) (code_of result) }

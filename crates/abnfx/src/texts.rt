@@ -43,7 +43,7 @@ fn read_bytes<R: Files + AllocGlobal>(rt: &R, path: &str) -> io::Result<Vec<u8>>
 
 // Reads a text that is not too long.
 fn read_text<'a, R: Files + AllocGlobal>(rt: &R, path: &'a str) -> Result<FileText<'a>, Unread<'a>>
-    ensures text { IfOk result (λ t. (t.path.now ≡ path.entry.now) × (length t.bytes.items ≤ MAX_TEXT)) }
+    ensures text { IfOk result (λ t. (t.path.now ≡ path.entry.now) × (length t.bytes.items ≤ 16777216)) }
     ensures unread { IfErr result (IsUnreadOf (path.entry.now ∷ [])) }
 {
     match read_bytes(rt, path) {

@@ -1,8 +1,11 @@
 -- What a run of a grammar states depends on the limit, raw and explain of the settings alone.
 -- Serves: peg_run
-use Rattle.std.proofs.Common.{◌≡◌, ℕ, Bool, true, false, List, refl, sym, ◌∙◌, subst, Option}
+use Rattle.std.proofs.Common.{◌≡◌, ◌≤◌, ℕ, Bool, true, false, List, refl, sym, ◌∙◌, subst, Option, ap, ap₂}
+use Rattle.std.proofs.Math.Bridge.{le_prop}
 use Rattle.pegread.specs.Pattern.{Rule}
+use Rattle.gramcheck.specs.Grammar.{Grammar}
 use Rattle.gramcheck.specs.Outcome.{Outcome}
+use Rattle.capi.specs.declared.runner.Runner.{Runner}
 use Rattle.memoryrun.specs.PlannedRun.{IsPlannedRun}
 use Rattle.pegrun.specs.PegReply.{PlainReplies, Replies, RunStates}
 use Rattle.pegrun.specs.StopsExplained.{MayLack, StopLines, UnitBefore, WhyStopped, none_before, one_before}
@@ -119,8 +122,27 @@ pub planned_by_three : (rules : List Rule) (start : ℕ) (a b : Settings) → b.
     → IsPlannedRun (RunStates rules start a) input out err code
     → IsPlannedRun (RunStates rules start b) input out err code
 planned_by_three rules start a b limit raw explain {input} p = record {
+  notes = p.notes;
   stated = p.stated;
-  does = states_by_three rules start a b (bounded input) limit raw explain p.stated p.does;
-  whole = p.whole;
-  part = p.part;
+  states = (
+    p.states.0,
+    states_by_three rules start a b (bounded input) limit raw explain p.stated p.states.1,
+  );
+  out_failed = p.out_failed;
+  err_failed = p.err_failed;
+  delivers = p.delivers;
 }
+
+-- a runner keeps its settings where its grammar is the same
+pub runner_stays : (old : Runner) (peg : Grammar) (within : (1 ≤ old.limit) × (old.limit ≤ 16777216)) → peg ≡ old.peg
+    → ◌≡◌ {A = Runner} (record {
+      peg = peg;
+      limit = old.limit;
+      raw = old.raw;
+      explain = old.explain;
+      in_range = within;
+    }) old
+runner_stays old peg within is = rw is (ap (λ (both : (1 ≤ old.limit) × (old.limit ≤ 16777216)). record old {
+  in_range = both;
+}) (ap₂ (λ (low : 1 ≤ old.limit) (high : old.limit ≤ 16777216). (low, high)) (le_prop within.0 old.in_range.0)
+    (le_prop within.1 old.in_range.1)))

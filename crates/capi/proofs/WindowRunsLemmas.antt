@@ -6,16 +6,16 @@ use Rattle.std.proofs.lemmas.List.{append-nil, take_more, take_more_set}
 use Rattle.std.specs.Prelude.{Result, Ok, Err, if◌then◌else◌}
 use Rattle.std.specs.List.{flat_map}
 use Rattle.std.specs.Result.{is_err, is_ok}
-use Rattle.capi.specs.WindowRuns.{AreWindowRuns, HaveRun, IsSaved, IsWindowRun, WindowRun, more, none, outside}
-use Rattle.capi.specs.WindowRuns.{part, window_bytes, ran, result_of, whole}
-use Rattle.capi.specs.WindowsRun.{IsRunBehind}
+use Rattle.capi.specs.WindowRuns.{AreWindowRuns, HaveRun, IsWindowRun, KeptRun, WindowRun, more, none, outside}
+use Rattle.capi.specs.WindowRuns.{window_bytes, ran, result_of}
+use Rattle.capi.specs.WindowsRun.{IsRunBehind, StandsWhole, goes_on}
 use Rattle.capi.specs.declared.result.CResult.{CResult}
 use Rattle.capi.specs.declared.windows.CWindow.{CWindow}
 use Rattle.memoryrun.specs.PlannedRun.{IsPlannedRun}
 use Rattle.ruletable.proofs.AppendsLemmas.{IsBeginning-nil}
-use Rattle.ruletable.specs.Writing.{IsBeginning}
 use Rattle.toolrun.specs.Input.{Input, bounded}
-use Rattle.toolrun.specs.Plan.{Behind, IsPlan, behind_notes, in_reply, told_behind}
+use Rattle.toolrun.proofs.DeliversLemmas.{delivers_after}
+use Rattle.toolrun.specs.Plan.{Behind, behind_notes, in_reply, told_behind}
 use Rattle.toolrun.specs.Reply.{Reply}
 
 module _ {A E : Type 0} (old other new : List ℕ) where
@@ -27,21 +27,6 @@ module _ {A E : Type 0} (old other new : List ℕ) where
       → new ≡ old ++ other
   text_is_appended (Ok x) is good = is
   text_is_appended (Err x) is good = absurd (cc)
-
-beginning_of : (a b c : List ℕ) → IsBeginning a b → IsBeginning b c → IsBeginning a c
-beginning_of a b c x y = (x.0 ++ y.0, y.1 ∙ ap (λ w. w ++ y.0) x.1 ∙ append_assoc a x.0 y.0)
-
--- what is kept of a planned run is one
-pub kept_is_planned : (Does : Input → Reply → Type 0) (given : List ℕ) (first kept : WindowRun)
-    → IsPlannedRun Does given first.out first.err first.code
-    → IsSaved first kept → IsPlannedRun Does given kept.out kept.err kept.code
-kept_is_planned Does given first kept p (whole same) = rw same p
-kept_is_planned Does given first kept p (part code out) = record {
-  stated = p.stated;
-  does = p.does;
-  whole = λ low. absurd (omega (arith, low, code));
-  part = beginning_of kept.out first.out p.stated.out out p.part;
-}
 
 module _ (Ran : List ℕ → WindowRun → Type 0) (input : List ℕ) where
   flat_of : (f : WindowRun → List ℕ) (runs : List WindowRun) (run : WindowRun)
@@ -104,25 +89,37 @@ module _ (Ran Seen : List ℕ → WindowRun → Type 0) (input : List ℕ)
     results_are = h.results_are;
   }
 
--- a planned run behind what is told first is one
+-- a planned run delivers its reply after what is told first
+pub behind_as : (States : Input → List ℕ → Reply → Type 0) (first notes bytes : List ℕ) (run : WindowRun)
+    (plain whole : Reply) (Does : Input → Reply → Type 0) (p : IsPlannedRun Does bytes run.out run.err run.code)
+    → whole.out ≡ plain.out → whole.status ≡ plain.status → first ++ plain.err ≡ notes ++ whole.err
+    → StandsWhole first notes whole → p.stated ≡ plain → States (bounded bytes) notes whole
+    → IsRunBehind States first bytes run
+behind_as States first notes bytes run plain whole Does p out status err stands is states =
+    goes_on (record {
+      notes = notes;
+      stated = whole;
+      states = states;
+      out_failed = p.out_failed;
+      err_failed = p.err_failed;
+      delivers = delivers_after first notes plain whole _ out status err stands
+          (rw (p.states.0, is) at p.delivers);
+    }) stands
+
+-- what is kept of runs that are seen in another way
+pub kept_told : (Ran Seen : List ℕ → WindowRun → Type 0)
+    → ((bytes : List ℕ) (run : WindowRun) → Ran bytes run → Seen bytes run)
+    → (bytes : List ℕ) (kept : WindowRun) → KeptRun Ran bytes kept → KeptRun Seen bytes kept
+kept_told Ran Seen tells bytes kept (run, was, saved) = (run, tells bytes run was, saved)
+
+-- a planned run is one behind what is told first
 pub planned_is_behind : (States : Input → List ℕ → Reply → Type 0) (first : List ℕ) (Does : Input → Reply → Type 0)
-    → IsPlan (Behind States) first Does → (bytes : List ℕ) (run : WindowRun)
-    → IsPlannedRun Does bytes run.out run.err run.code → IsRunBehind States first bytes run
-planned_is_behind States first Does plan bytes run p = by (plan.stated (bounded bytes) p.stated p.does)
+    → ((input : Input) (reply : Reply) → Does input reply → Behind States input first reply) → (bytes : List ℕ)
+    (run : WindowRun) → IsPlannedRun Does bytes run.out run.err run.code → IsRunBehind States first bytes run
+planned_is_behind States first Does stated bytes run p = by (stated (bounded bytes) p.stated p.states.1)
   where
     by : Behind States (bounded bytes) first p.stated → IsRunBehind States first bytes run
-    by (behind_notes s) = record {
-      notes = first;
-      stated = p.stated;
-      states = s;
-      whole = λ low. let all = p.whole low in (all.0, ap (λ w. first ++ w) all.1, all.2, inl refl);
-      part = p.part;
-    }
-    by (in_reply empty s) = record {
-      notes = [];
-      stated = told_behind first p.stated;
-      states = s;
-      whole = λ low. let all = p.whole low in
-          (all.0, ap (λ w. first ++ w) all.1, all.2, inr (IsBeginning-nil first, empty));
-      part = p.part;
-    }
+    by (behind_notes s) = behind_as States first first bytes run p.stated p.stated Does p refl refl refl (inl refl)
+        refl s
+    by (in_reply empty s) = behind_as States first [] bytes run p.stated (told_behind first p.stated) Does p refl refl
+        refl (inr (IsBeginning-nil first, empty)) refl s

@@ -8,7 +8,6 @@ use Rattle.letters.specs.declared.alphabet.Alphabet.TheVariants.{Bytes, Utf8}
 use Rattle.toolrun.specs.declared.settings.Mode.{Mode}
 use Rattle.toolrun.specs.declared.settings.Mode.TheVariants.{Run, Check, Print}
 use Rattle.toolrun.specs.declared.settings.Settings.{Settings}
-use Rattle.toolrun.specs.declared.settings.TheConstants.{MAX_LIMIT}
 
 -- the mode of a number
 abbrev pub mode_by : ℕ → Option Mode
@@ -39,5 +38,5 @@ pub data IsInvalid (asked : CSettings) (name : List ℕ) : Type 0 where
   no_mode : mode_by asked.mode ≡ None → IsInvalid asked name
   no_letters : alphabet_by asked.letters ≡ None → IsInvalid asked name
   too_small : asked.limit < 1 → IsInvalid asked name
-  too_great : MAX_LIMIT < asked.limit → IsInvalid asked name
+  too_great : 16777216 < asked.limit → IsInvalid asked name
   no_text : asked.named ≡ true → (IsUtf8 name → ⊥) → IsInvalid asked name

@@ -2,7 +2,6 @@
 use Rattle.std.specs.Prelude.{◌≡◌, ℕ, List, ◌++◌, length, take, drop}
 use Rattle.capi.specs.Asking.{IsMeant, IsInvalid}
 use Rattle.capi.specs.declared.asked.CSettings.{CSettings}
-use Rattle.capi.specs.declared.asked.TheConstants.{BAD_SETTINGS}
 use Rattle.memoryrun.specs.MemoryRun.{IsMemoryRun}
 use Rattle.toolrun.specs.Input.{Input}
 use Rattle.toolrun.specs.Reply.{Reply}
@@ -33,5 +32,5 @@ pub data IsBufferRun (States : Settings → Input → List ℕ → Reply → Typ
   ran : (settings : Settings) (printed told : List ℕ) → IsMeant asked name settings
       → IsMemoryRun (States settings) input printed told code
       → IsLaid printed out → IsLaid told err → IsBufferRun States asked name input out err code
-  invalid : IsInvalid asked name → IsUntouched out → IsUntouched err → code ≡ BAD_SETTINGS
+  invalid : IsInvalid asked name → IsUntouched out → IsUntouched err → code ≡ 6
       → IsBufferRun States asked name input out err code

@@ -4,7 +4,6 @@ use Rattle.abnfread.specs.AbnfViews.{rules_of}
 use Rattle.abnfrun.specs.AbnfReply.{IsAnswerTo}
 use Rattle.abnfrun.specs.OpenJudge.{OpenJudge}
 use Rattle.capi.specs.declared.answer.CAnswer.{CAnswer}
-use Rattle.capi.specs.declared.asked.TheConstants.{BAD_SETTINGS}
 use Rattle.linejudge.specs.declared.answers.Answer.{Answer}
 use Rattle.linejudge.specs.declared.answers.Answer.TheVariants.{Yes, No, NoAfter}
 
@@ -25,4 +24,4 @@ pub data IsJudgeCall (line : List ℕ) (told : CAnswer) : Option OpenJudge → T
       → told ≡ c_answer said → IsJudgeCall line told (Some judge)
   overlong : (judge : OpenJudge) → judge.limit < length line → told ≡ c_status 3 → IsJudgeCall line told (Some judge)
   no_memory : (judge : OpenJudge) → told ≡ c_status 5 → IsJudgeCall line told (Some judge)
-  not_open : told ≡ c_status BAD_SETTINGS → IsJudgeCall line told None
+  not_open : told ≡ c_status 6 → IsJudgeCall line told None

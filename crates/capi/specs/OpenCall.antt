@@ -3,7 +3,6 @@ use Rattle.std.specs.Prelude.{◌≡◌, ◌≢◌, ℕ, List, [], ◌++◌, Opt
 use Rattle.capi.specs.Asking.{IsMeant, IsInvalid}
 use Rattle.capi.specs.BufferRun.{Filled, IsLaid, IsUntouched}
 use Rattle.capi.specs.declared.asked.CSettings.{CSettings}
-use Rattle.capi.specs.declared.asked.TheConstants.{BAD_SETTINGS}
 use Rattle.ruletable.specs.Faults.{fault_text}
 use Rattle.ruletable.specs.Notes.{Said}
 use Rattle.ruletable.specs.declared.fault.ReadFault.{ReadFault}
@@ -47,7 +46,7 @@ pub data IsOpenCall {Open : Type 0} (Opening : Settings → List ℕ → Option 
     (name : List ℕ) (place : Place Open) (err : Filled) (code : ℕ) : Type 0 where
   tried : (settings : Settings) (told : List ℕ) → place.old ≡ None → IsMeant asked name settings
       → Opening settings told place.new code → IsLaid told err → IsOpenCall Opening asked name place err code
-  not_asked : IsInvalid asked name → place.new ≡ place.old → IsUntouched err → code ≡ BAD_SETTINGS
+  not_asked : IsInvalid asked name → place.new ≡ place.old → IsUntouched err → code ≡ 6
       → IsOpenCall Opening asked name place err code
-  not_empty : IsSome place.old → place.new ≡ place.old → IsUntouched err → code ≡ BAD_SETTINGS
+  not_empty : IsSome place.old → place.new ≡ place.old → IsUntouched err → code ≡ 6
       → IsOpenCall Opening asked name place err code

@@ -2,7 +2,6 @@
 use Rattle.std.specs.Prelude.{◌≡◌, ℕ, List, Option, Some, None}
 use Rattle.capi.specs.BufferRun.{Filled, IsLaid, IsUntouched}
 use Rattle.capi.specs.GrammarOpenings.{RunsBy}
-use Rattle.capi.specs.declared.asked.TheConstants.{BAD_SETTINGS}
 use Rattle.capi.specs.declared.runner.Runner.{Runner}
 use Rattle.memoryrun.specs.PlannedRun.{IsPlannedRun}
 use Rattle.pegread.specs.PegViews.{rules_of}
@@ -20,4 +19,4 @@ HasRunOn runner input printed told code = (settings : Settings) → RunsBy runne
 pub data IsRunCall (input : List ℕ) (out err : Filled) (code : ℕ) : Option Runner → Type 0 where
   runs : (runner : Runner) (printed told : List ℕ) → HasRunOn runner input printed told code → IsLaid printed out
       → IsLaid told err → IsRunCall input out err code (Some runner)
-  not_open : IsUntouched out → IsUntouched err → code ≡ BAD_SETTINGS → IsRunCall input out err code None
+  not_open : IsUntouched out → IsUntouched err → code ≡ 6 → IsRunCall input out err code None

@@ -1,11 +1,9 @@
 -- What the runs of the windows of an input leave. Ran says which run the bytes of a window have.
-use Rattle.std.specs.Prelude.{◌≡◌, ◌<◌, ◌≤◌, ◌+◌, ℕ, List, [], ◌∷◌, ◌++◌, length, map, take, drop}
+use Rattle.std.specs.Prelude.{◌≡◌, ◌<◌, ◌≤◌, ◌+◌, ◌⊎◌, ℕ, List, [], ◌∷◌, ◌++◌, length, map, take, drop}
 use Rattle.std.specs.List.{flat_map}
-use Rattle.capi.specs.declared.asked.TheConstants.{BAD_SETTINGS}
 use Rattle.capi.specs.declared.result.CResult.{CResult}
 use Rattle.capi.specs.declared.windows.CWindow.{CWindow}
 use Rattle.memoryrun.specs.PlannedRun.{IsPlannedRun}
-use Rattle.ruletable.specs.Writing.{IsBeginning}
 use Rattle.toolrun.specs.Input.{Input}
 use Rattle.toolrun.specs.Reply.{Reply}
 
@@ -32,7 +30,7 @@ pub data IsWindowRun (Ran : List ℕ → WindowRun → Type 0) (input : List ℕ
     0 where
   ran : window.at + window.len ≤ length input
       → Ran (window_bytes input window) run → IsWindowRun Ran input window run
-  outside : length input < window.at + window.len → run ≡ record { out = []; err = []; code = BAD_SETTINGS }
+  outside : length input < window.at + window.len → run ≡ record { out = []; err = []; code = 6 }
       → IsWindowRun Ran input window run
 
 -- The windows in order, each with what it has.
@@ -52,7 +50,12 @@ pub record HaveRun (Ran : List ℕ → WindowRun → Type 0) (input : List ℕ) 
   pub err_is : err ≡ flat_map (λ (run : WindowRun). run.err) runs
   pub results_are : results ≡ map result_of runs
 
--- What is kept of a run: all of it; or an allocation failed, and a beginning of its output is.
+-- What is kept of a run: all of it; or an allocation failed, and all of its output is kept or nothing, and none of its
+-- messages.
 pub data IsSaved (ran kept : WindowRun) : Type 0 where
   whole : kept ≡ ran → IsSaved ran kept
-  part : kept.code ≡ 5 → IsBeginning kept.out ran.out → IsSaved ran kept
+  part : kept.code ≡ 5 → kept.err ≡ [] → (kept.out ≡ []) ⊎ (kept.out ≡ ran.out) → IsSaved ran kept
+
+-- what is kept of such a run
+abbrev pub KeptRun : (List ℕ → WindowRun → Type 0) → List ℕ → WindowRun → Type 0
+KeptRun Ran bytes kept = (run : WindowRun) × Ran bytes run × IsSaved run kept

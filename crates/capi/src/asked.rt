@@ -27,7 +27,8 @@ pub struct CSettings {
     pub viable: bool,
     /// Whether a NUL byte ends a line of the ABNF tool, in place of LF.
     pub nul: bool,
-    /// Whether a fault of the grammar's text is explained behind its message.
+    /// Whether messages are explained: a fault of the grammar's text, a note, a refused line, a stop. Hints follow the
+    /// notes.
     pub explain: bool,
 }
 

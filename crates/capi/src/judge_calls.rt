@@ -14,8 +14,8 @@ use std::alloc::Global;
 
 /// Reads and checks a grammar in ABNF, puts what judges lines by it into an empty place, and lays the notes on it into
 /// the buffer, as much as there is room for. A grammar that is refused leaves the place empty; a fault of its text is
-/// told, and explained if that is asked. The mode is not looked at. `BAD_SETTINGS` where the settings are out of range,
-/// the name is no UTF-8, or the place is not empty: then nothing is done.
+/// told, and explained if that is asked. The mode must be valid, and has no other effect. `BAD_SETTINGS` where the
+/// settings are out of range, the name is no UTF-8, or the place is not empty: then nothing is done.
 pub fn abnf_open(
     alloc: Global,
     asked: &CSettings,
@@ -43,8 +43,8 @@ pub fn abnf_open(
     }
 }
 
-/// Judges a line: what `run_abnf` answers to it for the grammar and the settings that were opened. A line may hold any
-/// bytes, its end too.
+/// Judges a line, which may hold any bytes. To a line without the byte that ends lines it returns what `run_abnf`
+/// answers for the grammar and the settings that were opened.
 pub fn abnf_judge(alloc: Global, place: &mut CJudge, line: &[u8]) -> CAnswer
     ensures same { place.new.judge.held ≡ place.old.judge.held }
     ensures told { IsJudgeCall line.now result place.old.judge.held }

@@ -17,7 +17,7 @@ pub struct CResult {
 
 /// Returns the result of a call whose settings are invalid.
 pub fn nothing_done() -> CResult
-    ensures { result ≡ record { out_len = 0; err_len = 0; status = BAD_SETTINGS } }
+    ensures { result ≡ record { out_len = 0; err_len = 0; status = 6 } }
 {
     CResult {
         out_len: 0,

@@ -1,6 +1,5 @@
 //! A grammar of peg(1) that was opened, and what settings ask of its runs.
 ghost use Rattle.std.specs.Prelude.{◌≤◌};
-ghost use Rattle.toolrun.specs.declared.settings.TheConstants.{MAX_LIMIT as greatest};
 
 use pegrun::PegRunner;
 
@@ -15,5 +14,5 @@ pub struct Runner {
     pub raw: bool,
     /// Whether it is explained where a run stops.
     pub explain: bool,
-    ghost in_range: { (1 ≤ limit) × (limit ≤ greatest) },
+    ghost in_range: { (1 ≤ limit) × (limit ≤ 16777216) },
 }

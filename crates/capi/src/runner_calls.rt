@@ -15,8 +15,8 @@ use std::alloc::Global;
 
 /// Reads and checks a grammar of peg(1), puts what runs it into an empty place, and lays the notes on it into the
 /// buffer, as much as there is room for. A grammar that is refused leaves the place empty; a fault of its text is told,
-/// and explained if that is asked. The mode is not looked at. `BAD_SETTINGS` where the settings are out of range, the
-/// name is no UTF-8, or the place is not empty: then nothing is done.
+/// and explained if that is asked. The mode must be valid, and has no other effect. `BAD_SETTINGS` where the settings
+/// are out of range, the name is no UTF-8, or the place is not empty: then nothing is done.
 pub fn peg_open(
     alloc: Global,
     asked: &CSettings,

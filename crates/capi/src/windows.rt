@@ -1,6 +1,6 @@
 //! The windows of an input, each run by itself.
 ghost use Rattle.std.specs.Prelude.{◌≡◌, ℕ, List, ◌≤◌, ◌+◌, ◌<◌, ◌++◌, length, MatchOption};
-ghost use Rattle.capi.specs.WindowRuns.{HaveRun, IsWindowRun, WindowRun, window_bytes, planned, result_of};
+ghost use Rattle.capi.specs.WindowRuns.{HaveRun, IsWindowRun, KeptRun, WindowRun, window_bytes, planned, result_of};
 ghost use Rattle.toolrun.specs.Plan.{does_of};
 ghost use Rattle.toolrun.specs.Tasks.{task_does};
 
@@ -46,8 +46,8 @@ fn run_window<L: Language>(
     texts: &mut Texts,
 ) -> CResult
     ensures { (run : WindowRun)
-        × IsWindowRun (planned (does_of (λ t. task_does L.canonical L.runs t settings.now) plan.now.task)) input.now
-        window run
+        × IsWindowRun (KeptRun (planned (does_of (λ t. task_does L.canonical L.runs t settings.now) plan.now.task)))
+        input.now window run
         × (texts.new.out.items ≡ texts.old.out.items ++ run.out)
         × (texts.new.err.items ≡ texts.old.err.items ++ run.err) × (result ≡ result_of run) }
 {
@@ -69,8 +69,8 @@ pub fn run_windows<L: Language>(
 ) -> Texts
     requires count { length results.old ≡ length windows.now }
     ensures { (told : List ℕ)
-        × HaveRun (planned (does_of (λ t. task_does L.canonical L.runs t settings.now) front.plan.task)) input.now
-        windows.now result.out.items told results.new × (result.err.items ≡ front.told.items ++ told) }
+        × HaveRun (KeptRun (planned (does_of (λ t. task_does L.canonical L.runs t settings.now) front.plan.task)))
+        input.now windows.now result.out.items told results.new × (result.err.items ≡ front.told.items ++ told) }
 {
     let Front { told, plan } = front;
     let mut texts = Texts {

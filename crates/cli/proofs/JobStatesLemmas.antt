@@ -1,72 +1,101 @@
--- What is stated for a program whose words are right.
--- Serves: tool_main (right)
-use Rattle.std.proofs.Common.{◌≡◌, ℕ, Bool, false, Option, Some, None, List, [], refl, inl, inr}
-use Rattle.std.specs.Prelude.{Ok}
-use Rattle.clap.specs.Words.{Kinds, Row}
+-- What is stated for a program whose words are right, and for one whose words are not.
+-- Serves: tool_main, end_unparsed, end_unready
+use Rattle.std.proofs.Common.{◌≡◌, ℕ, Bool, false, Option, Some, List, [], ◌∷◌, refl, inl, inr, subst}
+use Rattle.std.specs.Prelude.{Result, Ok, Err}
+use Rattle.std.specs.Io.KnownBytes.{Appends}
+use Rattle.clap.specs.Words.{HasKind, IsAmong, Kinds, Row, kind_of}
+use Rattle.clap.specs.declared.error.Error.{Error}
+use Rattle.clap.specs.declared.error.kind.ErrorKind.{ErrorKind}
+use Rattle.clap.specs.declared.error.kind.ErrorKind.TheVariants.{OutOfMemory}
 use Rattle.cli.specs.Asked.{Ask}
 use Rattle.cli.specs.Jobs.{IsStopOf, JobStates, TellsOf, no_memory, runs, unreadable}
-use Rattle.cli.specs.Parsing.{IsUnready}
+use Rattle.cli.specs.Parsing.{IsNoHelp, IsTextAlone, IsUnready, WordsState, has_no_room, says_fault, shows_help}
 use Rattle.cli.specs.declared.reading.Unready.{Unready}
 use Rattle.cli.specs.declared.reading.Unready.TheVariants as unready
 use Rattle.cli.specs.declared.settings.Asked.{Asked}
 use Rattle.ruletable.proofs.AppendsLemmas.{Appends-same}
-use Rattle.toolrun.specs.Delivery.{Observed}
 use Rattle.toolrun.specs.Input.{Input}
-use Rattle.toolrun.specs.Plan.{stopped}
+use Rattle.toolrun.specs.Plan.{IsToldAnd, stopped}
 use Rattle.toolrun.specs.Reply.{Reply}
-use Rattle.toolrun.specs.Right.{Comes, IsRight}
-use Rattle.toolrun.specs.Stream.{Stream}
+use Rattle.toolrun.specs.Right.{Comes}
+use Rattle.toolrun.specs.Stream.{Stream, no_input}
 use Rattle.toolrun.specs.declared.settings.Settings.{Settings}
-use Rattle.toolrun.specs.declared.ending.Ending.TheVariants.{Plain}
+use Rattle.toolrun.specs.declared.status.Status.TheVariants.{Refused}
 use Rattle.toolrun.specs.declared.stop.Stop.{Stop}
-use Rattle.toolrun.specs.declared.stop.Stop.TheVariants.{NoMemory, Unreadable}
-use Rattle.toolrun.proofs.IsRightLemmas.{run_is_right, stops_at_once}
+use Rattle.toolrun.specs.declared.stop.Stop.TheVariants.{NoMemory, Quiet, Unreadable}
+use Rattle.toolrun.proofs.IsRightLemmas.{comes_as, told_stops}
+
+-- a stop that is stated
+pub stop_comes : (States : Input → List ℕ → Reply → Type 0) (stop : Stop)
+    → ((input : Input) → States input [] (stopped stop)) → (r0 : Option (List ℕ)) (r_was r_failed : Bool)
+    (out err : Stream) (code : ℕ) → TellsOf stop out.old out.new out.failed err.old err.new err.failed code →
+    Comes States (record { old = r0; new = r0; was = r_was; failed = r_failed }) out err code
+stop_comes States stop stated r0 r_was r_failed out err code tells =
+    comes_as (IsToldAnd [] stop) States (λ input notes reply is. rw (is.0, is.1) (stated input))
+    (record { old = r0; new = r0; was = r_was; failed = r_failed }) out err code
+    (told_stops [] stop r0 r_was r_failed out err err.old code tells.0 (Appends-same err.old) tells.1)
 
 module _ (States : List ℕ → Settings → Input → List ℕ → Reply → Type 0) (rows : List Row) where
   -- a run of the tool
-  module _ (asked : Asked) (ask : Ask rows asked) (grammar : List ℕ) where
-    right_job : (given : List ℕ) (run : Observed) → IsRight (States grammar asked.settings) given run
-        → IsRight (JobStates States rows) given run
-    right_job given run is = record {
-      notes = is.notes;
-      stated = is.stated;
-      states = runs grammar asked is.notes is.stated ask is.states;
-      delivers = is.delivers;
-      within = is.within;
-      exact = is.exact;
-    }
-
-    comes_from : (old new : Option (List ℕ)) (was failed : Bool) (out err : Stream) (code : ℕ) →
-        Comes (States grammar asked.settings) (record { old = old; new = new; was = was; failed = failed }) out err
-        code →
-        Comes (JobStates States rows) (record { old = old; new = new; was = was; failed = failed }) out err code
-    comes_from None new was failed out err code is = tt
-    comes_from (Some given) new was failed out err code is =
-        (is.0, is.1, is.2, is.3, is.4, is.5, right_job given _ is.6)
-
-    pub job_comes : (reader out err : Stream) (code : ℕ) → Comes (States grammar asked.settings) reader out err code
-        → Comes (JobStates States rows) reader out err code
-    job_comes reader out err code is = comes_from reader.old reader.new reader.was reader.failed out err code is
+  pub job_comes : (asked : Asked) → Ask rows asked → (grammar : List ℕ) (reader out err : Stream) (code : ℕ)
+      → Comes (States grammar asked.settings) reader out err code
+      → Comes (JobStates States rows) reader out err code
+  job_comes asked ask grammar =
+      comes_as (States grammar asked.settings) (JobStates States rows)
+      (λ input notes reply is. runs grammar asked notes reply ask is)
 
   -- the end of a run that has no job
   module _ (r0 : Option (List ℕ)) (r_was r_failed : Bool) (out err : Stream) (code : ℕ) where
-    stop_comes : (stop : Stop) → ((input : Input) → JobStates States rows input [] (stopped stop))
-        → TellsOf stop out.old out.new out.failed err.old err.new err.failed code →
-        Comes (JobStates States rows) (record { old = r0; new = r0; was = r_was; failed = r_failed }) out err code
-    stop_comes stop stated tells =
-        run_is_right (JobStates States rows) [] (λ input reply. reply ≡ stopped stop)
-        (record { stated = λ input reply is. rw is (stated input); some = λ input. (stopped stop, refl) })
-        (record { old = r0; new = r0; was = r_was; failed = r_failed })
-        (record { old = out.old; new = out.old; was = false; failed = false }) out err err.old (Ok (Plain stop)) code
-        (stops_at_once stop r0 out.old r_was r_failed false) refl refl (Appends-same err.old) tells.0
-        (λ bad. absurd (cc)) tells.1
-
     pub unready_comes : (why : Unready) (kinds : Kinds) → kinds ≡ [] → IsUnready kinds why →
         ((stop : Stop) → IsStopOf why stop → TellsOf stop out.old out.new out.failed err.old err.new err.failed code) →
         Comes (JobStates States rows) (record { old = r0; new = r0; was = r_was; failed = r_failed }) out err code
     unready_comes (unready.Words error) kinds none (inl memory) tells =
-        stop_comes NoMemory (λ input. no_memory) (tells NoMemory (memory, refl))
+        stop_comes (JobStates States rows) NoMemory (λ input. no_memory) r0 r_was r_failed out err code
+        (tells NoMemory (memory, refl))
     unready_comes (unready.Words error) kinds none (inr other) tells = absurd (rw none at other)
-    unready_comes unready.Unreadable kinds none is tells = stop_comes Unreadable (λ input. unreadable)
+    unready_comes unready.Unreadable kinds none is tells =
+        stop_comes (JobStates States rows) Unreadable (λ input. unreadable) r0 r_was r_failed out err code
         (tells Unreadable refl)
-    unready_comes unready.NoMemory kinds none is tells = stop_comes NoMemory (λ input. no_memory) (tells NoMemory refl)
+    unready_comes unready.NoMemory kinds none is tells =
+        stop_comes (JobStates States rows) NoMemory (λ input. no_memory) r0 r_was r_failed out err code
+        (tells NoMemory refl)
+
+-- words with some fault
+module _ (out err : Stream) (code : ℕ) where
+  abbrev Words : Kinds → Type 0
+  Words kinds = Comes (WordsState kinds) no_input out err code
+
+  abbrev Tells : Stop → Type 0
+  Tells stop = TellsOf stop out.old out.new out.failed err.old err.new err.failed code
+
+  pub without_room : (kinds : Kinds) → Tells NoMemory → Words kinds
+  without_room kinds = stop_comes (WordsState kinds) NoMemory (λ input. has_no_room) (Some []) false false out err code
+
+  pub fault_said : (kind : ErrorKind) (text : List ℕ) → IsNoHelp kind
+      → Comes (IsToldAnd text (Quiet Refused)) no_input out err code → Words (kind ∷ [])
+  fault_said kind text no_help =
+      comes_as (IsToldAnd text (Quiet Refused)) (WordsState (kind ∷ []))
+      (λ input notes reply is. rw (is.0, is.1) (says_fault kind text (inl refl) no_help)) no_input out err code
+
+  pub help_shown : (kind : ErrorKind) (text : List ℕ) → (IsNoHelp kind → ⊥)
+      → Comes (IsTextAlone text) no_input out err code → Words (kind ∷ [])
+  help_shown kind text help =
+      comes_as (IsTextAlone text) (WordsState (kind ∷ []))
+      (λ input notes reply is. rw (is.0, is.1) (shows_help kind text (inl refl) help)) no_input out err code
+
+  -- one kind of some
+  one_among : (kind : ErrorKind) (kinds : Kinds) → IsAmong kind kinds → (input : Input) (notes : List ℕ) (reply : Reply)
+      → WordsState (kind ∷ []) input notes reply → WordsState kinds input notes reply
+  one_among kind kinds among input notes reply (says_fault k text (inl is) no_help) =
+      says_fault k text (rw is among) no_help
+  one_among kind kinds among input notes reply (says_fault k text (inr is) no_help) = absurd is
+  one_among kind kinds among input notes reply (shows_help k text (inl is) help) = shows_help k text (rw is among) help
+  one_among kind kinds among input notes reply (shows_help k text (inr is) help) = absurd is
+  one_among kind kinds among input notes reply has_no_room = has_no_room
+
+  pub words_come : (error : Error) (kinds : Kinds) → HasKind kinds error → Words (kind_of error ∷ [])
+      → (kind_of error ≡ OutOfMemory → Tells NoMemory) → Words kinds
+  words_come error kinds (inl memory) words tells = without_room kinds (tells memory)
+  words_come error kinds (inr among) words tells =
+      comes_as (WordsState (kind_of error ∷ [])) (WordsState kinds) (one_among (kind_of error) kinds among) no_input out
+      err code words

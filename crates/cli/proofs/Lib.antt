@@ -3,5 +3,4 @@ pub mod AppLemmas
 mod EntryLemmas
 pub mod AreWholeLemmas
 pub mod AskLemmas
-mod AnswersLemmas
 mod JobStatesLemmas

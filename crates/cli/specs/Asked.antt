@@ -8,7 +8,6 @@ use Rattle.clap.specs.declared.parser.matches.Found.{Found}
 use Rattle.cli.specs.declared.settings.Asked.{Asked}
 use Rattle.letters.specs.declared.alphabet.Alphabet.{Alphabet}
 use Rattle.letters.specs.declared.alphabet.Alphabet.TheVariants.{Bytes, Utf8}
-use Rattle.toolrun.specs.declared.settings.TheConstants.{DEFAULT_LIMIT, MAX_LIMIT}
 use Rattle.toolrun.specs.declared.settings.Mode.{Mode}
 use Rattle.toolrun.specs.declared.settings.Mode.TheVariants.{Run, Check, Print}
 
@@ -25,9 +24,9 @@ alphabet_named (Some name) = if bytes_eq name (codes "utf8") then Utf8 else Byte
 
 -- n is the limit that a text gives: its decimal number, where that is in range; 65,536 where none is given
 abbrev pub IsLimitOf : Option (List ℕ) → ℕ → Type 0
-IsLimitOf None n = n ≡ DEFAULT_LIMIT
+IsLimitOf None n = n ≡ 65536
 IsLimitOf (Some text) n = IsNumeral 10 (without_leading_plus text) → 1 ≤ digits_value 10 (without_leading_plus text) →
-    digits_value 10 (without_leading_plus text) ≤ MAX_LIMIT → n ≡ digits_value 10 (without_leading_plus text)
+    digits_value 10 (without_leading_plus text) ≤ 16777216 → n ≡ digits_value 10 (without_leading_plus text)
 
 -- given tells whether the flag was given
 abbrev pub IsFlagOf : Option (List ℕ) → Bool → Type 0
@@ -41,7 +40,7 @@ IsFlagText text = (text ≡ None) ⊎ (text ≡ Some (codes "true")) ⊎ (text �
 -- the text is the decimal number of a limit
 abbrev pub IsLimitText : Text → Type 0
 IsLimitText text = IsNumeral 10 (without_leading_plus text) × (1 ≤ digits_value 10 (without_leading_plus text)) ×
-    (digits_value 10 (without_leading_plus text) ≤ MAX_LIMIT)
+    (digits_value 10 (without_leading_plus text) ≤ 16777216)
 
 -- what holds of the matches of words in which nothing is wrong: there is a limit in its range and a grammar, and each
 -- flag is `true` or `false` where it has a text

@@ -7,7 +7,6 @@ use Rattle.clap.specs.declared.builder.action.ArgAction.TheVariants.{Set, SetTru
 use Rattle.clap.specs.declared.builder.value_parser.ValueParser.TheVariants as vp
 use Rattle.cli.specs.declared.command.Program.{Program}
 use Rattle.cli.specs.declared.command.Program.TheVariants.{Abnfi, Pegi}
-use Rattle.toolrun.specs.declared.settings.TheConstants.{MAX_LIMIT}
 
 -- texts that an argument takes
 abbrev pub Names : Type 0
@@ -36,7 +35,7 @@ limit_rule = record (new_rule (codes "limit")) {
   short = Some (code "l");
   value_names = 1;
   action = Some Set;
-  parser = Some (vp.Signed (pos 1) (pos MAX_LIMIT));
+  parser = Some (vp.Signed (pos 1) (pos 16777216));
   defaults = codes "65536" ∷ [];
 }
 

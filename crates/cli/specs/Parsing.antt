@@ -1,5 +1,5 @@
 -- What a parse of the words comes to.
-use Rattle.std.specs.Prelude.{◌≡◌, ◌≢◌, ◌⊎◌, List, [], ◌∷◌, Bool, false, Result, MatchResult}
+use Rattle.std.specs.Prelude.{◌≡◌, ◌≢◌, ℕ, List, [], Result, MatchResult}
 use Rattle.clap.specs.Words.{App, HasKind, IsAmong, Kinds, Text, fault_of, found_of, matches_of, rows_of}
 use Rattle.clap.specs.declared.error.Error.{Error}
 use Rattle.clap.specs.declared.error.kind.ErrorKind.{ErrorKind}
@@ -7,8 +7,11 @@ use Rattle.clap.specs.declared.error.kind.ErrorKind.TheVariants.{DisplayHelp, Di
 use Rattle.clap.specs.declared.parser.matches.ArgMatches.{ArgMatches}
 use Rattle.cli.specs.declared.reading.Unready.{Unready}
 use Rattle.cli.specs.declared.reading.Unready.TheVariants.{NoMemory as NoRoom, Unreadable, Words}
-use Rattle.toolrun.specs.declared.status.Status.{Status}
-use Rattle.toolrun.specs.declared.status.Status.TheVariants.{NoMemory}
+use Rattle.toolrun.specs.Input.{Input}
+use Rattle.toolrun.specs.Plan.{stopped}
+use Rattle.toolrun.specs.Reply.{Reply, text_alone}
+use Rattle.toolrun.specs.declared.status.Status.TheVariants.{Refused}
+use Rattle.toolrun.specs.declared.stop.Stop.TheVariants.{NoMemory, Quiet}
 
 -- Words in which nothing is wrong are matched as the command says, unless memory is wanting; of others the error says
 -- what is wrong, or that help was asked for.
@@ -26,19 +29,15 @@ IsUnready kinds NoRoom = kinds ≡ []
 abbrev pub IsNoHelp : ErrorKind → Type 0
 IsNoHelp kind = (kind ≢ DisplayHelp) × (kind ≢ DisplayVersion)
 
--- something is wrong with the words
-abbrev pub AreFaults : Kinds → Type 0
-AreFaults kinds = (kinds ≢ []) × ((kind : ErrorKind) → IsAmong kind kinds → IsNoHelp kind)
+-- this text alone is written, on the output
+abbrev pub IsTextAlone : List ℕ → Input → List ℕ → Reply → Type 0
+IsTextAlone text input notes reply = (notes ≡ []) × (reply ≡ text_alone text)
 
--- the words ask for help
-abbrev pub AskHelp : Kinds → Type 0
-AskHelp kinds = kinds ≡ DisplayHelp ∷ []
-
--- where both writers took all, the status is this one, or memory was wanting
-abbrev pub EndsAs : Bool → Bool → Status → Status → Type 0
-EndsAs out_failed err_failed stated status = out_failed ≡ false → err_failed ≡ false → (status ≡ stated)
-    ⊎ (status ≡ NoMemory)
-
--- what holds where something is wrong with the words, and where they ask for help
-abbrev pub Answers : Kinds → Type 0 → Type 0 → Type 0
-Answers kinds wrong help = (AreFaults kinds → wrong) × (AskHelp kinds → help)
+-- What is stated for words that have one of these faults: a text on the error output says what is wrong; or the help
+-- that was asked for stands on the output; or an allocation failed. No clause says which text it is.
+pub data WordsState (kinds : Kinds) (input : Input) : List ℕ → Reply → Type 0 where
+  says_fault : (kind : ErrorKind) (text : List ℕ) → IsAmong kind kinds → IsNoHelp kind
+      → WordsState kinds input text (stopped (Quiet Refused))
+  shows_help : (kind : ErrorKind) (text : List ℕ) → IsAmong kind kinds → (IsNoHelp kind → ⊥)
+      → WordsState kinds input [] (text_alone text)
+  has_no_room : WordsState kinds input [] (stopped NoMemory)

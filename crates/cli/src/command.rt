@@ -12,7 +12,7 @@ use std::alloc::{AllocError, Global};
 use std::convert::AsStr;
 
 /// A program of this repository.
-#[derive(Clone, Copy, Debug, PartialEq, Eq)]
+#[derive(Clone, Copy)]
 pub enum Program {
     /// `pegi [-m MODE] [-l N] [-s RULE] [-r] [-x] GRAMMAR`
     Pegi,

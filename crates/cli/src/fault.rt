@@ -1,10 +1,12 @@
 //! The end of a program whose words were not parsed.
-ghost use Rattle.std.specs.Prelude.{◌≡◌, ◌⊎◌, ◌≤◌, IfOk, false, true};
-ghost use Rattle.std.specs.Io.KnownBytes.{Keeps};
+ghost use Rattle.std.specs.Prelude.{◌≡◌, ◌∷◌, [], IfOk, false};
 ghost use Rattle.clap.specs.Words.{kind_of};
 ghost use Rattle.cli.specs.Jobs.{TellsOf};
-ghost use Rattle.cli.specs.Parsing.{EndsAs, IsNoHelp};
+ghost use Rattle.cli.specs.Parsing.{IsTextAlone, WordsState};
+ghost use Rattle.toolrun.specs.Plan.{IsToldAnd};
+ghost use Rattle.toolrun.specs.Right.{Comes};
 ghost use Rattle.toolrun.specs.Status.{code_of};
+ghost use Rattle.toolrun.specs.Stream.{no_input, passed};
 
 use clap::error::ErrorKind;
 use clap::{Command, Error};
@@ -15,13 +17,12 @@ use toolrun::{Status, Stop, close_run, end_run};
 /// What is told of a word that is no UTF-8 text.
 const INVALID_UTF8: &str = "invalid UTF-8 was detected in one or more arguments";
 
-/// Tells on the error output what is wrong with the words.
+/// Writes on the error output what is wrong with the words, and ends.
 fn tell_fault<O: Sink, E: Sink>(text: &str, out: &mut O, err: &mut E) -> Status
     requires out_is_fresh { O.failed out.old ≡ false }
     requires err_is_fresh { E.failed err.old ≡ false }
-    ensures kept { Keeps (O.contents out.old) (O.contents out.new) }
-    ensures status { O.failed out.new ≡ false → E.failed err.new ≡ false → result ≡ Status.Refused }
-    ensures failed { (O.failed out.new ≡ true) ⊎ (E.failed err.new ≡ true) → 4 ≤ code_of result }
+    ensures right { Comes (IsToldAnd text.now (Stop.Quiet Status.Refused)) no_input
+        (passed O.contents O.failed out.old out.new) (passed E.contents E.failed err.old err.new) (code_of result) }
 {
     if write_whole(err, text.as_bytes()).is_err() {
         return close_run(out, err);
@@ -30,12 +31,12 @@ fn tell_fault<O: Sink, E: Sink>(text: &str, out: &mut O, err: &mut E) -> Status
     end_run(Ok(Stop::Quiet(Status::Refused)), out, err)
 }
 
-/// Shows the help on the output.
+/// Writes the help on the output, and ends.
 fn show_help<O: Sink, E: Sink>(text: &str, out: &mut O, err: &mut E) -> Status
     requires out_is_fresh { O.failed out.old ≡ false }
     requires err_is_fresh { E.failed err.old ≡ false }
-    ensures status { O.failed out.new ≡ false → E.failed err.new ≡ false → result ≡ Status.Done }
-    ensures failed { (O.failed out.new ≡ true) ⊎ (E.failed err.new ≡ true) → 4 ≤ code_of result }
+    ensures right { Comes (IsTextAlone text.now) no_input
+        (passed O.contents O.failed out.old out.new) (passed E.contents E.failed err.old err.new) (code_of result) }
 {
     match write_whole(out, text.as_bytes()) {
         Ok(()) => end_run(Ok(Stop::Quiet(Status::Done)), out, err),
@@ -53,17 +54,11 @@ pub fn end_unparsed<O: Sink, E: Sink>(
 ) -> Status
     requires out_is_fresh { O.failed out.old ≡ false }
     requires err_is_fresh { E.failed err.old ≡ false }
-    ensures kept { IsNoHelp (kind_of error.now) → Keeps (O.contents out.old) (O.contents out.new) }
-    ensures refused { IsNoHelp (kind_of error.now) →
-        EndsAs (O.failed out.new) (E.failed err.new) Status.Refused result }
-    ensures helped { kind_of error.now ≡ ErrorKind.DisplayHelp →
-        EndsAs (O.failed out.new) (E.failed err.new) Status.Done result }
-    ensures no_memory { kind_of error.now ≡ ErrorKind.OutOfMemory →
-        EndsAs (O.failed out.new) (E.failed err.new) Status.NoMemory result }
+    ensures right { Comes (WordsState (kind_of error.now ∷ [])) no_input
+        (passed O.contents O.failed out.old out.new) (passed E.contents E.failed err.old err.new) (code_of result) }
     ensures stopped { kind_of error.now ≡ ErrorKind.OutOfMemory → TellsOf Stop.NoMemory (O.contents out.old)
         (O.contents out.new) (O.failed out.new) (E.contents err.old) (E.contents err.new) (E.failed err.new)
         (code_of result) }
-    ensures failed { (O.failed out.new ≡ true) ⊎ (E.failed err.new ≡ true) → 4 ≤ code_of result }
 {
     if error.kind() == ErrorKind::OutOfMemory {
         return end_run(Ok(Stop::NoMemory), out, err);
@@ -96,9 +91,8 @@ pub fn refuse_invalid_utf8<O: Sink, E: Sink>(
 ) -> Status
     requires out_is_fresh { O.failed out.old ≡ false }
     requires err_is_fresh { E.failed err.old ≡ false }
-    ensures kept { Keeps (O.contents out.old) (O.contents out.new) }
-    ensures refused { EndsAs (O.failed out.new) (E.failed err.new) Status.Refused result }
-    ensures failed { (O.failed out.new ≡ true) ⊎ (E.failed err.new ≡ true) → 4 ≤ code_of result }
+    ensures refused { Comes (WordsState (ErrorKind.ValueValidation ∷ [])) no_input
+        (passed O.contents O.failed out.old out.new) (passed E.contents E.failed err.old err.new) (code_of result) }
 {
     match invalid_utf8(command) {
         Ok(error) => end_unparsed(alloc, &error, out, err),

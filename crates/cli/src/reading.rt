@@ -1,12 +1,13 @@
 //! What a program is to do: the settings in its words, and its grammar.
-ghost use Rattle.std.specs.Prelude.{◌≡◌, ◌⊎◌, ◌≤◌, MatchResult, [], false, map, string_bytes, true};
-ghost use Rattle.std.specs.Io.KnownBytes.{Keeps};
+ghost use Rattle.std.specs.Prelude.{◌≡◌, ◌≢◌, MatchResult, [], false, map, string_bytes};
 ghost use Rattle.clap.specs.Words.{Kinds, fault_of, matches_of};
 ghost use Rattle.cli.specs.Asked.{Ask};
 ghost use Rattle.cli.specs.Command.{IsAppOf};
 ghost use Rattle.cli.specs.Jobs.{IsStopOf, TellsOf};
-ghost use Rattle.cli.specs.Parsing.{Answers, EndsAs, IsUnready};
+ghost use Rattle.cli.specs.Parsing.{IsUnready, WordsState};
+ghost use Rattle.toolrun.specs.Right.{Comes};
 ghost use Rattle.toolrun.specs.Status.{code_of};
+ghost use Rattle.toolrun.specs.Stream.{no_input, passed};
 
 use crate::command::Program;
 use crate::fault::end_unparsed;
@@ -79,13 +80,10 @@ pub fn end_unready<O: Sink, E: Sink>(
 ) -> Status
     requires out_is_fresh { O.failed out.old ≡ false }
     requires err_is_fresh { E.failed err.old ≡ false }
-    ensures words { (kinds : Kinds) → IsUnready kinds why.now → Answers kinds
-        (Keeps (O.contents out.old) (O.contents out.new) ×
-        EndsAs (O.failed out.new) (E.failed err.new) Status.Refused result)
-        (EndsAs (O.failed out.new) (E.failed err.new) Status.Done result) }
+    ensures words { (kinds : Kinds) → IsUnready kinds why.now → kinds ≢ [] → Comes (WordsState kinds) no_input
+        (passed O.contents O.failed out.old out.new) (passed E.contents E.failed err.old err.new) (code_of result) }
     ensures stopped { (stop : _) → IsStopOf why.now stop → TellsOf stop (O.contents out.old) (O.contents out.new)
         (O.failed out.new) (E.contents err.old) (E.contents err.new) (E.failed err.new) (code_of result) }
-    ensures failed { (O.failed out.new ≡ true) ⊎ (E.failed err.new ≡ true) → 4 ≤ code_of result }
 {
     match why {
         Unready::Words(error) => end_unparsed(alloc, error, out, err),

@@ -23,7 +23,7 @@ fn mode_of(matches: &ArgMatches<'_>) -> Mode
 fn limit_of(matches: &ArgMatches<'_>) -> usize
     ensures value { IsLimitOf (one_text (found_of matches.now) (codes "limit")) result }
     ensures low { 1 ≤ result }
-    ensures high { result ≤ MAX_LIMIT }
+    ensures high { result ≤ 16777216 }
 {
     match matches.get_one::<u32>("limit") {
         Some(limit) => (limit as usize).clamp(1, MAX_LIMIT),

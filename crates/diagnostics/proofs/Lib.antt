@@ -3,6 +3,8 @@ pub mod PictureLemmas
 pub mod FirstToldLemmas
 pub mod PhraseLemmas
 pub mod OneToldLemmas
+pub mod TellAllLemmas
+pub mod ReportTreeLemmas
 mod LineEndsLemmas
 mod HeadsTakenLemmas
 mod MentionsTakenLemmas

@@ -26,7 +26,7 @@ module _ {K : Type 0} (can : K → Bool) where
   abbrev pub Allows : K → Type 0
   Allows k = can k ≡ true
 
-  tells-true : (p : Phrase K) → tells can p ≡ true → IsToldPhrase Allows p
+  pub tells-true : (p : Phrase K) → tells can p ≡ true → IsToldPhrase Allows p
   tells-true p e =
       let h = both-true (list_all can p.kinds) (not (list_any can p.bars)) e in
       let none = not-true (list_any can p.bars) h.1 in

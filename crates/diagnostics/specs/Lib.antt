@@ -11,6 +11,7 @@ pub mod ExplainedNotes
 pub mod FirstMentions
 pub mod FoundMentions
 pub mod NoteLines
+pub mod ReportedTrees
 pub mod Openings
 pub mod MentionLines
 pub mod UseLines

@@ -7,7 +7,6 @@ use Rattle.ruletable.specs.declared.note.NoteKind.{NoteKind}
 use Rattle.ruletable.specs.declared.note.NoteKind.TheVariants.{Redefined, ExtendedEarly, Unused}
 use Rattle.ruletable.specs.declared.table.NameCase.{NameCase}
 use Rattle.diagnostics.specs.DefinitionHeads.{DefinedAt}
-use Rattle.diagnostics.specs.declared.noteplaces.lines.TheConstants.{MAX_AGAIN}
 
 -- the definitions of a name
 abbrev pub named : NameCase → List ℕ → List DefinedAt → List DefinedAt
@@ -27,10 +26,10 @@ abbrev pub more_told : ℕ → List ℕ
 more_told zero = []
 more_told (suc n) = codes "  and " ++ (decimal (suc n) ++ codes " more\n")
 
--- the definitions that do not stand: a line of each of the first ones, and how many more there are
+-- the definitions that do not stand: a line of each of the first eight, and how many more there are
 abbrev pub agains_told : List DefinedAt → List ℕ
-agains_told definitions = flat_map (name_line (codes "is defined again")) (take MAX_AGAIN definitions)
-    ++ more_told (length definitions - MAX_AGAIN)
+agains_told definitions = flat_map (name_line (codes "is defined again")) (take 8 definitions)
+    ++ more_told (length definitions - 8)
 
 -- the first definition of a rule
 abbrev pub first_line : List ℕ → List DefinedAt → List ℕ

@@ -1,15 +1,14 @@
 -- A line with a caret below a byte.
 use Prim.Native.Char.{code}
-use Rattle.std.specs.Prelude.{ℕ, ◌+◌, ◌-◌, ◌/◌, nat_lt, min, List, ◌++◌, length, take, drop, replicate, codes}
+use Rattle.std.specs.Prelude.{ℕ, ◌+◌, ◌-◌, nat_lt, min, List, ◌++◌, length, take, drop, replicate, codes}
 use Rattle.std.specs.Prelude.{decimal}
 use Rattle.ruletable.specs.declared.lines.LineRule.{LineRule}
 use Rattle.diagnostics.specs.LinesAround.{bytes_before, line_text}
 use Rattle.diagnostics.specs.ShownBytes.{shown, dots}
-use Rattle.diagnostics.specs.declared.picture.caret.TheConstants.{MAX_SHOWN}
 
--- The first byte of the line that is shown: as many stand before the place as behind it, but at the line's ends.
+-- The first of the 72 bytes of the line that are shown: 36 stand before the place, but at the line's ends.
 abbrev pub window_start : ℕ → ℕ → ℕ
-window_start size place = min (place - MAX_SHOWN / 2) (size - MAX_SHOWN)
+window_start size place = min (place - 36) (size - 72)
 
 -- what is shown before the place: the bytes that begin the window, behind dots where it is not the line's beginning
 abbrev pub left_part : List ℕ → ℕ → List ℕ
@@ -20,7 +19,7 @@ left_part line place =
 -- what is shown from the place on
 abbrev pub right_part : List ℕ → ℕ → List ℕ
 right_part line place =
-    let end = window_start (length line) place + MAX_SHOWN in
+    let end = window_start (length line) place + 72 in
     shown (take (end - place) (drop place line)) ++ dots (nat_lt end (length line))
 
 -- both lines, behind two spaces

@@ -3,7 +3,6 @@ use Prim.Native.Char.{code}
 use Rattle.std.specs.Prelude.{ℕ, ◌+◌, ◌-◌, ◌/◌, ◌%◌, ◌==◌, ◌||◌, nat_lt, Bool, List, [], ◌∷◌, ◌++◌, length, take, codes}
 use Rattle.std.specs.Prelude.{if◌then◌else◌}
 use Rattle.std.specs.List.{flat_map}
-use Rattle.diagnostics.specs.declared.picture.shown.TheConstants.{MAX_CUT}
 
 -- the digit of a number below 16
 abbrev pub hex_digit : ℕ → ℕ
@@ -22,6 +21,6 @@ shown bytes = flat_map shown_byte bytes
 abbrev pub dots : Bool → List ℕ
 dots are_left_out = if are_left_out then codes ".." else []
 
--- the first of them, and dots where there are more
+-- the first 60 of them, and dots where there are more
 abbrev pub cut : List ℕ → List ℕ
-cut bytes = shown (take MAX_CUT bytes) ++ dots (nat_lt MAX_CUT (length bytes))
+cut bytes = shown (take 60 bytes) ++ dots (nat_lt 60 (length bytes))

@@ -1,5 +1,5 @@
 -- Which phrases tell what can stand at a place.
-use Rattle.std.specs.Prelude.{List, [], ◌∷◌, ℕ, All, Bool, ◌&&◌, not}
+use Rattle.std.specs.Prelude.{◌≡◌, List, [], ◌∷◌, ℕ, All, Bool, ◌&&◌, not, Contains}
 use Rattle.std.specs.List.{list_all, list_any}
 
 -- a phrase, the kinds that it means, and those that another phrase would mean too
@@ -21,6 +21,13 @@ pub data AreTold {K : Type 0} (CanStand : K → Type 0) : List (Phrase K) → Li
       → AreTold CanStand (p ∷ ps) (p.words ∷ ws)
   told_not : {p : Phrase K} {ps : List (Phrase K)} {ws : List (List ℕ)} → (IsToldPhrase CanStand p → ⊥)
       → AreTold CanStand ps ws → AreTold CanStand (p ∷ ps) ws
+
+-- Each kind that can stand is one that a reported phrase means, and each reported phrase means one that can stand.
+pub record TellAll {K : Type 0} (CanStand : K → Type 0) (phrases : List (Phrase K)) (told : List (List ℕ)) : Type
+    0 where
+  pub each : (k : K) → CanStand k → (p : Phrase K) × Contains phrases p × Contains told p.words × Contains p.kinds k
+  pub some : All (λ words. (p : Phrase K) × (k : K) × Contains phrases p × (p.words ≡ words) × Contains p.kinds k
+      × CanStand k) told
 
 -- whether the phrase is told where those kinds can stand that pass the test
 abbrev pub tells : {K : Type 0} → (K → Bool) → Phrase K → Bool

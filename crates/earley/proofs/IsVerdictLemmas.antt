@@ -6,10 +6,11 @@ use Rattle.abnfcheck.specs.Derivable.{AreLetters}
 use Rattle.flatgrammar.specs.Flat.{Flat, Place, at}
 use Rattle.flatgrammar.specs.Holds.{Holds}
 use Rattle.flatgrammar.specs.Places.{In, now}
-use Rattle.flatgrammar.specs.ToldBeginnings.{HasItem, TellsBeginnings}
+use Rattle.flatgrammar.specs.Holds.{HasItem}
+use Rattle.lowering.specs.ToldBeginnings.{TellsBeginnings}
 use Rattle.earleyitems.specs.ChartSets.{set_at, IsSet}
-use Rattle.flatgrammar.specs.Verdicts.{IsVerdict}
-use Rattle.flatgrammar.specs.declared.verdict.Verdict.TheVariants.{No}
+use Rattle.lowering.specs.Verdicts.{IsVerdict}
+use Rattle.lowering.specs.declared.verdict.Verdict.TheVariants.{No}
 
 some_item : (flat : Flat) (x : List ℕ) (j : ℕ) (set : List (Place × ℕ)) → IsSet flat x j set → 0 < length set
     → HasItem flat x j

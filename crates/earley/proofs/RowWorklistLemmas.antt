@@ -15,7 +15,7 @@ use Rattle.earleyitems.specs.Closed.{Hold, HoldAll}
 use Rattle.earleyitems.specs.ItemSets.{waiting_or}
 use Rattle.earleyitems.specs.Worklist.{IsWork, IsWorked}
 use Rattle.flatgrammar.proofs.CallOfLemmas.{equal_or, get_below}
-use Rattle.flatgrammar.proofs.FlatCutLemmas.{push_cases}
+use Rattle.flatgrammar.proofs.SliceGetLemmas.{push_cases}
 use Rattle.flatgrammar.specs.Blocks.{spot}
 use Rattle.flatgrammar.specs.Flat.{at}
 use Rattle.flatgrammar.specs.Holds.{Holds}

@@ -3,13 +3,14 @@ ghost use Rattle.std.specs.Prelude.{◌≡◌, ◌+◌, ◌*◌, ◌<◌, ◌≤
 ghost use Rattle.abnfread.specs.Element.{Rule};
 ghost use Rattle.earleyitems.specs.ChartSets.{set_at, IsSet};
 ghost use Rattle.flatgrammar.specs.Places.{places};
-ghost use Rattle.flatgrammar.specs.ToldBeginnings.{TellsBeginnings};
-ghost use Rattle.flatgrammar.specs.Verdicts.{IsVerdict};
+ghost use Rattle.lowering.specs.ToldBeginnings.{TellsBeginnings};
+ghost use Rattle.lowering.specs.Verdicts.{IsVerdict};
 ghost use Rattle.letters.specs.Letters.{has};
 
 use crate::chart::{Chart, judge};
-use flatgrammar::{Flat, Verdict, values_are_letters};
+use flatgrammar::Flat;
 use letters::Letter;
+use lowering::{Verdict, values_are_letters};
 use ruletable::Memory;
 
 // Returns the number of the last set up to that number that is not empty, 0 if there is none.

@@ -4,6 +4,8 @@ use Rattle.std.proofs.Common.{◌≡◌, ℕ, zero, suc, ◌+◌, ◌*◌, ◌<�
 use Rattle.std.proofs.Common.{◌++◌, length, length-append, map, take, slice_get, slice_index_or, refl, sym, ◌∙◌, ap}
 use Rattle.std.proofs.Common.{subst, arith, ⊎_elim, Global}
 use Rattle.std.proofs.lemmas.List.{length-map}
+use Rattle.std.proofs.lemmas.List.Sums.{sum_by-cons, sum_by_push}
+use Rattle.std.specs.Prelude.{sum_by}
 use Rattle.std.specs.declared.rc.Rc.{Rc}
 use Rattle.flatgrammar.specs.Flat.{Flat, Place, at}
 use Rattle.flatgrammar.specs.Holds.{Holds, begins, called, has_read, returned}
@@ -13,15 +15,16 @@ use Rattle.earleyitems.specs.EarleySets.{EarleySet}
 use Rattle.flatgrammar.specs.declared.tables.Tables as code_flat
 use Rattle.flatgrammar.specs.NodeSteps.{flat_of}
 use Rattle.earleyitems.specs.Charts.{item_of, IsExact, IsExactSet}
-use Rattle.earleyitems.specs.ChartSets.{pair, chart_of, set_at, IsSet, AreSized}
+use Rattle.earleyitems.specs.ChartSets.{pair, chart_of, set_at, IsSet, AreSized, HaveMoreItems}
 use Rattle.flatgrammar.specs.declared.block.Spot.{Spot}
 use Rattle.flatgrammar.specs.Blocks.{Block, item_at, block_of}
 use Rattle.earleyitems.specs.SetViews.{expand, full, view, views}
-use Rattle.flatgrammar.proofs.BeforeLemmas.{get_below}
-use Rattle.flatgrammar.proofs.FlatCutLemmas.{push_cases}
+use Rattle.flatgrammar.proofs.SliceGetLemmas.{get_below}
+use Rattle.flatgrammar.proofs.SliceGetLemmas.{push_cases}
 use Rattle.earleyitems.proofs.ExpandLemmas.{get_views, length_views, take_one, expand_end}
 use Rattle.flatgrammar.proofs.PlacesLemmas.{items_at_most}
 use Rattle.earleyitems.proofs.SetAtMostLemmas.{From, in_map, different_map}
+use Rattle.earleyitems.proofs.ViewsLemmas.{views_more}
 
 -- no set lies past the line's end
 pub holds_within : {flat : Flat} {x : List ℕ} {j i : ℕ} {p : Place} → Holds flat x j p i → j ≤ length x
@@ -52,8 +55,7 @@ pair_stands a [] h = elim h [ ]
 pair_stands a (b ∷ set) (now same) = now (ap pair same)
 pair_stands a (b ∷ set) (on h) = on (pair_stands a set h)
 
-module _ (tables : code_flat.Tables) (x : List ℕ) (sets : List (List Item)) (size : length sets ≡ length x + 1)
-    (exact : IsExact tables x sets) where
+module _ (tables : code_flat.Tables) (x : List ℕ) where
   filled_set : (j : ℕ) (set : List Item) → IsExactSet tables x j set → IsSet (flat_of tables) x j (map pair set)
   filled_set j set e = record {
     held = λ p i h. held p i (in_map (p, i) set h);
@@ -72,6 +74,51 @@ module _ (tables : code_flat.Tables) (x : List ℕ) (sets : List (List Item)) (s
       all : (p : Place) (i : ℕ) → In (item_of p i) set → In {A = Place × ℕ} (p, i) (map pair set)
       all (at s k) i h = pair_stands (record { node = s; step = k; origin = i }) set h
 
+-- some sets of a line that have more items than that
+pub more_items : (tables : code_flat.Tables) (x : List ℕ) (kept_sets : List EarleySet) (most : ℕ)
+    → IsExact tables x (views tables 0 kept_sets)
+    → most < sum_by (λ set. length set) (views tables 0 kept_sets) → HaveMoreItems (flat_of tables) x most
+more_items tables x kept_sets most exact more = record {
+  sets = map (λ set. map pair set) (views tables 0 kept_sets);
+  are_sets = λ j set is.
+      let from = mapped_set (views tables 0 kept_sets) j set is in
+      subst (λ v. IsSet (flat_of tables) x j v) from.2 (filled_set tables x j from.0 (exact j from.0 from.1));
+  more = (let same = sizes_kept (views tables 0 kept_sets) in omega (arith, same, more));
+}
+  where
+    mapped_set : (sets : List (List Item)) (j : ℕ) (set : List (Place × ℕ))
+        → slice_get (map (λ set. map pair set) sets) j ≡ Some set
+        → (items : List Item) × (slice_get sets j ≡ Some items) × (map pair items ≡ set)
+    mapped_set [] j set is = absurd (cc is)
+    mapped_set (s ∷ sets) zero set is = (s, refl, cc is)
+    mapped_set (s ∷ sets) (suc j) set is = mapped_set sets j set is
+
+    sizes_kept : (sets : List (List Item))
+        → sum_by (λ set. length set) (map (λ set. map pair set) sets) ≡ sum_by (λ set. length set) sets
+    sizes_kept [] = refl
+    sizes_kept (s ∷ sets) =
+        let here = length-map s pair in
+        let rest = sizes_kept sets in
+        let one = sum_by-cons (λ (set : List (Place × ℕ)). length set) (map pair s) (map (λ set. map pair set) sets) in
+        let two = sum_by-cons (λ (set : List Item). length set) s sets in
+        omega (arith, here, rest, one, two)
+
+-- one set more has at least its items beside the blocks
+pub counted_push : (tables : code_flat.Tables) (kept_sets : List EarleySet) (kept_set : EarleySet) (items : List Item)
+    (beside count : ℕ) → kept_set.items ≡ items
+    → beside ≤ sum_by (λ set. length set) (views tables 0 kept_sets) → count ≤ beside + length items
+    → count ≤ sum_by (λ set. length set) (views tables 0 (kept_sets ++ kept_set ∷ []))
+counted_push tables kept_sets kept_set items beside count is before le =
+    let place = 0 + length kept_sets in
+    let more = ap (λ (vs : List (List Item)). sum_by (λ set. length set) vs)
+    (views_more tables 0 kept_sets kept_set)
+    ∙ sum_by_push (λ (set : List Item). length set) (views tables 0 kept_sets) (view tables place kept_set) in
+    let long = length-append (expand (block_of tables) place kept_set.heads) kept_set.items in
+    let same = ap (λ (l : List Item). length l) is in
+    omega (arith, more, long, same, before, le)
+
+module _ (tables : code_flat.Tables) (x : List ℕ) (sets : List (List Item)) (size : length sets ≡ length x + 1)
+    (exact : IsExact tables x sets) where
   no_set : (j : ℕ) → length x + 1 ≤ j → IsSet (flat_of tables) x j []
   no_set j past = record {
     held = λ p i h. nobody p i h;
@@ -85,7 +132,7 @@ module _ (tables : code_flat.Tables) (x : List ℕ) (sets : List (List Item)) (s
   pub chart_sets : (j : ℕ) → IsSet (flat_of tables) x j (set_at (map (λ set. map pair set) sets) j)
   chart_sets j = ⊎_elim
       (λ h. subst (λ v. IsSet (flat_of tables) x j v) (sym (index_map (λ set. map pair set) sets j h.0 [] h.1))
-      (filled_set j h.0 (exact j h.0 h.1)))
+      (filled_set tables x j h.0 (exact j h.0 h.1)))
       (λ past. subst (λ v. IsSet (flat_of tables) x j v) (sym (index_past (λ set. map pair set) sets j [] past))
       (no_set j (omega (arith, past, size))))
       (there_or_past sets j)

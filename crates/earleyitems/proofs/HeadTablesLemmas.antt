@@ -3,7 +3,7 @@
 use Rattle.std.proofs.Common.{◌≡◌, ℕ, zero, suc, ◌<◌, ◌⊎◌, inl, inr, List, [], ◌∷◌, ◌++◌, length, set, Some, refl, ap}
 use Rattle.std.proofs.Common.{◌∙◌, arith, slice_get}
 use Rattle.flatgrammar.specs.Places.{In}
-use Rattle.flatgrammar.proofs.FlatCutLemmas.{push_cases}
+use Rattle.flatgrammar.proofs.SliceGetLemmas.{push_cases}
 use Rattle.earleyitems.specs.HeadTables.{IsTable}
 use Rattle.earleyitems.proofs.AreBucketsLemmas.{keeps_get, get_in}
 

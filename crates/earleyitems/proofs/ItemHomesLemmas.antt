@@ -3,9 +3,9 @@
 use Rattle.std.proofs.Common.{◌≡◌, ℕ, zero, suc, ◌<◌, ◌≤◌, ◌⊎◌, inl, inr, List, [], ◌∷◌, ◌++◌, length, map, take, Some}
 use Rattle.std.proofs.Common.{None, Option, refl, sym, ◌∙◌, ap, subst, arith, slice_get, slice_index_or}
 use Rattle.std.proofs.lemmas.List.{map-append, take_all}
-use Rattle.flatgrammar.proofs.BeforeLemmas.{get_below}
+use Rattle.flatgrammar.proofs.SliceGetLemmas.{get_below}
 use Rattle.flatgrammar.proofs.CallOfLemmas.{some_same}
-use Rattle.flatgrammar.proofs.FlatCutLemmas.{push_cases}
+use Rattle.flatgrammar.proofs.SliceGetLemmas.{push_cases}
 use Rattle.flatgrammar.proofs.SpotListLemmas.{readers_pick}
 use Rattle.flatgrammar.specs.Blocks.{home_of, home_or, inner_of, AreHomes, AreSpotLists, block_of, item_at, lists_of}
 use Rattle.flatgrammar.specs.Blocks.{readers_of}

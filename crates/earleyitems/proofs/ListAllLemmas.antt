@@ -23,7 +23,7 @@ use Rattle.flatgrammar.specs.declared.spot_list.Ask.{Ask}
 use Rattle.earleyitems.proofs.BlockLemmas.{in_right, in_either, in_map, from_map}
 use Rattle.earleyitems.proofs.AddsLemmas.{adds_none, adds_both, adds_as}
 use Rattle.earleyitems.proofs.ExpandLemmas.{take_one}
-use Rattle.flatgrammar.proofs.FlatCutLemmas.{push_cases}
+use Rattle.flatgrammar.proofs.SliceGetLemmas.{push_cases}
 use Rattle.earleyitems.proofs.ItemLemmas.{item_same}
 use Rattle.earleyitems.proofs.AreBucketsLemmas.{keeps_get, end_get, or_get}
 

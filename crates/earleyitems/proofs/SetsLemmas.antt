@@ -6,7 +6,7 @@ use Rattle.std.proofs.Common.{append_assoc}
 use Rattle.std.specs.Prelude.{slice_range}
 use Rattle.std.proofs.Math.Seq.{drop-append_seam, length-take-le}
 use Rattle.std.proofs.lemmas.List.{drop-append-le, take-append-le, length-drop, take_all, map-append, append-nil}
-use Rattle.flatgrammar.proofs.FlatCutLemmas.{push_cases}
+use Rattle.flatgrammar.proofs.SliceGetLemmas.{push_cases}
 use Rattle.earleyitems.specs.declared.sets.Part.{Part}
 use Rattle.earleyitems.specs.declared.sets.Bounds.{Bounds}
 use Rattle.earleyitems.specs.declared.sets.Stores.{Stores}

@@ -1,5 +1,6 @@
 -- A chart as contracts see it: of each set its items, each a place with its origin.
-use Rattle.std.specs.Prelude.{◌≡◌, ◌↔◌, ℕ, List, [], map, slice_get, slice_index_or, length, Option, Some, None}
+use Rattle.std.specs.Prelude.{◌≡◌, ◌↔◌, ℕ, ◌<◌, List, [], map, slice_get, slice_index_or, length, sum_by, Option}
+use Rattle.std.specs.Prelude.{Some, None}
 use Rattle.std.proofs.Common.{Global}
 use Rattle.std.specs.declared.rc.Rc.{Rc}
 use Rattle.flatgrammar.specs.Flat.{Flat, Place, at}
@@ -38,6 +39,12 @@ pub record IsSet (flat : Flat) (x : List ℕ) (j : ℕ) (set : List (Place × �
   pub held : (p : Place) (i : ℕ) → In {A = Place × ℕ} (p, i) set → Holds flat x j p i
   pub all : (p : Place) (i : ℕ) → Holds flat x j p i → In {A = Place × ℕ} (p, i) set
   pub different : AreDifferent set
+
+-- sets of a line, from the first on, have more than that many items in all
+pub record HaveMoreItems (flat : Flat) (x : List ℕ) (most : ℕ) : Type 0 where
+  pub sets : List (List (Place × ℕ))
+  pub are_sets : (j : ℕ) (set : List (Place × ℕ)) → slice_get sets j ≡ Some set → IsSet flat x j set
+  pub more : most < sum_by (λ set. length set) sets
 
 -- each set has its size beside it
 pub record AreSized (tables : Option (Rc code_flat.Tables Global)) (kept_sets : List EarleySet) : Type 0 where

@@ -1,10 +1,10 @@
 //! Charts of item sets, and the line judge.
-ghost use Rattle.std.specs.Prelude.{◌≡◌, ◌↔◌, ◌+◌, ◌≤◌, ℕ, List, [], true, Some, IsTrue, IfOk, IfSome, IfNone, OnOk};
-ghost use Rattle.std.specs.Prelude.{OnErr, length, map, slice_get};
+ghost use Rattle.std.specs.Prelude.{◌≡◌, ◌↔◌, ◌+◌, ◌<◌, ◌≤◌, ℕ, List, [], true, false, Some, IsTrue, IfOk, IfSome};
+ghost use Rattle.std.specs.Prelude.{IfNone, OnOk, OnErr, length, map, slice_get, sum_by};
 ghost use Rattle.flatgrammar.specs.NodeSteps.{flat_of};
 ghost use Rattle.flatgrammar.specs.TableViews.{GiveRoots, AreNulls};
 ghost use Rattle.earleyitems.specs.Charts.{IsAfter, IsExact};
-ghost use Rattle.earleyitems.specs.ChartSets.{chart_of, set_at, IsSet, AreSized, AreSpotsOf};
+ghost use Rattle.earleyitems.specs.ChartSets.{chart_of, set_at, IsSet, AreSized, AreSpotsOf, HaveMoreItems};
 ghost use Rattle.flatgrammar.specs.Blocks.{AreExact, block_of, item_at, AreTables, AreAlone, AreHomes, AreSpotLists};
 ghost use Rattle.earleyitems.specs.ItemHomes.{head_rows, AreItemsHomed, AreReadersHomed};
 ghost use Rattle.earleyitems.specs.ItemSets.{Adds};
@@ -197,6 +197,8 @@ fn fill_sets<L: Letter>(
     requires no_items { kept.old.items.items ≡ [] }
     requires no_sets { sets.old ≡ [] }
     ensures size { IfOk result (λ whole. whole ≡ true → length sets.new ≡ length line.now + 1) }
+    ensures more { IfOk result (λ whole. whole ≡ false → most < sum_by (λ set. length set)
+        (views flat.now 0 sets.new)) }
     ensures sized { OnOk result ((j : ℕ) (f : kept_set) → slice_get sets.new j ≡ Some f
         → f.size ≡ length (view flat.now j f)) }
     ensures exact { OnOk result (IsExact flat.now (map L.number line.now) (views flat.now 0 sets.new)) }
@@ -298,6 +300,8 @@ fn judge_by<L: Letter>(
     ensures answer { IfOk result (λ told. IfSome told (λ yes. IsTrue yes ↔ Holds (flat_of tables.value)
         (map L.number line.now) (length line.now) (Place.at (flat_of tables.value).whole 1) 0)) }
     ensures none { IfOk result (λ told. IfNone told (chart.new ≡ [])) }
+    ensures more { IfOk result (λ told. IfNone told (HaveMoreItems (flat_of tables.value) (map L.number line.now)
+        most)) }
     ensures empty { OnErr result (chart.new ≡ []) }
 {
     let mut sets = sets;
@@ -316,8 +320,10 @@ fn judge_by<L: Letter>(
 /// Fills the chart with the item sets of a line, and tells whether the last set holds the whole's end with origin 0.
 /// The line may have at most `flat.limit()` letters.
 ///
-/// It gives up once more than `most` items are kept one by one, as those of blocks are not, and returns `None`; the
-/// chart is empty then. `Memory` if an allocation fails; the chart is empty then.
+/// It gives up once more than `most` items are kept one by one, as those of blocks are not. It returns `None` then: the
+/// sets of the line have more than `most` items, and the chart is empty.
+///
+/// `Memory` if an allocation fails; the chart is empty then.
 pub fn judge_within<L: Letter>(
     chart: &mut Chart,
     flat: &Flat,
@@ -330,6 +336,7 @@ pub fn judge_within<L: Letter>(
     ensures answer { IfOk result (λ told. IfSome told (λ yes. IsTrue yes ↔ Holds flat.now (map L.number line.now)
         (length line.now) (Place.at flat.now.whole 1) 0)) }
     ensures none { IfOk result (λ told. IfNone told (chart.new ≡ [])) }
+    ensures more { IfOk result (λ told. IfNone told (HaveMoreItems flat.now (map L.number line.now) most)) }
     ensures empty { OnErr result (chart.new ≡ []) }
 {
     let (sets, kept) = chart.take_kept();

@@ -1,3 +1,8 @@
+mod BacksLemmas
+mod DistanceLemmas
+mod FillsLemmas
+mod RoundsLemmas
+mod ShortChainsLemmas
 pub mod AreListsLemmas
 pub mod AtLemmas
 pub mod ClosesLemmas

@@ -1,9 +1,12 @@
 pub mod Demands
+pub mod Distances
+pub mod Fills
 pub mod Leads
 pub mod Least
 pub mod NeedCounts
 pub mod NumberMarks
 pub mod Reach
+pub mod ShortChains
 pub mod StepRows
 pub mod UserLists
 pub mod Way

@@ -1,17 +1,25 @@
-//! Least sets over numbers: what comes in by needs, what steps reach, and which numbers come back to themselves.
+//! Least sets over numbers: what comes in by needs, what steps reach, and which numbers come back to themselves. And
+//! distances by steps, and shortest chains of steps from one number.
 //!
-//! A table of rows gives each number the numbers that its steps lead to. `docs/crates/fixpoint.md` quotes the
-//! contracts.
+//! A table of rows gives each number the numbers that its steps lead to. Of the shortest chains to a number the library
+//! returns one: before each number of it stands the least one that is a step nearer.
 #![tactic(auto)]
 
+mod backs;
+mod chains;
 mod cycles;
+mod distances;
+mod laws;
 mod marks;
 mod needs;
 mod owned;
 mod reach;
+mod rounds;
 mod rows;
 
+pub use chains::{Chains, chains_from};
 pub use cycles::{Cycles, on_cycle};
+pub use laws::{one_chain, one_way_back};
 pub use marks::{mark, marks_of, some_marked};
 pub use needs::{Need, are_needs_within, derive, least};
 pub use owned::{OwnedNeed, borrowed_needs, slices};

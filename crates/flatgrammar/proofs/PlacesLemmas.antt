@@ -7,7 +7,7 @@ use Rattle.std.specs.Prelude.{slice_get, Some}
 use Rattle.flatgrammar.specs.Flat.{Node, Flat, Place, at, Set, Begins, Reading, Calling, Starts, starts, name_starts}
 use Rattle.flatgrammar.specs.Flat.{reads, calls}
 use Rattle.flatgrammar.specs.Holds.{Holds, begins, called, has_read, returned}
-use Rattle.flatgrammar.proofs.BeforeLemmas.{get_below}
+use Rattle.flatgrammar.proofs.SliceGetLemmas.{get_below}
 use Rattle.flatgrammar.specs.Places.{width, places, In, now, on, AreDifferent}
 
 -- the list without one member

@@ -16,9 +16,9 @@ use Rattle.flatgrammar.specs.declared.roots.Way.TheVariants.{On, Found}
 use Rattle.flatgrammar.specs.FlatViews.{node_of, nodes_of}
 use Rattle.flatgrammar.specs.Ways.{way_to, first_way, root_of, AreFirst, IsFound, IsOnWithin, LeadsTo, arrived}
 use Rattle.flatgrammar.specs.Ways.{leads_on, AreWays}
-use Rattle.flatgrammar.proofs.FlatCutLemmas.{push_cases}
-use Rattle.flatgrammar.proofs.RuleNodeLemmas.{get_there}
-use Rattle.flatgrammar.proofs.SpellAllLemmas.{get_kept}
+use Rattle.flatgrammar.proofs.SliceGetLemmas.{push_cases}
+use Rattle.flatgrammar.proofs.SliceGetLemmas.{get_there}
+use Rattle.flatgrammar.proofs.SliceGetLemmas.{get_kept}
 use Rattle.flatgrammar.proofs.WalkLemmas.{ways_differ, found_same}
 
 other_way : {t : ℕ} {r : Option ℕ} → Found r ≡ On t → ⊥

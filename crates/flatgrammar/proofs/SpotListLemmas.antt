@@ -15,7 +15,7 @@ use Rattle.flatgrammar.specs.Blocks.{call_at, spots_of, AreAsks}
 use Rattle.flatgrammar.specs.declared.flat_node.Ends.{Ends}
 use Rattle.flatgrammar.specs.Blocks.{Lists, Reads, AreEnds, Picks, AreByLetter, lists_in, IsSpotList}
 use Rattle.flatgrammar.proofs.CallOfLemmas.{past_get}
-use Rattle.flatgrammar.proofs.FlatCutLemmas.{push_cases}
+use Rattle.flatgrammar.proofs.SliceGetLemmas.{push_cases}
 use Rattle.flatgrammar.proofs.InLemmas.{in_left, at_end, before_end, among_more, in_front, from_front, different_end}
 
 taken_more : {a : Spot} (k : ℕ) (xs : List Spot) (d : Spot) → k < length xs → In a (take (k + 1) xs) → In a (take k xs)

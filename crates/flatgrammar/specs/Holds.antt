@@ -11,3 +11,9 @@ module _ (flat : Flat) (x : List ℕ) where
         → Has set c → Holds (j + 1) r i
     returned : {i j k s : ℕ} {q r p : Place} → Holds j p k → Ends flat p s → Holds k q i → Calls flat q s r
         → (Takes flat q → k < j) → Holds j r i
+
+-- set j is not empty
+pub record HasItem (flat : Flat) (x : List ℕ) (j : ℕ) : Type 0 where
+  pub place : Place
+  pub origin : ℕ
+  pub held : Holds flat x j place origin

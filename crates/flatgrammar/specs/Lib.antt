@@ -4,14 +4,10 @@ pub mod FlatViews
 pub mod HeadBlocks
 pub mod Holds
 pub mod Inners
-pub mod Lowered
 pub mod NodeSteps
-pub mod NullElements
 pub mod Nullable
-pub mod Numbers
+pub mod Operands
 pub mod Places
 pub mod Roots
 pub mod TableViews
-pub mod ToldBeginnings
-pub mod Verdicts
 pub mod Ways

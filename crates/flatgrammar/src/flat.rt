@@ -4,7 +4,7 @@ ghost use Rattle.flatgrammar.specs.Blocks.{AreExact};
 ghost use Rattle.flatgrammar.specs.FlatViews.{node_of, nodes_of};
 ghost use Rattle.flatgrammar.specs.NodeSteps.{flat_of};
 ghost use Rattle.flatgrammar.specs.Nullable.{Nullable};
-ghost use Rattle.flatgrammar.specs.Numbers.{AreOrdered};
+ghost use Rattle.flatgrammar.specs.Operands.{AreOrdered};
 ghost use Rattle.flatgrammar.specs.Roots.{Root};
 ghost use Rattle.flatgrammar.specs.TableViews.{AreNulls};
 
@@ -44,7 +44,7 @@ impl Model for Flat {
 impl Flat {
     /// Returns the flat grammar of these nodes, of which the nullable ones are marked, for lines of at most `limit`
     /// letters. `Memory` if an allocation fails.
-    pub(crate) fn new(
+    pub fn new(
         alloc: Global,
         nodes: Vec<Node>,
         nulls: Vec<bool>,

@@ -1,7 +1,7 @@
 //! Items.
 
 /// A place, which is a node and a step of it, with the number of letters before which the node's expression began.
-#[derive(Clone, Copy, PartialEq, Eq)]
+#[derive(Clone, Copy)]
 pub struct Item {
     pub node: usize,
     pub step: usize,

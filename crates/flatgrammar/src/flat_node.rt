@@ -1,13 +1,13 @@
 //! Numbered nodes.
 ghost use Rattle.std.specs.Prelude.{◌≡◌, ◌≢◌, ◌↔◌, ◌+◌, ◌^◌, ◌<◌, ◌≤◌, ℕ, None, IsTrue};
-ghost use Rattle.abnfcheck.specs.Derivable.{small};
+ghost use Rattle.letters.specs.Letters.{small};
 ghost use Rattle.flatgrammar.specs.Flat.{Has, Rep, Turns};
 ghost use Rattle.flatgrammar.specs.FlatViews.{set_of, node_of};
 ghost use Rattle.flatgrammar.specs.NodeSteps.{begin_count, is_done, callee, call_count, turned, takes, read_at};
 ghost use Rattle.flatgrammar.specs.NodeSteps.{IfSomeSet};
 
 /// A set of letters.
-#[derive(Clone, Copy, Debug, PartialEq, Eq)]
+#[derive(Clone, Copy)]
 pub enum Set {
     /// This letter.
     Exactly(u32),

@@ -1,4 +1,4 @@
-//! Lowers grammars in ABNF to numbered nodes.
+//! Grammars as numbered nodes, with tables of what judging looks up by node.
 #![tactic(auto)]
 
 mod block;
@@ -9,25 +9,18 @@ mod flat_node;
 mod head_block;
 mod inner;
 mod item_laws;
-mod letter_law;
-mod lower_elem;
-mod lowered;
 mod roots;
 mod spot_list;
 mod tables;
-mod verdict;
 
 pub use block::{Block, Spot};
 pub use flat::Flat;
 pub use flat_item::Item;
 pub use flat_node::{Ends, Node, Set};
 pub use inner::{Inner, begin_steps};
-pub use item_laws::{items_at_most, items_tell};
-pub use letter_law::values_are_letters;
-pub use lowered::{lower, lower_rules};
+pub use item_laws::items_at_most;
 pub use spot_list::{Ask, SpotList};
 pub use tables::{
     Deed, Tables, asks, call, calls, deed_of, null, passes, readers, reads, sole_caller, spots,
     takes_letter, whole_root,
 };
-pub use verdict::Verdict;

@@ -13,7 +13,7 @@ use Rattle.std.specs.Prelude.{slice_get, Some, Contains}
 use Rattle.flatgrammar.specs.Flat.{Place}
 use Rattle.flatgrammar.specs.declared.tables.Tables as code_flat
 use Rattle.flatgrammar.proofs.InnerLemmas.{set_same, set_other}
-use Rattle.flatgrammar.proofs.FlatCutLemmas.{push_cases}
+use Rattle.flatgrammar.proofs.SliceGetLemmas.{push_cases}
 use Rattle.lazydfa.specs.declared.conts.Cont.{Cont}
 use Rattle.lazydfa.specs.declared.cache.State.{State}
 use Rattle.lazydfa.specs.declared.cache.Cell.{Cell}

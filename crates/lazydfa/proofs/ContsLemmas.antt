@@ -9,7 +9,7 @@ use Rattle.std.proofs.lemmas.List.Elements.{Contains-append_left, Contains-appen
 use Rattle.std.proofs.lemmas.Option.{slice_get_within}
 use Rattle.std.specs.Prelude.{slice_get, Some, Contains, not}
 use Rattle.flatgrammar.specs.Flat.{Place, at}
-use Rattle.flatgrammar.proofs.FlatCutLemmas.{push_cases}
+use Rattle.flatgrammar.proofs.SliceGetLemmas.{push_cases}
 use Rattle.lazydfa.specs.declared.conts.Cont.{Cont}
 use Rattle.lazydfa.specs.Conts.{stack_back, stack_of, AreOlder, AreKept, IsIdOf, Adds, IsAdded, Begun, CallMoves}
 use Rattle.lazydfa.specs.Conts.{after, Goes, EndsAlone}

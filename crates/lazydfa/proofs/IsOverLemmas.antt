@@ -21,7 +21,7 @@ use Rattle.lazydfa.proofs.ContsLemmas.{kept_stack, kept_within, kept_same}
 use Rattle.lazydfa.proofs.AreCachedLemmas.{stack_on, stack_off, grown_at}
 use Rattle.lazydfa.proofs.IsAtLemmas.{front_as, at_start}
 use Rattle.lazydfa.proofs.PutsBackLemmas.{put_back_kept, put_back_unfolds}
-use Rattle.flatgrammar.proofs.FlatCutLemmas.{push_cases}
+use Rattle.flatgrammar.proofs.SliceGetLemmas.{push_cases}
 
 pub below_end : (conts : List Cont) (parts : List ℕ) (part : ℕ) (under : List Place)
     → below_onto conts (parts ++ part ∷ []) under ≡ stack_of conts part ++ below_onto conts parts under

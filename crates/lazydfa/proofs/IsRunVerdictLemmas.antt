@@ -7,18 +7,18 @@ use Rattle.std.specs.Prelude.{slice_get, Option, Some, None, IfSome, option_map}
 use Rattle.abnfread.specs.Element.{Rule}
 use Rattle.abnfcheck.specs.Derivable.{AreLetters, RuleDerives}
 use Rattle.flatgrammar.specs.Flat.{Flat, Place, Concat}
-use Rattle.flatgrammar.specs.Lowered.{IsLowered}
+use Rattle.lowering.specs.Lowered.{IsLowered}
 use Rattle.flatgrammar.specs.FlatViews.{node_of}
 use Rattle.flatgrammar.specs.declared.flat_node.Node as code_node
 use Rattle.flatgrammar.proofs.CallOfLemmas.{get_map}
 use Rattle.flatgrammar.specs.NodeSteps.{flat_of}
 use Rattle.flatgrammar.specs.TableViews.{GiveRoots}
-use Rattle.flatgrammar.specs.ToldBeginnings.{TellsBeginnings}
-use Rattle.flatgrammar.specs.Verdicts.{IsVerdict}
+use Rattle.lowering.specs.ToldBeginnings.{TellsBeginnings}
+use Rattle.lowering.specs.Verdicts.{IsVerdict}
 use Rattle.flatgrammar.specs.declared.tables.Tables as code_flat
-use Rattle.flatgrammar.specs.declared.verdict.Verdict.{Verdict}
-use Rattle.flatgrammar.specs.declared.verdict.Verdict.TheVariants.{Yes, No}
-use Rattle.flatgrammar.proofs.RuleDerivesLemmas.{derives_exactly}
+use Rattle.lowering.specs.declared.verdict.Verdict.{Verdict}
+use Rattle.lowering.specs.declared.verdict.Verdict.TheVariants.{Yes, No}
+use Rattle.lowering.proofs.RuleDerivesLemmas.{derives_exactly}
 use Rattle.letterclasses.specs.Stacks.{Accepts, AreUncounted}
 use Rattle.letterclasses.proofs.StacksLemmas.{accepted_holds, holds_accepted, reached_item, item_reached}
 use Rattle.lazydfa.specs.declared.conts.Cont.{Cont}

@@ -1,8 +1,8 @@
 -- What a run over a line tells of its stacks.
 use Rattle.std.specs.Prelude.{◌≡◌, ℕ, ◌<◌, ◌≤◌, Bool, List, [], ◌∷◌, length, slice_get, Some}
 use Rattle.flatgrammar.specs.Flat.{Flat, Place, Concat}
-use Rattle.flatgrammar.specs.declared.verdict.Verdict.{Verdict}
-use Rattle.flatgrammar.specs.declared.verdict.Verdict.TheVariants.{Yes, No}
+use Rattle.lowering.specs.declared.verdict.Verdict.{Verdict}
+use Rattle.lowering.specs.declared.verdict.Verdict.TheVariants.{Yes, No}
 use Rattle.letterclasses.specs.Stacks.{Reach, Accepts}
 
 -- the whole is a concatenation of one

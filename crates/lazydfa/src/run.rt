@@ -18,9 +18,10 @@ use crate::glide::{Stand, glide};
 use crate::hops::note_hop;
 use crate::memo::{Memo, forget_all, unfolded};
 use crate::transition::{Front, readers};
-use flatgrammar::{Tables, Verdict, whole_root};
+use flatgrammar::{Tables, whole_root};
 use letterclasses::class_of;
 use letters::Letter;
+use lowering::Verdict;
 use ruletable::Memory;
 use std::alloc::Global;
 

@@ -17,10 +17,10 @@ use Rattle.std.specs.List.Retain.{IsFiltered, DiffersFromLast}
 use Rattle.std.specs.List.Sorted.{IsNonDecreasing, IsPartitionPoint, IsPermutation, IsSorted, IsStrictlyIncreasing}
 use Rattle.std.specs.Ordering.{nat_cmp}
 use Rattle.flatgrammar.specs.Flat.{Flat, Node, Letters, Place, Set, Has, letter, Reads, reads}
-use Rattle.flatgrammar.proofs.FlatCutLemmas.{push_cases}
+use Rattle.flatgrammar.proofs.SliceGetLemmas.{push_cases}
 use Rattle.letterclasses.specs.Stacks.{AreAlike}
 use Rattle.letterclasses.specs.ClassBounds.{IsFree, AreMoreBounds, IsBoundAdded, IsSplit, IsNodeSplit, AreNodesSplit}
-use Rattle.letterclasses.specs.ClassBounds.{AreJoined, AreParted, IsClassOf, AreLow, AreClasses}
+use Rattle.letterclasses.specs.ClassBounds.{AreJoined, AreParted, IsClassOf, HaveClasses, AreLow, AreClasses}
 
 pub bound_added : (old new : List ℕ) (n : ℕ) → new ≡ old ++ n ∷ [] → IsBoundAdded old new n
 bound_added old new n is i free = (
@@ -151,7 +151,7 @@ class_found flat bounds parted c above fits within point class is = by (cases_lt
 -- the classes of the first numbers, number by number
 pub record AreLowTo (flat : Flat) (samples low : List ℕ) (n : ℕ) : Type 0 where
   pub size : length low ≡ n
-  pub low_are : AreLow flat samples low
+  pub low_are : HaveClasses flat samples low
 
 pub low_next : (flat : Flat) (samples low new : List ℕ) (n k : ℕ) → new ≡ low ++ k ∷ []
     → IsClassOf flat samples n k → AreLowTo flat samples low n → AreLowTo flat samples new (n + 1)

@@ -7,7 +7,7 @@ use Rattle.std.specs.Prelude.{slice_get, Bool, true, false, Option, Some, None}
 use Rattle.flatgrammar.specs.Flat.{Flat, Node, Name, Concat, Turns, top, Place, at, Set, Begins, IsDone, Calling}
 use Rattle.flatgrammar.specs.Flat.{IsTaking, Starts, starts}
 use Rattle.flatgrammar.specs.Flat.{name_starts, Ends, ends, name_ends, Reads, reads, Calls, calls, Takes, in_turns}
-use Rattle.flatgrammar.specs.ToldBeginnings.{HasItem}
+use Rattle.flatgrammar.specs.Holds.{HasItem}
 use Rattle.flatgrammar.specs.Holds.{Holds, begins, called, has_read, returned}
 use Rattle.letterclasses.specs.Stacks as st
 use Rattle.letterclasses.specs.Stacks.{node_at, AreUncounted, IsDoneAt, is_done, TellsLast, Moves, call, tail_call}

@@ -1,7 +1,7 @@
 -- Numbers where classes of letters begin, and the classes between them.
-use Rattle.std.specs.Prelude.{◌≡◌, ◌↔◌, ◌⊎◌, ℕ, ◌+◌, ◌<◌, ◌≤◌, ◌^◌, List, slice_get, Some, Contains}
+use Rattle.std.specs.Prelude.{◌≡◌, ◌↔◌, ◌⊎◌, ℕ, ◌+◌, ◌<◌, ◌≤◌, ◌^◌, List, length, slice_get, Some, Contains}
 use Rattle.std.specs.List.Sorted.{IsNonDecreasing}
-use Rattle.abnfcheck.specs.Derivable.{small}
+use Rattle.letters.specs.Letters.{small}
 use Rattle.flatgrammar.specs.Flat.{Flat, Node, Letters, Set, Has}
 use Rattle.letterclasses.specs.Stacks.{AreAlike}
 
@@ -49,9 +49,14 @@ pub record IsClassOf (flat : Flat) (samples : List ℕ) (c k : ℕ) : Type 0 whe
   pub is : slice_get samples k ≡ Some sample
   pub alike : AreAlike flat c sample
 
--- the classes of the first numbers
-abbrev pub AreLow : Flat → List ℕ → List ℕ → Type 0
-AreLow flat samples low = (c k : ℕ) → slice_get low c ≡ Some k → IsClassOf flat samples c k
+-- at each index the list has the class of that number
+abbrev pub HaveClasses : Flat → List ℕ → List ℕ → Type 0
+HaveClasses flat samples low = (c k : ℕ) → slice_get low c ≡ Some k → IsClassOf flat samples c k
+
+-- of each number below 256 its class
+pub record AreLow (flat : Flat) (samples low : List ℕ) : Type 0 where
+  pub count : length low ≡ 256
+  pub classes : HaveClasses flat samples low
 
 -- the samples begin classes, in ascending order, the first of them at 0
 pub record AreParted (flat : Flat) (samples : List ℕ) : Type 0 where

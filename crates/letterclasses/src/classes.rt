@@ -5,7 +5,8 @@ ghost use Rattle.flatgrammar.specs.Flat.{Flat, EitherCase};
 ghost use Rattle.flatgrammar.specs.FlatViews.{node_of, nodes_of, set_of};
 ghost use Rattle.flatgrammar.specs.NodeSteps.{flat_of};
 ghost use Rattle.letterclasses.specs.ClassBounds.{AreCases, AreClasses, AreEndsAdded, AreLow, AreMoreBounds};
-ghost use Rattle.letterclasses.specs.ClassBounds.{AreNodesSplit, AreParted, AreSplit, IsClassOf, IsNodeSplit, IsSplit};
+ghost use Rattle.letterclasses.specs.ClassBounds.{AreNodesSplit, AreParted, AreSplit, HaveClasses, IsClassOf};
+ghost use Rattle.letterclasses.specs.ClassBounds.{IsNodeSplit, IsSplit};
 
 use crate::bounds::{Bounds, add_bound, empty_bounds};
 use flatgrammar::{Node, Set, Tables};
@@ -132,7 +133,8 @@ fn low_classes(alloc: Global, samples: &[u32]) -> Result<Vec<usize>, Memory>
 /// Returns the class of a number. Those below 256 are looked up.
 #[inline(always)]
 pub fn class_of(low: &[usize], samples: &[u32], value: u32) -> usize
-    ensures { (flat : Flat) → AreClasses flat low.now samples.now → IsClassOf flat samples.now value result }
+    ensures { (flat : Flat) → HaveClasses flat samples.now low.now → AreParted flat samples.now
+        → IsClassOf flat samples.now value result }
 {
     match low.get(value as usize) {
         Some(class) => *class,

@@ -1,5 +1,5 @@
 -- Letters, each a number.
-use Rattle.std.specs.Prelude.{◌≡◌, ◌⊎◌, ℕ, ◌<◌, ◌≤◌, Bool, true, ◌&&◌, ◌||◌, ltb, leb}
+use Rattle.std.specs.Prelude.{◌≡◌, ◌⊎◌, ℕ, ◌+◌, ◌<◌, ◌≤◌, Bool, true, ◌&&◌, ◌||◌, ltb, leb, if◌then◌else◌}
 use Rattle.letters.specs.declared.alphabet.Alphabet.{Alphabet}
 use Rattle.letters.specs.declared.alphabet.Alphabet.TheVariants.{Bytes, Utf8}
 
@@ -18,3 +18,7 @@ pub record HasLetter (has : ℕ → Bool) (low high : ℕ) : Type 0 where
   pub from : low ≤ letter
   pub to : letter ≤ high
   pub is : has letter ≡ true
+
+-- a letter from A to Z as that from a to z, any other as it is
+abbrev pub small : ℕ → ℕ
+small c = if ltb 64 c && ltb c 91 then c + 32 else c

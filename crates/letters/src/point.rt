@@ -9,7 +9,7 @@ use crate::alphabet::Alphabet;
 use crate::letter::Letter;
 
 /// A code point outside the surrogates: a number from 0 to 1,114,111 that is not one from 55,296 to 57,343.
-#[derive(Clone, Copy, Debug, PartialEq, Eq)]
+#[derive(Clone, Copy)]
 pub struct CodePoint {
     point: char,
 }

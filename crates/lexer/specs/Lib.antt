@@ -1,3 +1,4 @@
+pub mod GrammarLimits
 pub mod Pieces
 pub mod SliceEnds
 pub mod TokenLists

@@ -6,7 +6,7 @@ use ruletable::Span;
 use std::marker::PhantomData;
 
 /// A token, with its slice of the text.
-#[derive(Clone, Copy, Debug)]
+#[derive(Clone, Copy)]
 pub struct Token<'a, K> {
     pub kind: K,
     pub slice: &'a [u8],

@@ -13,15 +13,15 @@ use Rattle.linejudge.specs.InputLines.{LinesEnd, Lines, StandsAt, at_front, behi
 use Rattle.linejudge.specs.declared.answers.Answer.{Answer}
 use Rattle.linejudge.specs.declared.line.LineForm.{LineForm}
 use Rattle.linejudge.specs.declared.reached.At.{At}
-use Rattle.linejudge.specs.declared.reached.TheConstants.{MAX_TOLD}
 
--- whether a line with that answer, behind so many refused ones, is explained, where that is asked
+-- Whether a line with that answer, behind so many refused ones, is explained, where that is asked: the first 16
+-- refused lines are.
 abbrev pub is_told : Bool → ℕ → Answer → Bool
-is_told asked refused said = asked && (not (says_yes said) && nat_lt refused MAX_TOLD)
+is_told asked refused said = asked && (not (says_yes said) && nat_lt refused 16)
 
 -- how many refused lines are not explained, where that is asked
 abbrev pub count_untold : Bool → ℕ → ℕ
-count_untold asked refused = if asked then refused - MAX_TOLD else 0
+count_untold asked refused = if asked then refused - 16 else 0
 
 -- what a line that is too long may have at most
 abbrev pub limit_line : List ℕ

@@ -14,7 +14,7 @@ use itoa::Buffer;
 use ruletable::{Memory, Sink, WriteFault, write_pieces, write_whole};
 
 /// The answer to a line.
-#[derive(Clone, Copy, Debug, PartialEq, Eq)]
+#[derive(Clone, Copy)]
 pub enum Answer {
     /// `yes`.
     Yes,

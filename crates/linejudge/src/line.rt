@@ -8,14 +8,14 @@ ghost use Rattle.linejudge.specs.InputLines.{HasNoEnd, IsNext, IsShort, LiesWith
 use feed::{Feed, Held, Source};
 
 /// How an input is cut into lines: the greatest length of a line, in bytes, and the byte that ends it.
-#[derive(Clone, Copy, Debug, PartialEq, Eq)]
+#[derive(Clone, Copy)]
 pub struct LineForm {
     pub limit: usize,
     pub end: u8,
 }
 
 /// What stands at the front of the rest of an input.
-#[derive(Clone, Copy, Debug, PartialEq, Eq)]
+#[derive(Clone, Copy)]
 pub enum Line {
     /// A line of so many bytes, and its end.
     Whole(usize),

@@ -14,7 +14,6 @@ ghost use Rattle.linejudge.specs.InputLines.{LinesEnd, Lines, place_taken, taken
 ghost use Rattle.linejudge.specs.LineRefusals.{IsLong, LinesStates, MayLack, Tells, WhyStopped, count_untold};
 ghost use Rattle.linejudge.specs.LineRefusals.{stop_lines};
 ghost use Rattle.linejudge.specs.LineSteps.{FitsIn, IsStep, IsToldEnding, step_behind};
-ghost use Rattle.toolrun.specs.declared.settings.TheConstants.{MAX_LIMIT};
 
 use crate::answers::{Answer, Judge, answer_held};
 use crate::line::{Line, LineForm, next_line};
@@ -25,7 +24,7 @@ use std::alloc::Global;
 use toolrun::{Ending, Stop, ToldRefusals};
 
 /// What follows at a place: a line that takes so many bytes was answered, or a stop.
-#[derive(Clone, Copy, Debug, PartialEq, Eq)]
+#[derive(Clone, Copy)]
 pub enum Step {
     Answers { said: Answer, len: usize },
     Stops(Stop),
@@ -51,7 +50,7 @@ fn next_step<W, J: Judge<W>, R: Source, O: Sink>(
     reached: &mut Reached,
     out: &mut O,
 ) -> Result<Step, WriteFault>
-    requires small { form.limit ≤ MAX_LIMIT }
+    requires small { form.limit ≤ 16777216 }
     requires served { form.limit ≤ J.served judge.now }
     requires work { J.works_in judge.now work.old }
     requires capacity { capacity_of feed.old ≡ form.limit + 1 }
@@ -134,7 +133,7 @@ fn answer_lines<W, J: Judge<W>, R: Source, O: Sink>(
     feed: &mut Feed<'_, R>,
     out: &mut O,
 ) -> Result<Ending, WriteFault>
-    requires small { form.limit ≤ MAX_LIMIT }
+    requires small { form.limit ≤ 16777216 }
     requires served { form.limit ≤ J.served judge.now }
     requires work { J.works_in judge.now work.old }
     requires capacity { capacity_of feed.old ≡ form.limit + 1 }
@@ -203,7 +202,7 @@ pub fn run_lines<W, J: Judge<W>, R: Source, O: Sink>(
     reader: &mut R,
     out: &mut O,
 ) -> Result<Ending, WriteFault>
-    requires small { form.limit ≤ MAX_LIMIT }
+    requires small { form.limit ≤ 16777216 }
     requires served { form.limit ≤ J.served judge.now }
     requires work { J.works_in judge.now work.old }
     requires reader_is_fresh { R.failed reader.old ≡ false }

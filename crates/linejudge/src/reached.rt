@@ -9,7 +9,7 @@ use toolrun::Status;
 pub const MAX_TOLD: usize = 16;
 
 /// A place behind some lines, how many they are, and how many of them were refused.
-#[derive(Clone, Copy, Debug, PartialEq, Eq)]
+#[derive(Clone, Copy)]
 pub struct At {
     /// How many bytes stand before it.
     pub place: usize,

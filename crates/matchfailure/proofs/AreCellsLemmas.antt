@@ -6,9 +6,9 @@ use Rattle.pegnodes.specs.Nodes.{Shape}
 use Rattle.gramcheck.specs.Sound.{IsRanked}
 use Rattle.memo.specs.Entries.{Entry, found_at, AreDifferent}
 use Rattle.matchfailure.specs.declared.desk.frame.Frame.{Frame}
-use Rattle.matchfailure.specs.State.{IsStack, no_frame, bottom, above, AreCells}
+use Rattle.matchfailure.specs.State.{IsStack, no_frame, bottom, above, AreCells, last_position}
 use Rattle.pegmatch.specs.CellOutcomes.{HasCell}
-use Rattle.pegmatch.proofs.AsksLemmas.{is_visited, visited_there}
+use Rattle.pegmatch.proofs.AsksLemmas.{visited_there}
 use Rattle.pegmatch.proofs.CodeLemmas.{In, in_cases, Differ, code, code_same, code_below, cell_codes, cell_of}
 use Rattle.pegmatch.proofs.CodeLemmas.{not_among}
 use Rattle.pegmatch.proofs.CodeLemmas.{cells_differ, at_most_below}
@@ -18,11 +18,12 @@ use Rattle.matchfailure.proofs.IsStackLemmas.{high, AreAbove, are_above, top_vis
 module _ (rules : List Rule) (start : ℕ) (nodes : List Shape) (bodies ranks x : List ℕ) (more : Bool)
     (sound : IsRanked rules start nodes bodies ranks) where
   pub cell_there : (cells : List Entry) → AreCells rules start nodes bodies x more cells → (m q : ℕ) → HasCell cells m q
-      → (m < length nodes) × (q ≤ length x)
-  cell_there cells c m q h = visited_there rules start nodes bodies ranks x sound m q (c.visited m q h.0 h.1)
+      → (m < length nodes) × (q ≤ last_position x more)
+  cell_there cells c m q h =
+      ((visited_there rules start nodes bodies ranks x sound m q (c.visited m q h.0 h.1)).0, c.low m q h.0 h.1)
 
   abbrev Width : ℕ
-  Width = length x + 1
+  Width = last_position x more + 1
 
   cells_low : (cells : List Entry) → AreCells rules start nodes bodies x more cells → (m q : ℕ) → HasCell cells m q
       → q < Width
@@ -30,18 +31,15 @@ module _ (rules : List Rule) (start : ℕ) (nodes : List Shape) (bodies ranks x 
 
   abbrev Low : List Frame → Type 0
   Low [] = Unit {0}
-  Low (f ∷ fs) = (f.place ≤ length x) × Low fs
+  Low (f ∷ fs) = (f.place ≤ last_position x more) × Low fs
 
   all_low : {cells : List Entry} {fs : List Frame} → IsStack rules start nodes bodies x more cells fs → Low fs
   all_low no_frame = tt
-  all_low (bottom o at is) = (omega arith, tt)
-  all_low {cells = cells} (above {h = g} {f = k} {fs = fs} o a s) =
-      let v = is_visited rules start nodes bodies ranks x sound
-      (top_visits rules start nodes bodies ranks x more sound cells g (k ∷ fs) (above o a s)) in
-      (v.high, all_low s)
+  all_low (bottom o at is) = (o.low, tt)
+  all_low (above o a s) = (o.low, all_low s)
 
-  not_same : (f g : Frame) → f.place ≤ length x → g.place ≤ length x → high rules start nodes bodies ranks x more sound
-      f < high rules start nodes bodies ranks x more sound g →
+  not_same : (f g : Frame) → f.place ≤ last_position x more → g.place ≤ last_position x more
+      → high rules start nodes bodies ranks x more sound f < high rules start nodes bodies ranks x more sound g →
       code Width f.node f.place ≡ code Width g.node g.place → ⊥
   not_same f g low lo less same =
       let pair = code_same Width f.node f.place g.node g.place (omega arith) (omega arith) same in
@@ -50,7 +48,7 @@ module _ (rules : List Rule) (start : ℕ) (nodes : List Shape) (bodies ranks x 
       absurd (omega arith)
 
   frame_not_among : (cells : List Entry) → AreCells rules start nodes bodies x more cells → (f : Frame)
-      → f.place ≤ length x → found_at cells f.node f.place ≡ None →
+      → f.place ≤ last_position x more → found_at cells f.node f.place ≡ None →
       (fs : List Frame) → Low fs → AreAbove rules start nodes bodies ranks x more sound
       (high rules start nodes bodies ranks x more sound f) fs →
       In (code Width f.node f.place) (all_codes Width cells fs) → ⊥
@@ -65,14 +63,12 @@ module _ (rules : List Rule) (start : ℕ) (nodes : List Shape) (bodies ranks x 
       → {fs : List Frame} → IsStack rules start nodes bodies x more cells fs → Differ (all_codes Width cells fs)
   all_differ cells c d no_frame = cells_differ Width cells (cells_low cells c) d
   all_differ cells c d (bottom {f = f} o at is) =
-      (frame_not_among cells c f (omega arith) o.none [] tt tt, cells_differ Width cells (cells_low cells c) d)
-  all_differ cells c d (above {h = g} {f = k} {fs = fs} o a s) =
-      let v = is_visited rules start nodes bodies ranks x sound
-      (top_visits rules start nodes bodies ranks x more sound cells g (k ∷ fs) (above o a s)) in (
-        frame_not_among cells c g v.high o.none (k ∷ fs) (all_low s) (are_above rules start nodes bodies ranks x more
-            sound (above o a s)),
-        all_differ cells c d s,
-      )
+      (frame_not_among cells c f o.low o.none [] tt tt, cells_differ Width cells (cells_low cells c) d)
+  all_differ cells c d (above {h = g} {f = k} {fs = fs} o a s) = (
+    frame_not_among cells c g o.low o.none (k ∷ fs) (all_low s) (are_above rules start nodes bodies ranks x more sound
+        (above o a s)),
+    all_differ cells c d s,
+  )
 
   cells_below : (cells : List Entry) → AreCells rules start nodes bodies x more cells → (a : ℕ)
       → In a (cell_codes Width cells) → a < length nodes * Width
@@ -90,7 +86,7 @@ module _ (rules : List Rule) (start : ℕ) (nodes : List Shape) (bodies ranks x 
       (top_visits rules start nodes bodies ranks x more sound cells f []
       (bottom o at is)) in
       elim (in_cases h) [
-        | inl same ↦ rw same (code_below Width f.node f.place (length nodes) l.0 (omega (arith, l.1)))
+        | inl same ↦ rw same (code_below Width f.node f.place (length nodes) l.0 (omega (arith, o.low)))
         | inr later ↦ cells_below cells c a later
       ]
   all_below cells c (above {h = g} {f = k} {fs = fs} o b s) a h =
@@ -98,14 +94,14 @@ module _ (rules : List Rule) (start : ℕ) (nodes : List Shape) (bodies ranks x 
       (top_visits rules start nodes bodies ranks x more sound cells g (k ∷ fs)
       (above o b s)) in
       elim (in_cases h) [
-        | inl same ↦ rw same (code_below Width g.node g.place (length nodes) l.0 (omega (arith, l.1)))
+        | inl same ↦ rw same (code_below Width g.node g.place (length nodes) l.0 (omega (arith, o.low)))
         | inr later ↦ all_below cells c s a later
       ]
 
-  -- cells and frames are no more than nodes at places
+  -- cells and frames are no more than nodes at positions up to the last one
   pub all_at_most : (cells : List Entry) (fs : List Frame) → AreCells rules start nodes bodies x more cells
       → AreDifferent cells → IsStack rules start nodes bodies x more cells fs →
-      length cells + length fs ≤ length nodes * (length x + 1)
+      length cells + length fs ≤ length nodes * (last_position x more + 1)
   all_at_most cells fs c d s =
       let most = at_most_below (all_codes Width cells fs) (length nodes * Width) (all_differ cells c d s)
       (λ a h. all_below cells c s a h) in

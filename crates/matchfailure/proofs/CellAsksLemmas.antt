@@ -25,20 +25,20 @@ module _ (g : Grammar) (x : List ℕ) (d : View) (sound : IsSoundGrammar g) (don
   Ns = shapes_of g.nodes
 
   took_takes : (k p r : ℕ) → found_at d.cells k p ≡ Some (Took r) → NodeTakes Rs Ns g.bodies x k p r
-  took_takes k p r h = takes_by Rs g.start Ns g.bodies g.ranks x false sound d.cells done.found k p r h
+  took_takes k p r h = takes_by Rs g.start Ns g.bodies g.ranks x false sound d.cells done.cells.found k p r h
 
   takes_took : (k p r : ℕ) → HasCell d.cells k p → NodeTakes Rs Ns g.bodies x k p r → found_at d.cells k p
       ≡ Some (Took r)
-  takes_took k p r (Failed, h) t = absurd (nor_both Rs g.start Ns g.bodies g.ranks x false sound d.cells done.found k p
-      r h t)
+  takes_took k p r (Failed, h) t = absurd (nor_both Rs g.start Ns g.bodies g.ranks x false sound d.cells
+      done.cells.found k p r h t)
   takes_took k p r (Took z, h) t =
-      let same = ends_alike Rs g.start Ns g.bodies g.ranks x false sound d.cells done.found k p z r h t in
+      let same = ends_alike Rs g.start Ns g.bodies g.ranks x false sound d.cells done.cells.found k p z r h t in
       subst (λ v. found_at d.cells k p ≡ Some (Took v)) (sym same) h
 
   fails_failed : (k p : ℕ) → HasCell d.cells k p → NodeFails Rs Ns g.bodies x k p → found_at d.cells k p ≡ Some Failed
   fails_failed k p (Failed, h) t = h
-  fails_failed k p (Took z, h) t = absurd (not_both Rs g.start Ns g.bodies g.ranks x false sound d.cells done.found k p
-      z h t)
+  fails_failed k p (Took z, h) t = absurd (not_both Rs g.start Ns g.bodies g.ranks x false sound d.cells
+      done.cells.found k p z h t)
 
   walk_asks : {ms : List ℕ} {p m q : ℕ} → WalksTo d.cells ms p m q → AsksMember Rs Ns g.bodies x ms p m q
   walk_asks walk_here = member_here
@@ -53,7 +53,8 @@ module _ (g : Grammar) (x : List ℕ) (d : View) (sound : IsSoundGrammar g) (don
   try_asks : {p m : ℕ} {ms : List ℕ} → TriesTo d.cells p ms m → AsksAlternative Rs Ns g.bodies x p ms m
   try_asks try_here = alternative_here
   try_asks {p = p} (try_later {k = k} h t) =
-      alternative_later (fails_by Rs g.start Ns g.bodies g.ranks x false sound d.cells done.found k p h) (try_asks t)
+      alternative_later (fails_by Rs g.start Ns g.bodies g.ranks x false sound d.cells done.cells.found k p h)
+      (try_asks t)
 
   asks_try : {p m : ℕ} {ms : List ℕ} → AsksAlternative Rs Ns g.bodies x p ms m
       → ((k : ℕ) → AsksAlternative Rs Ns g.bodies x p ms k → HasCell d.cells k p) → TriesTo d.cells p ms m
@@ -65,7 +66,7 @@ module _ (g : Grammar) (x : List ℕ) (d : View) (sound : IsSoundGrammar g) (don
     -- what is asked for has a cell
     has_cell : (shape : Shape) → slice_get Ns n ≡ Some shape → (m q : ℕ) → AsksBy Rs Ns g.bodies x shape n p m q
         → HasCell d.cells m q
-    has_cell shape at m q by = done.whole m q (asked visits (record { shape = shape; at = at; by = by }))
+    has_cell shape at m q by = done.cells.whole m q (asked visits (record { shape = shape; at = at; by = by }))
 
     abbrev Cell : Shape → ℕ → ℕ → Type 0
     Cell shape m q = CellAsksBy d.cells g.bodies shape n p m q

@@ -9,26 +9,25 @@ use Rattle.std.specs.List.{flat_map}
 use Rattle.matchfailure.specs.declared.farthest.visit.Visit.{Visit}
 use Rattle.matchfailure.specs.FittingFailures.{AreFitting}
 use Rattle.matchfailure.specs.NoMatchLines.{more_expected}
-use Rattle.matchfailure.specs.declared.explain.lines.TheConstants.{MAX_EXPECTED}
 
 min-turned : (a b : ℕ) → min a b ≡ min b a
 min-turned a b = omega arith
 
-first-told : (vs : List Visit) (k : ℕ) → k ≡ min (length vs) MAX_EXPECTED → take k vs ≡ take MAX_EXPECTED vs
-first-told vs k e = ap (λ (n : ℕ). take n vs) (e ∙ min-turned (length vs) MAX_EXPECTED) ∙ take_min MAX_EXPECTED vs
+first-told : (vs : List Visit) (k : ℕ) → k ≡ min (length vs) 16 → take k vs ≡ take 16 vs
+first-told vs k e = ap (λ (n : ℕ). take n vs) (e ∙ min-turned (length vs) 16) ∙ take_min 16 vs
 
-left-over : (vs : List Visit) (k : ℕ) → k ≡ min (length vs) MAX_EXPECTED → length vs - k ≡ length vs - MAX_EXPECTED
+left-over : (vs : List Visit) (k : ℕ) → k ≡ min (length vs) 16 → length vs - k ≡ length vs - 16
 left-over vs k e = omega (arith, e)
 
 -- the lines of the first ones, and behind them how many more there are
 pub expected-join : (f : Visit → List ℕ) (vs : List Visit) (k : ℕ) (o a b : List ℕ)
-    → k ≡ min (length vs) MAX_EXPECTED → a ≡ o ++ flat_map f (take k vs) → b ≡ a ++ more_expected (length vs - k)
-    → b ≡ o ++ (flat_map f (take MAX_EXPECTED vs) ++ more_expected (length vs - MAX_EXPECTED))
+    → k ≡ min (length vs) 16 → a ≡ o ++ flat_map f (take k vs) → b ≡ a ++ more_expected (length vs - k)
+    → b ≡ o ++ (flat_map f (take 16 vs) ++ more_expected (length vs - 16))
 expected-join f vs k o a b e g h =
     let first = ap (flat_map f) (first-told vs k e) in
     let left = ap more_expected (left-over vs k e) in
     rw (h, g, first, left)
-    (append_assoc o (flat_map f (take MAX_EXPECTED vs)) (more_expected (length vs - MAX_EXPECTED)))
+    (append_assoc o (flat_map f (take 16 vs)) (more_expected (length vs - 16)))
 
 -- what is in the first ones is in the list
 in-front : (vs : List Visit) (k i : ℕ) (v : Visit) → slice_get (take k vs) i ≡ Some v → slice_get vs i ≡ Some v

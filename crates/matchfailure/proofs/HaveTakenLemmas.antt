@@ -1,22 +1,25 @@
 -- Members and alternatives that have cells: what the whole gives, and what it asked for.
 -- Serves: Desk::step.
 use Rattle.std.proofs.Common.{◌≡◌, ℕ, suc, ◌+◌, add-one, ◌<◌, ◌≤◌, max, Bool, true, List, [], ◌∷◌, ◌++◌, length, get_or}
-use Rattle.std.proofs.Common.{Some, sym, ◌∙◌, ap, subst, arith}
+use Rattle.std.proofs.Common.{Some, false, refl, sym, ◌∙◌, ap, subst, arith}
 use Rattle.pegread.specs.Pattern.{Pattern, Patterns, Rule}
 use Rattle.pegnodes.specs.Nodes.{Shape, Spells, SpellAll, spell_none, spell_more}
 use Rattle.gramcheck.specs.Outcome.{Event, Outcome, Gives, GivesAll, all_done, one_fails, rest_fails, rest_takes}
 use Rattle.gramcheck.specs.Outcome.{GivesFirst, all_failed, first_takes, first_fails}
 use Rattle.gramcheck.specs.Sound.{IsRanked}
+use Rattle.gramcheck.proofs.LongerInputLemmas.{ends_by}
 use Rattle.gramcheck.proofs.OneOutcomeLemmas.{Same}
 use Rattle.pegmatch.specs.KeptEvents.{outcome_of}
 use Rattle.memo.specs.declared.found.Found.{Found}
 use Rattle.memo.specs.declared.found.Found.TheVariants.{Failed, Took}
 use Rattle.memo.specs.Entries.{Entry, found_at}
 use Rattle.matchfailure.specs.State.{HaveTaken, none_taken, one_taken, HaveFailed, none_failed, one_failed}
+use Rattle.matchfailure.specs.State.{last_position}
 use Rattle.pegmatch.specs.CellOutcomes.{HasCell, IsFound}
 use Rattle.pegmatch.specs.Visits.{NodeGives, NodeTakes, NodeFails, AsksMember, member_here, member_later}
 use Rattle.pegmatch.specs.Visits.{AsksAlternative}
 use Rattle.pegmatch.specs.Visits.{alternative_here, alternative_later}
+use Rattle.pegmatch.proofs.LookedLemmas.{ends_within}
 use Rattle.pegmatch.proofs.NodeGivesLemmas.{gives_as, same_node}
 
 module _ (cells : List Entry) where
@@ -84,6 +87,23 @@ module _ (rules : List Rule) (start : ℕ) (nodes : List Shape) (bodies ranks x 
   enough_both : (j k : ℕ) → (more ≡ true → j < length x) → (more ≡ true → k < length x) → more ≡ true
       → max j k < length x
   enough_both j k a b is = omega (arith, a is, b is)
+
+  seen_low : (b : Bool) (p r k : ℕ) → r ≤ max p k → k ≤ length x → (b ≡ true → k < length x) → p ≤ last_position x b
+      → r ≤ last_position x b
+  seen_low true p r k near within enough low = let lt = enough refl in omega (arith, near, lt, low)
+  seen_low false p r k near within enough low = omega (arith, near, within, low)
+
+  -- a cell's success that begins no later than the last position ends no later
+  pub took_low : (n p r : ℕ) → found_at cells n p ≡ Some (Took r) → p ≤ last_position x more
+      → r ≤ last_position x more
+  took_low n p r h low =
+      let f = right n p (Took r) h in
+      seen_low more p r f.looked (ends_by rules x f.gives.gives) (ends_within rules x f.gives.gives) f.enough low
+
+  pub taken_low : {ms : List ℕ} {p i q : ℕ} → HaveTaken cells ms p i q → p ≤ last_position x more
+      → q ≤ last_position x more
+  taken_low none_taken low = low
+  taken_low (one_taken {m = m} {p = p} {r = r} g t) low = taken_low t (took_low m p r g low)
 
   -- what the members give, which did not look at the last byte of a window that is not the whole rest
   pub record AllGive (es : Patterns) (p : ℕ) (f : Found) : Type 0 where

@@ -11,7 +11,7 @@ use Rattle.memo.specs.Entries.{Entry, found_at}
 use Rattle.matchfailure.specs.declared.desk.frame.Frame.{Frame}
 use Rattle.matchfailure.specs.declared.desk.turn.Turn.TheVariants.{Ask, Answer}
 use Rattle.matchfailure.specs.State.{IsPut, none_taken, none_failed, HasCome, IsUnderWay, IsOpen, IsStack, no_frame}
-use Rattle.matchfailure.specs.State.{bottom}
+use Rattle.matchfailure.specs.State.{bottom, last_position}
 use Rattle.matchfailure.specs.State.{above, AreCells, HasNoFrame, AreUnderWay}
 use Rattle.pegmatch.specs.CellOutcomes.{HasCell}
 use Rattle.matchfailure.specs.Turns.{IsTurn}
@@ -116,6 +116,7 @@ module _ (rules : List Rule) (start : ℕ) (nodes : List Shape) (bodies ranks x 
           omega arith)
     ];
     come = λ shape at. still_come old new put.kept shape f.place f.next f.end (o.come shape at);
+    low = o.low;
   }
 
   still_stack : (old new : List Entry) (n p : ℕ) (h : Found) → IsPut old new n p h → {fs : List Frame}
@@ -143,16 +144,16 @@ module _ (rules : List Rule) (start : ℕ) (nodes : List Shape) (bodies ranks x 
   pub come_on : {cells : List Entry} {f : Frame} {fs : List Frame} → Stack cells (f ∷ fs) → (i q : ℕ)
       → IsUnderWay rules start nodes bodies x more cells f.node f.place i q →
       Stack cells (record { node = f.node; place = f.place; next = i; end = q } ∷ fs)
-  come_on (bottom o at is) i q w = bottom (record { none = o.none; come = w }) at is
-  come_on (above o a s) i q w = above (record { none = o.none; come = w }) a s
+  come_on (bottom o at is) i q w = bottom (record { none = o.none; come = w; low = o.low }) at is
+  come_on (above o a s) i q w = above (record { none = o.none; come = w; low = o.low }) a s
 
   -- a frame is pushed
   pub stack_push : (cells : List Entry) (f : Frame) (fs : List Frame) (m q i r : ℕ) → Stack cells (f ∷ fs)
       → IsTurn rules start nodes bodies x more cells f.node f.place (Ask m q i r) →
       Stack cells (record { node = m; place = q; next = 0; end = q }
       ∷ (record { node = f.node; place = f.place; next = i; end = r } ∷ fs))
-  stack_push cells f fs m q i r s t = above (record { none = t.1; come = λ shape at. begun_has_come cells shape q }) t.0
-      (come_on s i r t.2)
+  stack_push cells f fs m q i r s t =
+      above (record { none = t.1; come = λ shape at. begun_has_come cells shape q; low = t.3 }) t.0 (come_on s i r t.2)
 
   -- the last frame is dropped, and has its cell
   pub stack_pop : (old new : List Entry) (f : Frame) (fs : List Frame) (h : Found) → Stack old (f ∷ fs)
@@ -161,13 +162,17 @@ module _ (rules : List Rule) (start : ℕ) (nodes : List Shape) (bodies ranks x 
 
   -- all cells are right with one more
   pub cells_put : (old new : List Entry) (n p : ℕ) (h : Found) → AreCells rules start nodes bodies x more old
-      → Visits rules nodes bodies x start n p →
+      → Visits rules nodes bodies x start n p → p ≤ last_position x more →
       IsTurn rules start nodes bodies x more old n p (Answer h) → IsPut old new n p h
       → AreCells rules start nodes bodies x more new
-  cells_put old new n p h c v t put = record {
+  cells_put old new n p h c v low t put = record {
     visited = λ m q g at. elim (put.only m q) [
       | inl same ↦ c.visited m q g (sym same ∙ at)
       | inr is ↦ rw (is.0, is.1) v
+    ];
+    low = λ m q g at. elim (put.only m q) [
+      | inl same ↦ c.low m q g (sym same ∙ at)
+      | inr is ↦ rw is.1 low
     ];
     found = λ m q g at. elim (put.only m q) [
       | inl same ↦ c.found m q g (sym same ∙ at)
@@ -208,11 +213,13 @@ module _ (rules : List Rule) (start : ℕ) (nodes : List Shape) (bodies ranks x 
   -- the first frame of all
   pub stack_begin : (root : ℕ) → slice_get bodies start ≡ Some root
       → Stack [] (record { node = root; place = 0; next = 0; end = 0 } ∷ [])
-  stack_begin root at = bottom (record { none = refl; come = λ shape h. begun_has_come [] shape 0 }) at refl
+  stack_begin root at =
+      bottom (record { none = refl; come = λ shape h. begun_has_come [] shape 0; low = omega arith }) at refl
 
   pub no_cells : AreCells rules start nodes bodies x more []
   no_cells = record {
     visited = λ n p f h. absurd (cc h);
+    low = λ n p f h. absurd (cc h);
     found = λ n p f h. absurd (cc h);
     closed = λ n p m q f h a. absurd (cc h);
   }

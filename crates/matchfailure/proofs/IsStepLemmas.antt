@@ -1,6 +1,6 @@
 -- What a step makes of a desk.
 -- Serves: Desk::begin, Desk::step.
-use Rattle.std.proofs.Common.{◌≡◌, inl, inr, ℕ, ◌+◌, ◌*◌, ◌^◌, ◌<◌, ◌≤◌, Bool, false, Result, Ok, Err, OnOk, IfOk}
+use Rattle.std.proofs.Common.{◌≡◌, inl, inr, ℕ, ◌+◌, ◌*◌, ◌^◌, ◌<◌, ◌≤◌, Bool, true, false, Result, Ok, Err, OnOk, IfOk}
 use Rattle.std.proofs.Common.{is_err, List, [], ◌∷◌, ◌++◌, length, length-append, Option, Some, None, refl, sym, ◌∙◌}
 use Rattle.std.proofs.Common.{ap, subst, arith}
 use Rattle.std.specs.Prelude.{slice_get}
@@ -21,7 +21,7 @@ use Rattle.memo.specs.Entries.{Entry, found_at, AreDifferent}
 use Rattle.matchfailure.specs.declared.desk.frame.Frame.{Frame}
 use Rattle.matchfailure.specs.declared.desk.turn.Turn.TheVariants.{Ask, Answer}
 use Rattle.matchfailure.specs.Desk.{View, beginning, Fits, HasFrames, Drops, Ends, IsStep, unit_of}
-use Rattle.matchfailure.specs.State.{IsPut, IsUnderWay, IsStack}
+use Rattle.matchfailure.specs.State.{IsPut, IsUnderWay, IsStack, last_position}
 use Rattle.matchfailure.specs.Turns.{IsTurn}
 use Rattle.pegmatch.specs.Visits.{NodeGives, Visits}
 use Rattle.pegmatch.proofs.AsksLemmas.{is_visited}
@@ -36,6 +36,11 @@ pub room_for_one : (a b n : ℕ) → a < 2 ^ 64 → b < 2 ^ 64 → n ≤ a * (b 
 room_for_one a b n lt less h =
     let one : a * (b + 1) ≤ a * (2 ^ 64) = mul-le-mul_left a (omega arith) in
     omega arith
+
+-- no position is later than the window's end
+positions_in_window : (x : List ℕ) (b : Bool) → last_position x b + 1 ≤ length x + 1
+positions_in_window x true = omega arith
+positions_in_window x false = omega arith
 
 pub some_frame : (fs : List Frame) → (fs ≡ [] → ⊥) → (u : Frame) × (us : List Frame) × (fs ≡ u ∷ us)
 some_frame [] h = absurd (h refl)
@@ -74,6 +79,7 @@ module _ (g : Grammar) (x : List ℕ) (more : Bool) (sound : IsSoundGrammar g) w
     pub visits : Visits Rs Ns g.bodies x g.start t.node t.place
     pub spelled : SpellsSome Rs Ns t.node
     pub high : t.place ≤ length x
+    pub low : t.place ≤ last_position x more
     pub come : IsUnderWay Rs g.start Ns g.bodies x more d.cells t.node t.place t.next t.end
     pub none : found_at d.cells t.node t.place ≡ None
 
@@ -87,11 +93,17 @@ module _ (g : Grammar) (x : List ℕ) (more : Bool) (sound : IsSoundGrammar g) w
       let visits = top_visits Rs g.start Ns g.bodies g.ranks x more sound d.cells t fs s in
       let v = is_visited Rs g.start Ns g.bodies g.ranks x sound visits in
       let o = top_is_open Rs g.start Ns g.bodies g.ranks x more sound d.cells t fs s in
-      record { visits = visits; spelled = v.spelled; high = v.high; come = o.come; none = o.none }
+      record { visits = visits; spelled = v.spelled; high = v.high; low = o.low; come = o.come; none = o.none }
 
-  pub fits_at_most : (d : View) → Fits g x more d → d.begun ≤ length Ns * (length x + 1)
+  pub fits_at_most : (d : View) → Fits g x more d → d.begun ≤ length Ns * (last_position x more + 1)
   fits_at_most d f = let most = all_at_most Rs g.start Ns g.bodies g.ranks x more sound d.cells d.frames f.cells
       f.different f.stack in omega (arith, f.count, most)
+
+  pub begun_in_window : (d : View) → Fits g x more d → d.begun ≤ length Ns * (length x + 1)
+  begun_in_window d f =
+      let wider = mul-le-mul_left (length Ns) (positions_in_window x more) in
+      let most = fits_at_most d f in
+      omega (arith, most, wider)
 
   -- what fits has right frames
   pub frames_of : (d : View) → Fits g x more d → HasFrames g x more d
@@ -166,7 +178,7 @@ module _ (g : Grammar) (x : List ℕ) (more : Bool) (sound : IsSoundGrammar g) w
           stack = rw frames (stack_pop Rs g.start Ns g.bodies g.ranks x more sound old.cells new.cells t fs h
               (is_stacked old t fs f is) put_once);
           cells = cells_put Rs g.start Ns g.bodies g.ranks x more sound old.cells new.cells t.node t.place h f.cells
-              top.visits turn put_once;
+              top.visits top.low turn put_once;
           different = subst AreDifferent (sym cells) (different_put old.cells cell f.different top.none);
           count = omega (arith, begun, f.count, lengths, before, longer_by_one);
         }
@@ -188,11 +200,13 @@ module _ (g : Grammar) (x : List ℕ) (more : Bool) (sound : IsSoundGrammar g) w
           drops = drops_top;
           done = record {
             frames = none;
-            visited = now.cells.visited;
-            whole = λ n p v. all_visited Rs g.start Ns g.bodies g.ranks x more sound new.cells t.node now.cells root.0
-                (h, here) v;
-            found = now.cells.found;
-            different = now.different;
+            cells = record {
+              visited = now.cells.visited;
+              whole = λ n p v. all_visited Rs g.start Ns g.bodies g.ranks x more sound new.cells t.node now.cells root.0
+                  (h, here) v;
+              found = now.cells.found;
+              different = now.different;
+            };
             count = omega (arith, now.count, lengths);
           };
           answers = record {
@@ -217,15 +231,23 @@ module _ (g : Grammar) (x : List ℕ) (more : Bool) (sound : IsSoundGrammar g) w
     count = rw (cells, frames) begun;
   }
 
-  no_frames : (d : View) → d.frames ≡ [] → HasFrames g x more d
-  no_frames d none = record { pairs = rw none tt; few = rw none (omega arith) }
+  -- at the end there are no frames, and as many cells as were begun before
+  ended_frames : (old new : View) (h : Found) → Fits g x more old → Ends g x more old new h → HasFrames g x more new
+  ended_frames old new h f e =
+      let most = fits_at_most old f in
+      let size = length-map g.nodes shape_of in
+      let none = ap length e.done.frames in
+      record {
+        pairs = rw e.done.frames tt;
+        few = rw (← size) (omega (arith, most, e.done.count, e.drops.begun, none));
+      }
 
   -- after a step the frames are right
   pub step_frames : (old new : View) (v : Option UnitAnswer) → Fits g x more old → IsStep g x more old new v
       → HasFrames g x more new
   step_frames old new None f s = frames_of new s.0
-  step_frames old new (Some (unit.Took end begun)) f s = no_frames new s.0.done.frames
-  step_frames old new (Some (unit.Failed begun)) f s = no_frames new s.0.done.frames
+  step_frames old new (Some (unit.Took end begun)) f s = ended_frames old new (Took end) f s.0
+  step_frames old new (Some (unit.Failed begun)) f s = ended_frames old new Failed f s.0
   step_frames old new (Some unit.Need) f s = rw s.0 (frames_of old f)
 
   pub frames_of_step : {E : Type 0} (old new : View) (r : Result (Option UnitAnswer) E) → Fits g x more old

@@ -17,7 +17,7 @@ use Rattle.pegmatch.specs.declared.leaves.Tried.{Tried}
 use Rattle.memo.specs.Entries.{Entry, found_at}
 use Rattle.matchfailure.specs.declared.desk.turn.Turn.{Turn}
 use Rattle.matchfailure.specs.declared.desk.turn.Turn.TheVariants.{Ask, Answer, Need}
-use Rattle.matchfailure.specs.State.{HasCome, IsUnderWay}
+use Rattle.matchfailure.specs.State.{HasCome, IsUnderWay, last_position}
 use Rattle.pegmatch.specs.CellOutcomes.{HasCell, IsFound}
 use Rattle.matchfailure.specs.Turns.{same_turn, again_turn, opt_turn, and_turn, not_turn, star_turn, plus_turn}
 use Rattle.matchfailure.specs.Turns.{IsLeafTurn}
@@ -30,12 +30,12 @@ use Rattle.pegmatch.proofs.GivesLemmas.{star_never_fails, plus_gives_fails, plus
 use Rattle.matchfailure.proofs.HaveTakenLemmas.{ends_alike, nor_both, takes_by, asks_member, asks_alternative, all_fail}
 use Rattle.matchfailure.proofs.HaveTakenLemmas.{fail_closed, all_take, take_closed, first_found, found_closed}
 use Rattle.matchfailure.proofs.HaveTakenLemmas.{none_found}
-use Rattle.matchfailure.proofs.HaveTakenLemmas.{none_closed}
+use Rattle.matchfailure.proofs.HaveTakenLemmas.{none_closed, took_low, taken_low}
 
 module _ (rules : List Rule) (start : ℕ) (nodes : List Shape) (bodies ranks x : List ℕ) (more : Bool)
     (sound : IsRanked rules start nodes bodies ranks) (cells : List Entry)
     (right : (n p : ℕ) (f : Found) → found_at cells n p ≡ Some f → IsFound rules start nodes bodies x more n p f)
-    (n p : ℕ) (s : SpellsSome rules nodes n) where
+    (n p : ℕ) (s : SpellsSome rules nodes n) (low : p ≤ last_position x more) where
   abbrev Turns : Turn → Type 0
   Turns t = IsTurn rules start nodes bodies x more cells n p t
 
@@ -88,6 +88,7 @@ module _ (rules : List Rule) (start : ℕ) (nodes : List Shape) (bodies ranks x 
     asks_body rules nodes bodies x n p id m at body,
     sym h,
     is_under_way (node.Name id) 0 p at tt,
+    low,
   )
   name_is_turn id m (Some f) at body h =
       let g = right m p f (sym h) in (
@@ -108,6 +109,7 @@ module _ (rules : List Rule) (start : ℕ) (nodes : List Shape) (bodies ranks x 
     record { shape = node.Opt m; at = at; by = (refl, refl) },
     sym h,
     is_under_way (node.Opt m) 0 p at tt,
+    low,
   )
   opt_is_turn m (Some Failed) at h =
       let g = right m p Failed (sym h) in (
@@ -137,6 +139,7 @@ module _ (rules : List Rule) (start : ℕ) (nodes : List Shape) (bodies ranks x 
     record { shape = node.And m; at = at; by = (refl, refl) },
     sym h,
     is_under_way (node.And m) 0 p at tt,
+    low,
   )
   and_is_turn m (Some Failed) at h =
       let g = right m p Failed (sym h) in (
@@ -166,6 +169,7 @@ module _ (rules : List Rule) (start : ℕ) (nodes : List Shape) (bodies ranks x 
     record { shape = node.Not m; at = at; by = (refl, refl) },
     sym h,
     is_under_way (node.Not m) 0 p at tt,
+    low,
   )
   not_is_turn m (Some Failed) at h =
       let g = right m p Failed (sym h) in (
@@ -206,6 +210,7 @@ module _ (rules : List Rule) (start : ℕ) (nodes : List Shape) (bodies ranks x 
     },
     sym h,
     is_under_way (node.Star m) 1 r at (λ _. g),
+    took_low rules start nodes bodies ranks x more sound cells right m p r g low,
   )
   star_then m r (Some Failed) at g h = let f = right n r Failed (sym h) in
       absurd (star_never_fails rules start nodes bodies ranks x sound n m s r f.looked at f.gives)
@@ -234,6 +239,7 @@ module _ (rules : List Rule) (start : ℕ) (nodes : List Shape) (bodies ranks x 
     record { shape = node.Star m; at = at; by = inl (refl, refl) },
     sym h,
     is_under_way (node.Star m) 0 p at (λ lt. absurd (omega arith)),
+    low,
   )
   star_is_turn m (Some Failed) at h =
       let g = right m p Failed (sym h) in (
@@ -264,6 +270,7 @@ module _ (rules : List Rule) (start : ℕ) (nodes : List Shape) (bodies ranks x 
     },
     sym h,
     is_under_way (node.Plus m i) 1 r at (λ _. g),
+    took_low rules start nodes bodies ranks x more sound cells right m p r g low,
   )
   plus_then m i r (Some Failed) at g h =
       let f = right i r Failed (sym h) in
@@ -294,6 +301,7 @@ module _ (rules : List Rule) (start : ℕ) (nodes : List Shape) (bodies ranks x 
     record { shape = node.Plus m i; at = at; by = inl (refl, refl) },
     sym h,
     is_under_way (node.Plus m i) 0 p at (λ lt. absurd (omega arith)),
+    low,
   )
   plus_is_turn m i (Some Failed) at h =
       let g = right m p Failed (sym h) in (
@@ -318,6 +326,7 @@ module _ (rules : List Rule) (start : ℕ) (nodes : List Shape) (bodies ranks x 
         record { shape = node.Seq ms; at = at; by = rw (w.2, w.3) a },
         w.4,
         is_under_way (node.Seq ms) i r at w.0,
+        rw w.3 (taken_low rules start nodes bodies ranks x more sound cells right w.0 low),
       )
   seq_is_turn ms (Answer Failed) at some w =
       let like = has_shape rules nodes s.1 (node.Seq ms) at in
@@ -360,6 +369,7 @@ module _ (rules : List Rule) (start : ℕ) (nodes : List Shape) (bodies ranks x 
         record { shape = node.Choice ms; at = at; by = (rw w.2 a, w.3) },
         w.4,
         is_under_way (node.Choice ms) i r at w.0,
+        rw w.3 low,
       )
   choice_is_turn ms (Answer Failed) at some w =
       let like = has_shape rules nodes s.1 (node.Choice ms) at in

@@ -11,11 +11,11 @@ use Rattle.memo.specs.declared.found.Found.{Found}
 use Rattle.memo.specs.declared.found.Found.TheVariants as found
 use Rattle.pegmatch.specs.declared.matcher.Unit.{Unit as UnitAnswer}
 use Rattle.pegmatch.specs.declared.matcher.Unit.TheVariants.{Took, Failed, Need}
-use Rattle.memo.specs.Entries.{Entry, found_at, AreDifferent}
+use Rattle.memo.specs.Entries.{Entry, AreDifferent}
 use Rattle.matchfailure.specs.declared.desk.frame.Frame.{Frame}
-use Rattle.matchfailure.specs.State.{IsPut, IsStack, AreCells, AreUnderWay}
-use Rattle.pegmatch.specs.CellOutcomes.{HasCell, IsFound}
-use Rattle.pegmatch.specs.Visits.{NodeGives, Asks, Visits}
+use Rattle.matchfailure.specs.State.{IsPut, IsStack, AreCells, AreUnderWay, last_position}
+use Rattle.pegmatch.specs.VisitedCells.{AreVisitedCells}
+use Rattle.pegmatch.specs.Visits.{NodeGives, Asks}
 
 -- the cells, the frames with the last one first, and how many evaluations were begun
 pub record View : Type 0 where
@@ -63,20 +63,16 @@ module _ (g : Grammar) (x : List ℕ) (more : Bool) where
     pub different : AreDifferent d.cells
     pub count : d.begun ≡ length d.cells + length d.frames
 
-  -- The frames' pairs are visited, differ from one another, and have no cell; they are no more than nodes at places.
+  -- The frames' pairs are visited, differ from one another, and have no cell. Cells and frames together are no more
+  -- than nodes at positions. A window of n bytes has n + 1 positions, its end among them, but n where more may come.
   pub record HasFrames (d : View) : Type 0 where
     pub pairs : AreUnderWay (rules_of g.rules) g.start (shapes_of g.nodes) g.bodies x d.cells d.frames
-    pub few : length d.frames ≤ length g.nodes * (length x + 1)
+    pub few : length d.cells + length d.frames ≤ length g.nodes * (last_position x more + 1)
 
-  -- The cells are exactly the pairs that are visited, each with its outcome, and as many as were begun.
+  -- The cells are exactly the pairs that are visited, each with its outcome and once, and as many as were begun.
   pub record IsDone (d : View) : Type 0 where
     pub frames : d.frames ≡ []
-    pub visited : (n p : ℕ) (f : Found) → found_at d.cells n p ≡ Some f → Visits (rules_of g.rules) (shapes_of g.nodes)
-        g.bodies x g.start n p
-    pub whole : (n p : ℕ) → Visits (rules_of g.rules) (shapes_of g.nodes) g.bodies x g.start n p → HasCell d.cells n p
-    pub found : (n p : ℕ) (f : Found) → found_at d.cells n p ≡ Some f
-        → IsFound (rules_of g.rules) g.start (shapes_of g.nodes) g.bodies x more n p f
-    pub different : AreDifferent d.cells
+    pub cells : AreVisitedCells (rules_of g.rules) g.start (shapes_of g.nodes) g.bodies x more d.cells
     pub count : d.begun ≡ length d.cells
 
   -- the last frame's own comparison reaches the last byte of the window, behind which there is more

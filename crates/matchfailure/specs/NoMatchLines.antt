@@ -9,7 +9,6 @@ use Rattle.diagnostics.specs.LinesAround.{bytes_before, line_text}
 use Rattle.diagnostics.specs.Pictures.{picture}
 use Rattle.diagnostics.specs.ShownBytes.{cut}
 use Rattle.ruletable.specs.declared.lines.LineRule.TheVariants.{Lf}
-use Rattle.matchfailure.specs.declared.explain.lines.TheConstants.{MAX_EXPECTED}
 use Rattle.matchfailure.specs.declared.explain.place.TextPlace.{TextPlace}
 use Rattle.matchfailure.specs.NodeTexts.{leaf_text, rule_of_node}
 
@@ -41,8 +40,8 @@ more_expected (suc n) = codes "  and " ++ (decimal (suc n) ++ codes " more\n")
 -- a line of each of the first that were expected, and how many more there are
 abbrev pub expected_lines : List Rule → List Shape → ℕ → ℕ → List Visit → List ℕ
 expected_lines rules nodes unit place expected =
-    flat_map (expected_line rules nodes unit place) (take MAX_EXPECTED expected)
-    ++ more_expected (length expected - MAX_EXPECTED)
+    flat_map (expected_line rules nodes unit place) (take 16 expected)
+    ++ more_expected (length expected - 16)
 
 -- The lines of a failure at a place of a text, which is what is seen of a unit from its beginning on: the unit begins
 -- behind so many bytes, and the failing byte stands there in the input.

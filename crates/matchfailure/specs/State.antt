@@ -1,5 +1,6 @@
 -- What a desk holds on its way: the cells of what was evaluated, and the frames of what is under way.
-use Rattle.std.specs.Prelude.{◌≡◌, ◌⊎◌, ℕ, zero, suc, ◌<◌, Bool, List, [], ◌∷◌, slice_get, Some, None}
+use Rattle.std.specs.Prelude.{◌≡◌, ◌⊎◌, ℕ, zero, suc, ◌-◌, ◌<◌, ◌≤◌, Bool, List, [], ◌∷◌, length, slice_get, Some, None}
+use Rattle.std.specs.Prelude.{if◌then◌else◌}
 use Rattle.pegread.specs.Pattern.{Rule}
 use Rattle.pegnodes.specs.Nodes.{Shape, Any, Bytes, Set, Name, Seq, Choice, Star, Plus, Opt, And, Not, Act, Open}
 use Rattle.pegnodes.specs.Nodes.{Close}
@@ -9,6 +10,11 @@ use Rattle.memo.specs.Entries.{Entry, found_at}
 use Rattle.matchfailure.specs.declared.desk.frame.Frame.{Frame}
 use Rattle.pegmatch.specs.CellOutcomes.{HasCell, IsFound}
 use Rattle.pegmatch.specs.Visits.{Asks, Visits}
+
+-- The last position at which a node is evaluated: the window's end. Where more may come it is the position of the
+-- window's last byte: what takes that byte compares it, and the match stops there.
+abbrev pub last_position : List ℕ → Bool → ℕ
+last_position x more = if more then length x - 1 else length x
 
 -- A cell more, for a node and a place that had none.
 pub record IsPut (old new : List Entry) (n p : ℕ) (f : Found) : Type 0 where
@@ -65,10 +71,11 @@ module _ (rules : List Rule) (start : ℕ) (nodes : List Shape) (bodies x : List
     abbrev pub IsUnderWay : ℕ → ℕ → ℕ → ℕ → Type 0
     IsUnderWay n p i q = (shape : Shape) → slice_get nodes n ≡ Some shape → HasCome cells shape p i q
 
-    -- the frame's pair has no cell, and it has come so far
+    -- the frame's pair has no cell and stands no later than the last position, and it has come so far
     pub record IsOpen (f : Frame) : Type 0 where
       pub none : found_at cells f.node f.place ≡ None
       pub come : IsUnderWay f.node f.place f.next f.end
+      pub low : f.place ≤ last_position x more
 
     -- Frames, the last first: the first is of the start rule's body at 0, and each asks for the next.
     pub data IsStack : List Frame → Type 0 where
@@ -77,9 +84,11 @@ module _ (rules : List Rule) (start : ℕ) (nodes : List Shape) (bodies x : List
       above : {h f : Frame} {fs : List Frame} → IsOpen h → Asks rules nodes bodies x f.node f.place h.node h.place →
           IsStack (f ∷ fs) → IsStack (h ∷ (f ∷ fs))
 
-    -- Each cell is of a pair that is visited, holds its outcome, and all pairs that it asked for have cells.
+    -- Each cell is of a pair that is visited, no later than the last position, and holds its outcome. All pairs that it
+    -- asked for have cells.
     pub record AreCells : Type 0 where
       pub visited : (n p : ℕ) (f : Found) → found_at cells n p ≡ Some f → Visits rules nodes bodies x start n p
+      pub low : (n p : ℕ) (f : Found) → found_at cells n p ≡ Some f → p ≤ last_position x more
       pub found : (n p : ℕ) (f : Found) → found_at cells n p ≡ Some f → IsFound rules start nodes bodies x more n p f
       pub closed : (n p m q : ℕ) (f : Found) → found_at cells n p ≡ Some f → Asks rules nodes bodies x n p m q
           → HasCell cells m q

@@ -9,7 +9,7 @@ use Rattle.pegmatch.specs.declared.leaves.Tried.{Tried}
 use Rattle.memo.specs.Entries.{Entry, found_at}
 use Rattle.matchfailure.specs.declared.desk.turn.Turn.{Turn}
 use Rattle.matchfailure.specs.declared.desk.turn.Turn.TheVariants.{Ask, Answer, Need}
-use Rattle.matchfailure.specs.State.{HaveTaken, HaveFailed, IsUnderWay}
+use Rattle.matchfailure.specs.State.{HaveTaken, HaveFailed, IsUnderWay, last_position}
 use Rattle.pegmatch.specs.CellOutcomes.{HasCell, IsFound}
 use Rattle.pegmatch.specs.Visits.{NodeGives, Asks}
 
@@ -75,11 +75,12 @@ IsSearch cells ms p Need = ⊥
 
 module _ (rules : List Rule) (start : ℕ) (nodes : List Shape) (bodies x : List ℕ) (more : Bool)
     (cells : List Entry) where
-  -- What the evaluation of node n at p does next: it asks for what has no cell; or this is its outcome, and all that it
-  -- asked for have cells; or its own comparison reaches the last byte of a window behind which there is more.
+  -- What the evaluation of node n at p does next: it asks for what has no cell, no later than the last position; or
+  -- this is its outcome, and all that it asked for have cells; or its own comparison reaches the last byte of a window
+  -- after which more bytes may come.
   abbrev pub IsTurn : ℕ → ℕ → Turn → Type 0
   IsTurn n p (Ask m q i r) = Asks rules nodes bodies x n p m q × (found_at cells m q ≡ None)
-      × IsUnderWay rules start nodes bodies x more cells n p i r
+      × IsUnderWay rules start nodes bodies x more cells n p i r × (q ≤ last_position x more)
   IsTurn n p (Answer f) = IsFound rules start nodes bodies x more n p f
       × ((m q : ℕ) → Asks rules nodes bodies x n p m q → HasCell cells m q)
   IsTurn n p Need = (more ≡ true) × ((m q : ℕ) → Asks rules nodes bodies x n p m q → ⊥)

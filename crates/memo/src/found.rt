@@ -1,7 +1,7 @@
 //! What a node gave at a place.
 
 /// What a node gave at a place.
-#[derive(Clone, Copy, PartialEq, Eq, Debug)]
+#[derive(Clone, Copy, PartialEq, Eq)]
 pub enum Found {
     /// It failed.
     Failed,

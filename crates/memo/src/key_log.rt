@@ -17,14 +17,14 @@ use std::alloc::Global;
 use std::marker::Model;
 
 /// What was found for a key, and the head of its events in a log of events, or 0 if it has none.
-#[derive(Clone, Copy, PartialEq, Eq, Debug)]
+#[derive(Clone, Copy)]
 pub struct Given {
     pub found: Found,
     pub events: usize,
 }
 
 /// A key that was evaluated, with what was found.
-#[derive(Clone, Copy, PartialEq, Eq, Debug)]
+#[derive(Clone, Copy)]
 pub struct Stored {
     pub spot: Spot,
     pub given: Given,

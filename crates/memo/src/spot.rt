@@ -6,7 +6,7 @@ use crate::narrow::narrow;
 use ruletable::Memory;
 
 /// What is evaluated: a node at a place; or, of a node with members, the tail from one of its members on, at a place.
-#[derive(Clone, Copy, PartialEq, Eq, Debug)]
+#[derive(Clone, Copy)]
 pub enum Spot {
     /// A node and a place.
     Pair {

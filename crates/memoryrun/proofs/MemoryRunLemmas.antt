@@ -1,18 +1,12 @@
 -- A run that is right, over memory.
 -- Serves: peg_in_memory, abnf_in_memory
-use Rattle.std.proofs.Common.{◌≡◌, ℕ, Bool, true, false, Option, Some, List, [], ◌++◌, refl, sym, arith, ◌<◌, ◌≤◌}
-use Rattle.std.proofs.Common.{inl, inr}
+use Rattle.std.proofs.Common.{◌≡◌, ℕ, Bool, false, Option, Some, List, [], refl, sym}
 use Rattle.std.specs.Prelude.{IfSome}
 use Rattle.std.specs.Io.KnownBytes.{Appends, Consumes}
 use Rattle.memoryrun.specs.MemoryRun.{IsMemoryRun}
 use Rattle.toolrun.specs.Input.{Input}
 use Rattle.toolrun.specs.Reply.{Reply}
 use Rattle.toolrun.specs.Right.{IsRight}
-
--- no writer failed where the status is low
-pub is_fine : (failed : Bool) (code : ℕ) → (failed ≡ true → 4 ≤ code) → code < 4 → failed ≡ false
-is_fine true code high low = absurd (let h = high refl in omega (arith, low, h))
-is_fine false code high low = refl
 
 module _ (States : Input → List ℕ → Reply → Type 0) where
   right_in_memory : (input taken out err : List ℕ) (out_failed err_failed : Bool) (code : ℕ) →
@@ -29,12 +23,20 @@ module _ (States : Input → List ℕ → Reply → Type 0) where
     notes = r.notes;
     stated = r.stated;
     states = r.states;
-    whole = λ low.
-        let out_ok : out_failed ≡ false = is_fine out_failed code (λ bad. r.delivers.high (inl bad)) low in
-        let err_ok : err_failed ≡ false = is_fine err_failed code (λ bad. r.delivers.high (inr bad)) low in
-        let told : err ≡ r.notes ++ r.stated.err = (r.delivers.told out_ok).1 err_ok in
-        (r.delivers.out out_ok (r.stated.err, told), told, r.delivers.status out_ok err_ok);
-    part = r.delivers.part;
+    out_failed = out_failed;
+    err_failed = err_failed;
+    delivers = let d = r.delivers in record {
+      part = d.part;
+      out = d.out;
+      silent = d.silent;
+      unread = λ isnt. refl;
+      told = d.told;
+      broken = d.broken;
+      unflushed = d.unflushed;
+      status = d.status;
+      cut = d.cut;
+      unnoted = d.unnoted;
+    };
   }
 
   from_memory : (r1 : Option (List ℕ)) (input out err : List ℕ) (out_failed err_failed : Bool) (code : ℕ) →

@@ -17,7 +17,8 @@ use Rattle.memo.specs.Parts.{IsIn, in_here, in_later, Distinct, distinct_more, R
 use Rattle.memo.specs.declared.spot.Spot.{Spot}
 use Rattle.memo.specs.declared.spot.Spot.TheVariants.{Pair, Tail}
 use Rattle.packrat.specs.Spots.{Leads, Kids, is_key}
-use Rattle.packrat.specs.View.{CellsOf, cells_none, cells_rest, cells_pair, AreImplied, AreStored, AreAll}
+use Rattle.packrat.specs.View.{CellsOf, cells_none, cells_rest, cells_pair, AreImplied, AreStored}
+use Rattle.pegmatch.specs.VisitedCells.{AreVisitedCells}
 use Rattle.memo.proofs.PartsLemmas.{whole_reached, reached_whole, whole_distinct}
 use Rattle.packrat.proofs.SpotKidsLemmas.{kid_led_to, led_to_kid, eval_distinct, rest_distinct}
 use Rattle.packrat.proofs.SpotAskersLemmas.{one_leads}
@@ -126,7 +127,7 @@ module _ (rules : List Rule) (start : ℕ) (nodes : List Shape) (bodies ranks x 
   pub implied_are_all : (stored : List Spot) (cells : List Entry)
       → AreStored rules start nodes bodies x more marks tails root stored
       → AreImplied rules start nodes bodies x more marks tails stored cells
-      → AreAll rules start nodes bodies x more cells
+      → AreVisitedCells rules start nodes bodies x more cells
   implied_are_all stored cells st im =
       record {
         visited = λ n p f h. reached_is_visited rules start nodes bodies x root is_root n p

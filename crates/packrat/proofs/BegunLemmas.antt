@@ -13,12 +13,13 @@ use Rattle.memo.proofs.FoundAtLemmas.{is_of, is_own}
 use Rattle.pegmatch.proofs.AsksLemmas.{visited_there}
 use Rattle.pegmatch.proofs.CodeLemmas.{cells_at_most}
 use Rattle.pegnodes.specs.KeyMarks.{AreMarks}
-use Rattle.memo.specs.Parts.{IsIn, in_here, in_later, Distinct, distinct_none, distinct_more}
+use Rattle.memo.specs.Parts.{IsIn, in_here, in_later, Distinct, distinct_none, distinct_more, Reach}
 use Rattle.memo.specs.Run.{total}
 use Rattle.memo.specs.declared.spot.Spot.{Spot}
 use Rattle.memo.specs.declared.spot.Spot.TheVariants.{Pair, Tail}
 use Rattle.packrat.specs.Spots.{Leads, Kids, is_key}
-use Rattle.packrat.specs.View.{weight, AreAll}
+use Rattle.packrat.specs.View.{weight, IsVisitedPair, AreVisitedPairs}
+use Rattle.pegmatch.specs.VisitedCells.{AreVisitedCells}
 use Rattle.packrat.proofs.EndsLemmas.{reached_ends}
 use Rattle.packrat.proofs.SpotReachLemmas.{reached_is_visited}
 use Rattle.packrat.specs.MachineSteps.{State, held, start_at}
@@ -75,6 +76,17 @@ evals_distinct (distinct_more {a = Pair n p} {xs = xs} f d) =
     (evals_distinct d)
 evals_distinct (distinct_more {a = Tail n i p} f d) = evals_distinct d
 
+eval_among : (n p : ℕ) (xs : List Spot) → IsIn (Pair n p) xs → IsIn (Pair n p) (evals xs)
+eval_among n p [] i = absurd (not_in i)
+eval_among n p (Pair m q ∷ xs) i = elim (in_front i) [
+  | inl is ↦ subst (λ v. IsIn v (Pair m q ∷ evals xs)) (sym is) in_here
+  | inr j ↦ in_later (eval_among n p xs j)
+]
+eval_among n p (Tail m k q ∷ xs) i = elim (in_front i) [
+  | inl is ↦ absurd (cc is)
+  | inr j ↦ eval_among n p xs j
+]
+
 -- a cell for each pair among spots, whatever it holds
 abbrev cells_for : List Spot → List Entry
 cells_for [] = []
@@ -125,7 +137,8 @@ module _ (rules : List Rule) (start : ℕ) (nodes : List Shape) (bodies ranks x 
   pairs_weigh (c ∷ cells) = let h = pairs_weigh cells in omega (arith, h)
 
   pub begun_in_cells : (s : State Spot) → SpotSteps rules nodes bodies x marks tails (start_at Spot (Pair root 0)) s
-      → (cells : List Entry) → AreAll rules start nodes bodies x more cells → T (held Spot s).begun ≤ length cells
+      → (cells : List Entry) → AreVisitedCells rules start nodes bodies x more cells
+      → T (held Spot s).begun ≤ length cells
   begun_in_cells s steps cells every =
       let forest = forest_of rules start nodes bodies ranks x more sound root is_root marks tails are in
       let next = is_next rules start nodes bodies ranks x more sound root is_root marks tails are in
@@ -145,10 +158,54 @@ module _ (rules : List Rule) (start : ℕ) (nodes : List Shape) (bodies ranks x 
       let two = pairs_weigh cells in
       omega (arith, le, one, two)
 
-  for_weigh : (xs : List Spot) → T xs ≡ length (cells_for xs)
-  for_weigh [] = refl
-  for_weigh (Pair n p ∷ xs) = let h = for_weigh xs in omega (arith, h)
-  for_weigh (Tail n i p ∷ xs) = let h = for_weigh xs in omega (arith, h)
+  evals_length : (xs : List Spot) → length (evals xs) ≡ T xs
+  evals_length [] = refl
+  evals_length (Pair n p ∷ xs) = let h = evals_length xs in omega (arith, h)
+  evals_length (Tail n i p ∷ xs) = let h = evals_length xs in omega (arith, h)
+
+  for_length : (ps : List Spot) → ((a : Spot) → IsIn a ps → IsVisitedPair rules start nodes bodies x more a)
+      → length (cells_for ps) ≡ length ps
+  for_length [] v = refl
+  for_length (Pair n p ∷ ps) v = let h = for_length ps (λ a i. v a (in_later i)) in omega (arith, h)
+  for_length (Tail n i p ∷ ps) v = absurd (v (Tail n i p) in_here)
+
+  -- visited pairs at places up to k are no more than nodes at those
+  pub visited_few : (ps : List Spot) (k : ℕ) → AreVisitedPairs rules start nodes bodies x more ps
+      → ((n p : ℕ) → IsIn (Pair n p) ps → p ≤ k) → length ps ≤ length nodes * (k + 1)
+  visited_few ps k v low =
+      let most = cells_at_most (cells_for ps) (length nodes) k (for_different v.once)
+      (λ m q h.
+      let i = for_among m q h.0 ps h.1 in
+      ((visited_there rules start nodes bodies ranks x sound m q (v.visited (Pair m q) i)).0, low m q i)) in
+      let same = for_length ps v.visited in
+      omega (arith, most, same)
+
+  -- the pairs among what is begun
+  pub record HasPairs (begun : List Spot) : Type 0 where
+    pub pairs : List Spot
+    pub visited : AreVisitedPairs rules start nodes bodies x more pairs
+    pub count : length pairs ≡ T begun
+    pub among : (n p : ℕ) → IsIn (Pair n p) begun → IsIn (Pair n p) pairs
+    pub only : (n p : ℕ) → IsIn (Pair n p) pairs → IsIn (Pair n p) begun
+
+  pub pairs_begun : (begun : List Spot) → Distinct begun
+      → ((a : Spot) → IsIn a begun → Reach Spot (Leads rules nodes bodies x) (Pair root 0) a) → HasPairs begun
+  pairs_begun begun once reached = record {
+    pairs = evals begun;
+    visited = record {
+      visited = λ a i.
+          let h = is_eval begun a i in
+          subst (IsVisitedPair rules start nodes bodies x more) (sym h.is)
+          (reached_is_visited rules start nodes bodies x root is_root h.node h.place
+          (reached (Pair h.node h.place) h.there));
+      once = evals_distinct once;
+    };
+    count = evals_length begun;
+    among = λ n p i. eval_among n p begun i;
+    only = λ n p i.
+        let h = is_eval begun (Pair n p) i in
+        subst (λ v. IsIn v begun) (sym h.is) h.there;
+  }
 
   -- no more are begun than nodes at places
   pub begun_at_places : (s : State Spot) → SpotSteps rules nodes bodies x marks tails (start_at Spot (Pair root 0)) s
@@ -159,9 +216,8 @@ module _ (rules : List Rule) (start : ℕ) (nodes : List Shape) (bodies ranks x 
       let g = steps_are_good Spot (Leads rules nodes bodies x) (Pair root 0) (Kids rules nodes bodies x)
       (NextOf rules nodes bodies x) (is_key marks tails) forest next
       (λ a r. reached_ends rules start nodes bodies ranks x sound root is_root r) s steps in
-      let most = cells_at_most (cells_for (held Spot s).begun) (length nodes) (length x) (for_different g.once)
-      (λ m q h. visited_there rules start nodes bodies ranks x sound m q
-      (reached_is_visited rules start nodes bodies x root is_root m q
-      (g.reached (Pair m q) (for_among m q h.0 (held Spot s).begun h.1)))) in
-      let same = for_weigh (held Spot s).begun in
+      let h = pairs_begun (held Spot s).begun g.once g.reached in
+      let most = visited_few h.pairs (length x) h.visited
+      (λ m q i. (visited_there rules start nodes bodies ranks x sound m q (h.visited.visited (Pair m q) i)).1) in
+      let same = h.count in
       omega (arith, most, same)

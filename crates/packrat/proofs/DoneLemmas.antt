@@ -1,7 +1,8 @@
 -- What an evaluation of the start rule's body from an empty log gives and leaves behind.
 -- Serves: Packrat::match_unit
 use Rattle.std.proofs.Common.{◌≡◌, ℕ, ◌+◌, ◌*◌, ◌≤◌, Bool, true, List, [], ◌∷◌, length, Option, Some, None, refl, sym}
-use Rattle.std.proofs.Common.{subst, arith}
+use Rattle.std.proofs.Common.{subst, arith, ◌∙◌, ◌<◌, ◌-◌}
+use Rattle.std.proofs.Math.Nat.{mul-le-mul_left}
 use Rattle.std.specs.Prelude.{slice_get}
 use Rattle.std.proofs.lemmas.List.{length-map}
 use Rattle.pegread.specs.PegViews.{rules_of}
@@ -19,7 +20,8 @@ use Rattle.pegmatch.proofs.CodeLemmas.{some_cell}
 use Rattle.pegmatch.specs.Visits.{first}
 use Rattle.packrat.specs.EventLog.{IsHead, kept_at}
 use Rattle.packrat.proofs.KeptAtLemmas.{none_kept}
-use Rattle.pegmatch.specs.KeptEvents.{outcome_of, StandFor}
+use Rattle.pegmatch.specs.KeptEvents.{outcome_of, StandFor, no_event}
+use Rattle.pegmatch.specs.declared.event.Kept.{Kept}
 use Rattle.pegmatch.specs.Visits.{NodeGives}
 use Rattle.pegmatch.proofs.AsksLemmas.{visited_there}
 use Rattle.pegmatch.proofs.CodeLemmas.{cells_at_most}
@@ -31,7 +33,7 @@ use Rattle.memo.specs.declared.key_log.Stored.{Stored}
 use Rattle.memo.specs.declared.spot.Spot.TheVariants.{Pair, Tail}
 use Rattle.packrat.specs.Done.{Contents, IsDone, IsOnTheWay, Answers, IsOutcome, Holds, empty, head_of, unit_of}
 use Rattle.packrat.specs.Done.{unit_of_match}
-use Rattle.packrat.specs.MachineSteps.{Works}
+use Rattle.packrat.specs.MachineSteps.{Works, IsGood}
 use Rattle.packrat.specs.Onward.{ReachesEnd}
 use Rattle.packrat.specs.SpotSteps.{NextOf}
 use Rattle.packrat.specs.Spots.{Leads, Kids, is_key}
@@ -44,12 +46,12 @@ use Rattle.pegmatch.specs.declared.matcher.Unit.TheVariants as unit
 use Rattle.memo.specs.Parts.{Reach, in_here}
 use Rattle.memo.specs.declared.spot.Spot.{Spot}
 use Rattle.pegnodes.specs.KeyMarks.{AreMarks}
-use Rattle.packrat.specs.SpotGives.{SpotGives, SpotYields}
+use Rattle.packrat.specs.SpotGives.{SpotGives, SpotYields, IsQuiet}
 use Rattle.pegnodes.specs.KeyLists.{node_marks, tail_marks}
-use Rattle.packrat.specs.View.{Evaluates, AreStored}
+use Rattle.packrat.specs.View.{Evaluates, AreStored, AreReachedKeys, weight}
 use Rattle.packrat.specs.declared.frames.Frame.{Frame}
 use Rattle.pegnodes.specs.KeyLists.{Marks}
-use Rattle.packrat.proofs.BegunLemmas.{begun_at_places}
+use Rattle.packrat.proofs.BegunLemmas.{pairs_begun, visited_few}
 use Rattle.packrat.proofs.EndsLemmas.{reached_ends}
 use Rattle.packrat.proofs.GoodLemmas.{steps_are_good}
 use Rattle.packrat.proofs.NextOfLemmas.{is_next, forest_of}
@@ -124,32 +126,31 @@ module _ (g : Grammar) (x : List ℕ) (sound : IsSoundGrammar g) where
           keys = unit_stores c.stored c.begun e.runs;
           right = record { right = λ s i. found_given s.spot s.given (e.keys.given s i) };
           cells = b.cells;
-          seen = b.implied;
           every = b.every;
           count = sym b.count;
         }
+
+    need_good : (stored : List Stored) (begun : ℕ) → (n : NeedsMore g x more marks (Pair root 0) stored begun)
+        → IsGood Spot (Leads Rs Ns g.bodies x) (Pair root 0) (is_key (node_marks marks) (tail_marks marks))
+        (record { levels = n.levels; stored = spots_of stored; begun = n.spot ∷ n.begun })
+    need_good stored begun n = steps_are_good Spot (Leads Rs Ns g.bodies x) (Pair root 0) (Kids Rs Ns g.bodies x)
+        (NextOf Rs Ns g.bodies x) (is_key (node_marks marks) (tail_marks marks))
+        (forest_of Rs g.start Ns g.bodies g.ranks x more sound root at (node_marks marks) (tail_marks marks) are)
+        (is_next Rs g.start Ns g.bodies g.ranks x more sound root at (node_marks marks) (tail_marks marks) are)
+        (λ a r. reached_ends Rs g.start Ns g.bodies g.ranks x sound root at r)
+        (Works (record { levels = n.levels; stored = spots_of stored; begun = n.spot ∷ n.begun })) n.steps
 
     -- a spot that needs more is reached, so the start rule looks as far
     need_given : (stored : List Stored) (begun : ℕ) → NeedsMore g x more marks (Pair root 0) stored begun
         → (more ≡ true) × ((o : Outcome) × StartGives g x o (length x))
     need_given stored begun n = by n.spot refl n.reaches
       where
-        reached : Reach Spot (Leads Rs Ns g.bodies x) (Pair root 0) n.spot
-        reached =
-            let good = steps_are_good Spot (Leads Rs Ns g.bodies x) (Pair root 0) (Kids Rs Ns g.bodies x)
-            (NextOf Rs Ns g.bodies x) (is_key (node_marks marks) (tail_marks marks))
-            (forest_of Rs g.start Ns g.bodies g.ranks x more sound root at (node_marks marks) (tail_marks marks)
-            are)
-            (is_next Rs g.start Ns g.bodies g.ranks x more sound root at (node_marks marks) (tail_marks marks) are)
-            (λ a r. reached_ends Rs g.start Ns g.bodies g.ranks x sound root at r)
-            (Works (record { levels = n.levels; stored = spots_of stored; begun = n.spot ∷ n.begun })) n.steps in
-            good.reached n.spot in_here
-
         by : (a : Spot) → n.spot ≡ a → ReachesEnd g x more a → (more ≡ true)
             × ((o : Outcome) × StartGives g x o (length x))
         by (Pair m p) is h =
             let v = reached_is_visited Rs g.start Ns g.bodies x root at m p
-            (subst (λ a. Reach Spot (Leads Rs Ns g.bodies x) (Pair root 0) a) is reached) in
+            (subst (λ a. Reach Spot (Leads Rs Ns g.bodies x) (Pair root 0) a) is
+            ((need_good stored begun n).reached n.spot in_here)) in
             let has = one.has_of_start Rs g.start Ns g.bodies g.ranks sound x in
             let gives = start_as root has.0 has.1 at has.2 in
             let within = visits_within Rs g.start Ns g.bodies g.ranks x sound v root has.1 has.0 at gives in
@@ -161,35 +162,73 @@ module _ (g : Grammar) (x : List ℕ) (sound : IsSoundGrammar g) where
             (h.0, (has.0, subst (λ k. StartGives g x has.0 k) far has.2))
         by (Tail m i p) is h = absurd h
 
-    on_the_way : (c : Contents) → NeedsMore g x more marks (Pair root 0) c.stored c.begun → IsOnTheWay g x more marks c
-    on_the_way c n = record {
-      root = root;
-      at = at;
-      levels = n.levels;
-      begun = n.spot ∷ n.begun;
-      steps = n.steps;
-      count = n.is;
-    }
+    -- what needs more is a pair
+    need_weighs : (a : Spot) → ReachesEnd g x more a → weight a ≡ 1
+    need_weighs (Pair m p) h = refl
+    need_weighs (Tail m i p) h = absurd h
+
+    on_the_way : (c : Contents) → NeedsMore g x more marks (Pair root 0) c.stored c.begun → more ≡ true
+        → c.frames ≡ [] → c.kept ≡ [] → IsOnTheWay g x more marks c
+    on_the_way c n behind frames kept =
+        let good = need_good c.stored c.begun n in
+        let h = pairs_begun Rs g.start Ns g.bodies g.ranks x more sound root at (node_marks marks) (tail_marks marks)
+        are (n.spot ∷ n.begun) good.once good.reached in
+        let is = n.is in
+        let same = h.count in
+        let one = need_weighs n.spot n.reaches in
+        record {
+          frames = frames;
+          kept = kept;
+          keys = λ other there.
+              let same_root : root ≡ other = cc (at, there) in
+              subst (λ v. AreReachedKeys Rs g.start Ns g.bodies x more (node_marks marks) (tail_marks marks) v
+              (spots_of c.stored)) same_root (record {
+                reached = λ a i. good.reached a (good.stored a i).0;
+                keys = λ a i. (good.stored a i).1;
+                once = good.stored_once;
+              });
+          right = n.right;
+          pairs = h.pairs;
+          visited = h.visited;
+          near = λ m p i. n.near m p (h.only m p i) behind;
+          among = λ m p i. h.among m p (good.stored (Pair m p) i).0;
+          some = omega (arith, is, one);
+          count = omega (arith, is, same);
+        }
+
+    -- a failure keeps no events
+    failed_keeps : (links : List Link) (a : Spot) (given : Given) → given.found ≡ found.Failed
+        → GivenBy g x more links a given → kept_at links given.events ≡ []
+    failed_keeps links a given is h =
+        let none : h.events ≡ [] = subst (λ v. IsQuiet v h.events) is h.quiet in
+        nothing_kept (subst (StandFor (shapes_of g.nodes) (kept_at links given.events)) none h.head.stands)
+      where
+        nothing_kept : {kept : List Kept} → StandFor (shapes_of g.nodes) kept [] → kept ≡ []
+        nothing_kept no_event = refl
 
     ended_as : (f : Found) (c : Contents) (given : Given) (links : List Link) → given.found ≡ f
+        → c.kept ≡ kept_at links given.events
         → IsEnded g x more marks (Pair root 0) given c.frames c.stored links c.begun
         → IsOutcome g x more marks c (unit_of f c.begun)
-    ended_as found.Failed c given links is h = (
+    ended_as found.Failed c given links is kept h = (
       unit_done c given links h,
       subst (Answers g x more) is (answers_of given.found (found_given (Pair root 0) given h.gives)),
       refl,
+      kept ∙ failed_keeps links (Pair root 0) given is h.gives,
     )
-    ended_as (found.Took q) c given links is h = (
+    ended_as (found.Took q) c given links is kept h = (
       unit_done c given links h,
       subst (Answers g x more) is (answers_of given.found (found_given (Pair root 0) given h.gives)),
       refl,
     )
 
-    pub outcome_of_match : (c : Contents) (v : Option Given) (links : List Link)
+    pub outcome_of_match : (c : Contents) (v : Option Given) (links : List Link) → c.kept ≡ kept_at links (head_of v)
         → IsEvaluated g x more marks (Pair root 0) v c.frames c.stored links c.begun
         → IsOutcome g x more marks c (unit_of_match v c.begun)
-    outcome_of_match c None links h = let given = need_given c.stored c.begun h in (on_the_way c h, given.0, given.1)
-    outcome_of_match c (Some given) links h = ended_as given.found c given links refl h
+    outcome_of_match c None links kept h =
+        let given = need_given c.stored c.begun h.0 in
+        (on_the_way c h.0 given.0 h.1 (kept ∙ none_kept links), given.0, given.1)
+    outcome_of_match c (Some given) links kept h = ended_as given.found c given links refl kept h
 
     begun_some : (c : Contents) → IsDone g x more marks c → 1 ≤ c.begun
     begun_some c done =
@@ -218,7 +257,7 @@ module _ (g : Grammar) (x : List ℕ) (sound : IsSoundGrammar g) where
     pub answer_of_match : (c : Contents) (v : Option Given) (links : List Link) → c.kept ≡ kept_at links (head_of v)
         → IsEvaluated g x more marks (Pair root 0) v c.frames c.stored links c.begun
         → IsAnswer g x more (Holds c g x) (unit_of_match v c.begun)
-    answer_of_match c None links kept h = need_given c.stored c.begun h
+    answer_of_match c None links kept h = need_given c.stored c.begun h.0
     answer_of_match c (Some given) links kept h = answered_as given.found c given links refl kept h
 
     pub head_of_match : (v : Option Given) (frames : List Frame) (stored : List Stored) (links : List Link)
@@ -242,20 +281,53 @@ module _ (g : Grammar) (x : List ℕ) (sound : IsSoundGrammar g) where
         let same : length (shapes_of g.nodes) ≡ length g.nodes = length-map g.nodes shape_of in
         subst (λ v. c.begun ≤ v * (k + 1)) same (omega (arith, most, count))
 
-    pub begun_bounded : (c : Contents) (u : UnitAnswer) → IsOutcome g x more marks c u → (o : Outcome) (k : ℕ)
+    begun_bounded : (c : Contents) (u : UnitAnswer) → IsOutcome g x more marks c u → (o : Outcome) (k : ℕ)
         → StartGives g x o k → c.begun ≤ length g.nodes * (k + 1)
     begun_bounded c (unit.Took end begun) h o k gives = unit_bounded c h.0 o k gives
     begun_bounded c (unit.Failed begun) h o k gives = unit_bounded c h.0 o k gives
     begun_bounded c unit.Need h o k gives =
         let way = h.0 in
-        let most = begun_at_places Rs g.start Ns g.bodies g.ranks x more sound way.root way.at (node_marks marks)
-        (tail_marks marks) are
-        (Works (record { levels = way.levels; stored = spots_of c.stored; begun = way.begun })) way.steps in
         let far = (same_of_start Rs g.start x k (length x) o h.2.0 gives h.2.1).looked in
+        let most = visited_few Rs g.start Ns g.bodies g.ranks x more sound root at (node_marks marks) (tail_marks marks)
+        are way.pairs k way.visited (λ m p i. let lt = way.near m p i in omega (arith, lt, far)) in
         let count = way.count in
         let same : length (shapes_of g.nodes) ≡ length g.nodes = length-map g.nodes shape_of in
-        subst (λ v. c.begun ≤ v * (k + 1)) same
-        (subst (λ v. c.begun ≤ length Ns * (v + 1)) (sym far) (omega (arith, most, count)))
+        subst (λ v. c.begun ≤ v * (k + 1)) same (omega (arith, most, count))
+
+    done_fits : (c : Contents) (f : Found) → IsDone g x more marks c → Answers g x more f → more ≡ true
+        → c.begun ≤ length g.nodes * length x
+    done_fits c f done a behind =
+        let most = unit_bounded c done (outcome_of f a.events) a.looked a.gives in
+        let enough = a.enough behind in
+        let wide : length g.nodes * (a.looked + 1) ≤ length g.nodes * length x =
+        mul-le-mul_left (length g.nodes) (omega (arith, enough)) in
+        omega (arith, most, wide)
+
+    -- where more bytes follow the window, no more are begun than nodes at its bytes
+    begun_fits : (c : Contents) (u : UnitAnswer) → (more ≡ true → 0 < length x) → IsOutcome g x more marks c u
+        → more ≡ true → c.begun ≤ length g.nodes * length x
+    begun_fits c (unit.Took end begun) some h behind = done_fits c (found.Took end) h.0 h.1 behind
+    begun_fits c (unit.Failed begun) some h behind = done_fits c found.Failed h.0 h.1 behind
+    begun_fits c unit.Need some h behind =
+        let way = h.0 in
+        let lt = some behind in
+        let last : (length x - 1) + 1 ≡ length x = omega (arith, lt) in
+        let most = visited_few Rs g.start Ns g.bodies g.ranks x more sound root at (node_marks marks) (tail_marks marks)
+        are way.pairs (length x - 1) way.visited (λ m p i. let less = way.near m p i in omega (arith, less)) in
+        let count = way.count in
+        let same : length (shapes_of g.nodes) ≡ length g.nodes = length-map g.nodes shape_of in
+        subst (λ v. c.begun ≤ v * length x) same
+        (subst (λ v. c.begun ≤ length Ns * v) last (omega (arith, most, count)))
+
+    pub match_bounded : (c : Contents) (v : Option Given) (links : List Link) → c.kept ≡ kept_at links (head_of v)
+        → IsEvaluated g x more marks (Pair root 0) v c.frames c.stored links c.begun → (more ≡ true → 0 < length x)
+        → ((o : Outcome) (k : ℕ) → StartGives g x o k → c.begun ≤ length g.nodes * (k + 1))
+        × (more ≡ true → c.begun ≤ length g.nodes * length x)
+    match_bounded c v links kept h some =
+        let outcome = outcome_of_match c v links kept h in (
+          begun_bounded c (unit_of_match v c.begun) outcome,
+          begun_fits c (unit_of_match v c.begun) some outcome,
+        )
 
 -- the places of a held success's events stand in order within the window
 pub held_rise : (g : Grammar) (x : List ℕ) (Holding : List Event → Type 0) (h : HoldsSuccess g x Holding)

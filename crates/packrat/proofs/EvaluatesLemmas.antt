@@ -1,5 +1,5 @@
 -- An evaluation from nothing stores the keys that are reached, and has begun as many pairs as they imply.
--- Serves: evaluated_once
+-- Serves: evaluated_once, implied_cells
 use Rattle.std.proofs.Common.{◌≡◌, ℕ, ◌≤◌, Bool, List, [], ◌∷◌, length, Some}
 use Rattle.std.proofs.Common.{refl, arith}
 use Rattle.std.specs.Prelude.{slice_get}
@@ -62,7 +62,7 @@ module _ (rules : List Rule) (start : ℕ) (nodes : List Shape) (bodies ranks x 
 
   module _ (o : Outcome) (k : ℕ) (d : NodeGives rules nodes bodies x root 0 o k) (enough : WasEnough x more k) where
     -- each reached pair has an outcome, for which the window is long enough
-    record HasFound (n p : ℕ) : Type 0 where
+    pub record HasFound (n p : ℕ) : Type 0 where
       pub f : Found
       pub found : IsFound rules start nodes bodies x more n p f
 
@@ -88,18 +88,18 @@ module _ (rules : List Rule) (start : ℕ) (nodes : List Shape) (bodies ranks x 
           };
         }
 
-    has_found : (n p : ℕ) → R (Pair n p) → HasFound n p
+    pub has_found : (n p : ℕ) → R (Pair n p) → HasFound n p
     has_found n p r =
         let v = reached_is_visited rules start nodes bodies x root is_root n p r in
         let w = visits_within rules start nodes bodies ranks x sound v root k o is_root d in
         found_of n p w.looked w.outcome w.less w.gives
 
-    record HasCells (spots : List Spot) : Type 0 where
+    pub record HasCells (spots : List Spot) : Type 0 where
       pub cells : List Entry
       pub of_spots : CellsOf rules start nodes bodies x more spots cells
       pub count : length cells ≡ total Spot (Kids rules nodes bodies x) (is_key marks tails) weight spots
 
-    has_cells : (spots : List Spot) → ((a : Spot) → IsIn a spots → R a) → HasCells spots
+    pub has_cells : (spots : List Spot) → ((a : Spot) → IsIn a spots → R a) → HasCells spots
     has_cells [] r = record { cells = []; of_spots = cells_none; count = refl }
     has_cells (Pair n p ∷ spots) r =
         let h = has_cells spots (λ a i. r a (in_later i)) in

@@ -138,6 +138,7 @@ module _ (V : Type 0) (Edge : V → V → Type 0) (root : V) (Kids : V → List 
           ];
           stack_once = distinct_more (λ i. new_begun (w.inner.good.stack b i)) w.inner.good.stack_once;
           stored = λ a i. let h = w.inner.good.stored a i in (in_later h.0, h.1);
+          stored_once = w.inner.good.stored_once;
           apart = λ a i s. elim (in_front i) [
             | inl is ↦ let h = w.inner.good.stored a s in fresh (subst (λ v. key v ≡ true) is h.1)
                 (subst (λ v. IsIn v st) is s)
@@ -193,6 +194,7 @@ module _ (V : Type 0) (Edge : V → V → Type 0) (root : V) (Kids : V → List 
           stack = w.inner.good.stack;
           stack_once = w.inner.good.stack_once;
           stored = w.inner.good.stored;
+          stored_once = w.inner.good.stored_once;
           apart = w.inner.good.apart;
         };
         keys = w.inner.keys;
@@ -217,6 +219,7 @@ module _ (V : Type 0) (Edge : V → V → Type 0) (root : V) (Kids : V → List 
           stack = λ c i. w.inner.good.stack c (in_later i);
           stack_once = rest_distinct w.inner.good.stack_once;
           stored = by_stored (key a) refl;
+          stored_once = by_once (key a);
           apart = by_apart (key a) refl;
         };
         keys = by_keys (key a) refl;
@@ -235,6 +238,10 @@ module _ (V : Type 0) (Edge : V → V → Type 0) (root : V) (Kids : V → List 
           | inr j ↦ w.inner.good.stored c j
         ]
         by_stored false is c i = w.inner.good.stored c i
+
+        by_once : (v : Bool) → Distinct (store V v a st)
+        by_once true = distinct_more (w.inner.good.apart a in_here) w.inner.good.stored_once
+        by_once false = w.inner.good.stored_once
 
         by_apart : (v : Bool) → key a ≡ v → (c : V) → IsIn c (stack_of V fs) → IsIn c (store V v a st) → ⊥
         by_apart true is c i s = elim (in_front s) [
@@ -277,6 +284,7 @@ module _ (V : Type 0) (Edge : V → V → Type 0) (root : V) (Kids : V → List 
         stack = λ a i. absurd (not_in i);
         stack_once = distinct_none;
         stored = λ a i. absurd (not_in i);
+        stored_once = distinct_none;
         apart = λ a i s. absurd (not_in i);
       };
       keys = λ c i t. absurd (not_in i);

@@ -6,6 +6,8 @@ pub mod SpotReachLemmas
 pub mod AreImpliedLemmas
 pub mod EndsLemmas
 pub mod EvaluatesLemmas
+pub mod HasKidsLemmas
+pub mod SameCellsLemmas
 pub mod SpotGivesLemmas
 pub mod DoneLemmas
 pub mod OneViewLemmas

@@ -22,6 +22,7 @@ use Rattle.pegmatch.specs.Visits.{NodeTakes, NodeFails}
 use Rattle.packrat.specs.SpotGives.{joined}
 use Rattle.pegmatch.specs.KeptEvents.{quiet_outcome}
 use Rattle.pegmatch.proofs.AsksLemmas.{goes_onward}
+use Rattle.gramcheck.proofs.LongerInputLemmas.{ends_by}
 use Rattle.memo.specs.declared.spot.Spot.{Spot}
 use Rattle.memo.specs.declared.spot.Spot.TheVariants.{Pair, Tail}
 use Rattle.pegnodes.specs.NodeWays.{way_of}
@@ -86,6 +87,14 @@ module _ (g : Grammar) (x : List ℕ) (more : Bool) (some : WasEnough x more 0) 
   ends_within k p q es le t = (goes_onward (rules_of g.rules) g.start (shapes_of g.nodes) g.bodies g.ranks x sound k p q
       le (takes_there k p q es t)).high
 
+  -- behind what is taken within the window a spot stands before the window's end, if it stood so before
+  takes_near : (k p q : ℕ) (es : List Event) → NT k p q es → (more ≡ true → p < length x) → more ≡ true → q < length x
+  takes_near k p q es t near is =
+      let le = ends_by (rules_of g.rules) x t.gives.gives in
+      let far = t.enough is in
+      let lt = near is in
+      omega (arith, le, far, lt)
+
   one_kid : (j k : Spot) → j ≡ k → j ∷ [] ≡ k ∷ []
   one_kid j k is = ap (λ v. v ∷ []) is
 
@@ -137,6 +146,7 @@ module _ (g : Grammar) (x : List ℕ) (more : Bool) (some : WasEnough x more 0) 
             (λ f fs e. L.star_goes g x more some sound n k p w.0 q f es fs at nt e),
           ),
           (w.0, ends_within k p q es w.1 nt),
+          takes_near k p q es nt,
         )
 
     pub plus_none : (s : ℕ) → At n (node.Plus k s) → found ≡ Failed → After (Pair n p) found (Gives Failed)
@@ -156,6 +166,7 @@ module _ (g : Grammar) (x : List ℕ) (more : Bool) (some : WasEnough x more 0) 
             (λ f fs e. L.plus_goes g x more some sound n k p w.0 s q f es fs at nt e),
           ),
           (L.plus_repeats g x more some sound n k p w.0 s at, ends_within k p q es w.1 nt),
+          takes_near k p q es nt,
         )
 
     pub not_none : At n (node.Not k) → found ≡ Failed → After (Pair n p) found (Gives (Took p))
@@ -266,6 +277,7 @@ module _ (g : Grammar) (x : List ℕ) (more : Bool) (some : WasEnough x more 0) 
             (λ f fs c. L.rest_goes g x more some sound n i p by.0 ms by.1 q f es fs at nt c),
           ),
           (w.0, ends_within by.0 p q es w.1 nt, (node.Seq ms, at, lt)),
+          takes_near by.0 p q es nt,
         )
 
     pub other_some : (q : ℕ) → At n (node.Choice ms) → found ≡ Took q → After (Tail n i p) found Same
@@ -303,6 +315,7 @@ module _ (g : Grammar) (x : List ℕ) (more : Bool) (some : WasEnough x more 0) 
             (λ f fs c. L.other_goes g x more some sound n i p by.0 ms by.1 f fs at nf c),
           ),
           (w.0, w.1, (node.Choice ms, at, lt)),
+          λ near. near,
         ))
 
   module _ (n i p m : ℕ) (ms : List ℕ) (there : slice_get ms i ≡ Some m) (w : IsWell g x (Tail n i p)) where

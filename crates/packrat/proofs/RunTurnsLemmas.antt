@@ -30,6 +30,12 @@ use Rattle.packrat.proofs.ByteKidsLemmas.{by_byte_itself, itself_runs}
 use Rattle.packrat.proofs.NextOfLemmas.{is_next}
 use Rattle.packrat.proofs.RunStepsLemmas.{run_goes, total_append, append_other, steps_then}
 use Rattle.packrat.proofs.GoodLemmas.{in_front, not_in}
+use Rattle.memo.proofs.PartsLemmas.{in_either}
+use Rattle.packrat.proofs.SpotKidsLemmas.{one_in, kid_led_to}
+use Rattle.packrat.proofs.SpotReachLemmas.{Seen, seen_next}
+use Rattle.pegmatch.proofs.VisitsLemmas.{asks_within}
+use Rattle.pegmatch.specs.Visits.{NodeGives, Asks as AsksFor}
+use Rattle.gramcheck.specs.Outcome.{Outcome}
 
 -- no pair of those places is that of another node, or of a later place
 not_among : (key : Bool) (m k a n q : ℕ) (stored : List Spot) → (m ≡ k → q < a + n → ⊥)
@@ -67,8 +73,31 @@ fresh_above key m a n mark stored below le i lt is there =
 module _ (rules : List Rule) (start : ℕ) (nodes : List Shape) (bodies ranks x : List ℕ)
     (sound : IsRanked rules start nodes bodies ranks) (root : ℕ) (is_root : slice_get bodies start ≡ Some root)
     (marks : ℕ → Bool) (tails : ℕ → ℕ → Bool) (are : AreMarks start nodes bodies marks tails) where
-  abbrev Comes : State Spot → (List Spot → State Spot) → ℕ → Type 0
-  Comes s to c = ComesWith rules nodes bodies x marks tails s to c
+  abbrev Comes : State Spot → (List Spot → State Spot) → ℕ → ℕ → Type 0
+  Comes s to most c = ComesWith rules nodes bodies x marks tails s to most c
+
+  -- a pair that stands no further, and looks no further
+  record IsWithin (most n p : ℕ) : Type 0 where
+    pub outcome : Outcome
+    pub looked : ℕ
+    pub gives : NodeGives rules nodes bodies x n p outcome looked
+    pub less : looked ≤ most
+    pub place : p ≤ most
+
+  within_on : (most n p m q : ℕ) → IsWithin most n p → AsksFor rules nodes bodies x n p m q → IsWithin most m q
+  within_on most n p m q w a =
+      let u = asks_within rules start nodes bodies ranks x sound n p m q w.looked w.outcome w.gives a in
+      let looked = w.less in
+      let place = w.place in
+      let less = u.less in
+      let near = u.near in
+      record {
+        outcome = u.outcome;
+        looked = u.looked;
+        gives = u.gives;
+        less = omega (arith, less, looked);
+        place = omega (arith, near, looked, place);
+      }
 
   next_all : (a k : Spot) (asked rest : List Spot) → Kids rules nodes bodies x a (asked ++ k ∷ rest)
       → NextOf rules nodes bodies x a asked k
@@ -89,13 +118,23 @@ module _ (rules : List Rule) (start : ℕ) (nodes : List Shape) (bodies ranks x 
         levels = levels;
         stored = store Spot (marks n) (Pair n p) stored;
         begun = front ++ begun;
-      })) c
+      })) (p + 1) c
   decided_comes b n p c v h here s levels stored begun fresh =
       let itself = by_byte_itself rules start nodes bodies ranks x sound marks tails b p here h s in
+      let own = gives_by rules start nodes bodies ranks x sound marks tails b p here h s in
       let g = run_goes Spot (Kids rules nodes bodies x) (NextOf rules nodes bodies x) (is_key marks tails) weight
-      next_all (itself_runs rules start nodes bodies ranks x sound marks tails (Pair n p) c stored fresh itself) levels
+      next_all (Seen rules nodes bodies x (IsWithin (p + 1)) (within_on (p + 1)))
+      (λ a k ks seen kids i. seen_next rules nodes bodies x (IsWithin (p + 1)) (within_on (p + 1)) a k seen
+      (kid_led_to rules start nodes bodies ranks x sound a k ks kids i))
+      (itself_runs rules start nodes bodies ranks x sound marks tails (Pair n p) c stored fresh itself)
+      (record { outcome = _; looked = own.looked; gives = own.gives; less = own.within; place = omega arith }) levels
       begun in
-      record { front = g.front; is = g.count; steps = g.steps }
+      record {
+        front = g.front;
+        is = g.count;
+        steps = g.steps;
+        near = λ m q i. let w : IsWithin (p + 1) m q = g.near (Pair m q) i in w.place;
+      }
 
   module _ (s k : ℕ) (at : slice_get nodes s ≡ Some (node.Star k)) (spelled : SpellsSome rules nodes s) where
     abbrev Turned : ℕ → ℕ → ℕ → Type 0
@@ -122,6 +161,9 @@ module _ (rules : List Rule) (start : ℕ) (nodes : List Shape) (bodies ranks x 
       inr (p + 1, record { events = []; looked = g.looked; gives = g.gives }, refl),
     )
 
+    here_near : (n p m q : ℕ) → Pair m q ≡ Pair n p → q ≤ p + 1
+    here_near n p m q is = let same : q ≡ p = cc is in omega (arith, same)
+
     -- one turn
     turn_comes : (b p d : ℕ) → ByByte nodes bodies marks tails b k Takes d → slice_get x p ≡ Some b
         → (levels : List (Level Spot)) (stored begun : List Spot) → (marks s ≡ true → IsIn (Pair s p) stored → ⊥)
@@ -131,7 +173,7 @@ module _ (rules : List Rule) (start : ℕ) (nodes : List Shape) (bodies ranks x 
           levels = turn_at s k p ∷ levels;
           stored = store Spot (marks k) (Pair k p) stored;
           begun = front ++ begun;
-        })) (1 + d)
+        })) (p + 1) (1 + d)
     turn_comes b p d h here levels stored begun fresh free =
         let has = star_has rules start nodes bodies ranks x sound s k at spelled in
         let g = operand_takes b p d h here in
@@ -152,6 +194,10 @@ module _ (rules : List Rule) (start : ℕ) (nodes : List Shape) (bodies ranks x 
               (sym (append_other r.front (Pair s p ∷ []) begun))
               (steps_more (both_steps (steps_more (steps_more steps_none (step_begin fresh))
               (step_next (next_first (node.Star k, at, refl)))) r.steps) (step_next (next_second (turn_kids p g))));
+          near = λ m q i. elim (in_either r.front (Pair s p ∷ []) i) [
+            | inl j ↦ r.near m q j
+            | inr j ↦ here_near s p m q (one_in j)
+          ];
         }
 
     star_stays : (b c : ℕ) (v : Verdict) → ByByte nodes bodies marks tails b s v c → v ≡ Stays
@@ -173,12 +219,13 @@ module _ (rules : List Rule) (start : ℕ) (nodes : List Shape) (bodies ranks x 
           levels = turns_on s k a n levels;
           stored = operands_on (marks k) k a n stored;
           begun = front ++ begun;
-        })) c
+        })) (a + n) c
     turns_come {a = a} turns_none levels stored begun fresh free =
         let same : a ≡ a + 0 = omega arith in
         record {
           front = [];
           is = refl;
+          near = λ m q i. elim i [ ];
           steps = subst (λ q. St (Asks (Pair s a) (record { levels = levels; stored = stored; begun = begun }))
               (Asks (Pair s q) (record { levels = levels; stored = stored; begun = begun }))) same steps_none;
         }
@@ -195,6 +242,10 @@ module _ (rules : List Rule) (start : ℕ) (nodes : List Shape) (bodies ranks x 
         let next : (a + n) + 1 ≡ a + suc n = omega arith in
         record {
           front = turn.front ++ before.front;
+          near = λ m q i. elim (in_either turn.front before.front i) [
+            | inl j ↦ let le = turn.near m q j in omega (arith, le)
+            | inr j ↦ let le = before.near m q j in omega (arith, le)
+          ];
           is = omega (arith, one, two, sum);
           steps = subst (λ v. St (Asks (Pair s a) (record { levels = levels; stored = stored; begun = begun }))
               (Asks (Pair s (a + suc n)) (record {
@@ -231,7 +282,7 @@ module _ (rules : List Rule) (start : ℕ) (nodes : List Shape) (bodies ranks x 
           stored = turns_closed (marks s) s a (suc n)
               (operands_on (marks k) k a n stored);
           begun = front ++ begun;
-        })) (c + d)
+        })) ((a + n) + 1) (c + d)
     whole_comes {a = a} {n = n} b d turns here h levels stored begun fresh free =
         let before = turns_come turns levels stored begun (λ i lt. fresh i (omega arith)) free in
         let last = decided_comes b s (a + n) d Stays h here spelled (turns_on s k a n levels)
@@ -245,6 +296,10 @@ module _ (rules : List Rule) (start : ℕ) (nodes : List Shape) (bodies ranks x 
         before.front in
         record {
           front = last.front ++ before.front;
+          near = λ m z i. elim (in_either last.front before.front i) [
+            | inl j ↦ last.near m z j
+            | inr j ↦ let le = before.near m z j in omega (arith, le)
+          ];
           is = omega (arith, one, two, sum);
           steps = subst (λ v. St (Asks (Pair s a) (record { levels = levels; stored = stored; begun = begun }))
               (Works (record {
@@ -268,7 +323,7 @@ module _ (rules : List Rule) (start : ℕ) (nodes : List Shape) (bodies ranks x 
           levels = levels;
           stored = store Spot (marks s) (Pair s q) (store Spot (marks k) (Pair k q) stored);
           begun = front ++ begun;
-        })) (1 + d)
+        })) (q + 1) (1 + d)
     stop_comes b q d h here levels stored begun fresh free =
         let has = star_has rules start nodes bodies ranks x sound s k at spelled in
         let g = gives_by rules start nodes bodies ranks x sound marks tails b q here h has in
@@ -289,6 +344,10 @@ module _ (rules : List Rule) (start : ℕ) (nodes : List Shape) (bodies ranks x 
               (sym (append_other r.front (Pair s q ∷ []) begun))
               (steps_more (both_steps (steps_more (steps_more steps_none (step_begin fresh))
               (step_next (next_first (node.Star k, at, refl)))) r.steps) (step_last (stop_kids q g)));
+          near = λ m z i. elim (in_either r.front (Pair s q ∷ []) i) [
+            | inl j ↦ r.near m z j
+            | inr j ↦ here_near s q m z (one_in j)
+          ];
         }
 
     -- the turns, and then such a byte
@@ -301,7 +360,7 @@ module _ (rules : List Rule) (start : ℕ) (nodes : List Shape) (bodies ranks x 
           stored = turns_closed (marks s) s a (suc n)
               (store Spot (marks k) (Pair k (a + n)) (operands_on (marks k) k a n stored));
           begun = front ++ begun;
-        })) (c + (1 + d))
+        })) ((a + n) + 1) (c + (1 + d))
     turns_stop {a = a} {n = n} b d turns here h levels stored begun fresh free =
         let before = turns_come turns levels stored begun (λ i lt. fresh i (omega arith))
         (λ i lt. free i (omega arith)) in
@@ -318,6 +377,10 @@ module _ (rules : List Rule) (start : ℕ) (nodes : List Shape) (bodies ranks x 
         before.front in
         record {
           front = last.front ++ before.front;
+          near = λ m z i. elim (in_either last.front before.front i) [
+            | inl j ↦ last.near m z j
+            | inr j ↦ let le = before.near m z j in omega (arith, le)
+          ];
           is = omega (arith, one, two, sum);
           steps = subst (λ v. St (Asks (Pair s a) (record { levels = levels; stored = stored; begun = begun }))
               (Works (record {

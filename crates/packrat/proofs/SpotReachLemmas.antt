@@ -29,22 +29,17 @@ drop_front [] l (suc i) m h = absurd (cc h)
 drop_front (k ∷ ms) l zero m h = let is : k ≡ m = cc h in (cc, drop_none ms ∙ cc)
 drop_front (k ∷ ms) l (suc i) m h = drop_front ms l i m h
 
-module _ (rules : List Rule) (start : ℕ) (nodes : List Shape) (bodies x : List ℕ)
-    (root : ℕ) (is_root : slice_get bodies start ≡ Some root) where
-  abbrev V : ℕ → ℕ → Type 0
-  V n p = Visits rules nodes bodies x start n p
+-- where a set of pairs leads that has all that its pairs ask for
+module _ (rules : List Rule) (nodes : List Shape) (bodies x : List ℕ) (V : ℕ → ℕ → Type 0)
+    (on : (n p m q : ℕ) → V n p → Asks rules nodes bodies x n p m q → V m q) where
+  abbrev A' : ℕ → ℕ → ℕ → ℕ → Type 0
+  A' n p m q = Asks rules nodes bodies x n p m q
 
-  abbrev A : ℕ → ℕ → ℕ → ℕ → Type 0
-  A n p m q = Asks rules nodes bodies x n p m q
+  abbrev AM' : List ℕ → ℕ → ℕ → ℕ → Type 0
+  AM' ms p m q = AsksMember rules nodes bodies x ms p m q
 
-  abbrev AM : List ℕ → ℕ → ℕ → ℕ → Type 0
-  AM ms p m q = AsksMember rules nodes bodies x ms p m q
-
-  abbrev AA : ℕ → List ℕ → ℕ → Type 0
-  AA p ms m = AsksAlternative rules nodes bodies x p ms m
-
-  abbrev R : Spot → Type 0
-  R a = Reach Spot (Leads rules nodes bodies x) (Pair root 0) a
+  abbrev AA' : ℕ → List ℕ → ℕ → Type 0
+  AA' p ms m = AsksAlternative rules nodes bodies x p ms m
 
   -- what the rest of a node from member i on at q asks for
   abbrev TailAsks : Shape → ℕ → ℕ → ℕ → ℕ → Type 0
@@ -52,8 +47,8 @@ module _ (rules : List Rule) (start : ℕ) (nodes : List Shape) (bodies x : List
   TailAsks (node.Bytes bs) i q m r = ⊥
   TailAsks (node.Set s) i q m r = ⊥
   TailAsks (node.Name id) i q m r = ⊥
-  TailAsks (node.Seq ms) i q m r = AM (drop i ms) q m r
-  TailAsks (node.Choice ms) i q m r = AA q (drop i ms) m × (r ≡ q)
+  TailAsks (node.Seq ms) i q m r = AM' (drop i ms) q m r
+  TailAsks (node.Choice ms) i q m r = AA' q (drop i ms) m × (r ≡ q)
   TailAsks (node.Star k) i q m r = ⊥
   TailAsks (node.Plus k s) i q m r = ⊥
   TailAsks (node.Opt k) i q m r = ⊥
@@ -63,13 +58,13 @@ module _ (rules : List Rule) (start : ℕ) (nodes : List Shape) (bodies x : List
   TailAsks node.Open i q m r = ⊥
   TailAsks node.Close i q m r = ⊥
 
-  -- a rest is one of a visited pair, which asks for what it asks for
-  record IsTail (n i q : ℕ) : Type 0 where
+  -- a rest is one of a pair of the set, which asks for what it asks for
+  pub record IsTail (n i q : ℕ) : Type 0 where
     pub place : ℕ
     pub visited : V n place
-    pub asks : (shape : Shape) → slice_get nodes n ≡ Some shape → (m r : ℕ) → TailAsks shape i q m r → A n place m r
+    pub asks : (shape : Shape) → slice_get nodes n ≡ Some shape → (m r : ℕ) → TailAsks shape i q m r → A' n place m r
 
-  abbrev Seen : Spot → Type 0
+  abbrev pub Seen : Spot → Type 0
   Seen (Pair n p) = V n p
   Seen (Tail n i q) = IsTail n i q
 
@@ -79,7 +74,7 @@ module _ (rules : List Rule) (start : ℕ) (nodes : List Shape) (bodies x : List
   module _ (n p : ℕ) (v : V n p) where
     ask_visits : (m q : ℕ) (shape : Shape) → slice_get nodes n ≡ Some shape
         → AsksBy rules nodes bodies x shape n p m q → V m q
-    ask_visits m q shape at by = asked v (record { shape = shape; at = at; by = by })
+    ask_visits m q shape at by = on n p m q v (record { shape = shape; at = at; by = by })
 
     rest_of : (shape : Shape) → slice_get nodes n ≡ Some shape
         → ((m r : ℕ) → TailAsks shape zero p m r → AsksBy rules nodes bodies x shape n p m r) → IsTail n zero p
@@ -99,9 +94,9 @@ module _ (rules : List Rule) (start : ℕ) (nodes : List Shape) (bodies x : List
     seen_by b (node.Set s) at l = absurd l
     seen_by b (node.Name id) at l = seen_as b (Pair l.0 p) l.2 (ask_visits l.0 p (node.Name id) at (l.1, refl))
     seen_by b (node.Seq ms) at l = seen_as b (Tail n zero p) l.2
-        (rest_of (node.Seq ms) at (λ m r h. subst (λ w. AM w p m r) (drop_none ms) h))
+        (rest_of (node.Seq ms) at (λ m r h. subst (λ w. AM' w p m r) (drop_none ms) h))
     seen_by b (node.Choice ms) at l = seen_as b (Tail n zero p) l.2
-        (rest_of (node.Choice ms) at (λ m r h. (subst (λ w. AA p w m) (drop_none ms) h.0, h.1)))
+        (rest_of (node.Choice ms) at (λ m r h. (subst (λ w. AA' p w m) (drop_none ms) h.0, h.1)))
     seen_by b (node.Star k) at l = elim l [
       | inl e ↦ seen_as b (Pair k p) e (ask_visits k p (node.Star k) at (inl (refl, refl)))
       | inr e ↦ seen_as b (Pair n e.0) e.2 (ask_visits n e.0 (node.Star k) at (inr (refl, e.1)))
@@ -119,7 +114,7 @@ module _ (rules : List Rule) (start : ℕ) (nodes : List Shape) (bodies x : List
 
   module _ (n i q : ℕ) (s : IsTail n i q) where
     rest_ask : (m r : ℕ) (shape : Shape) → slice_get nodes n ≡ Some shape → TailAsks shape i q m r → V m r
-    rest_ask m r shape at by = asked s.visited (s.asks shape at m r by)
+    rest_ask m r shape at by = on n s.place m r s.visited (s.asks shape at m r by)
 
     further_visited : (r : ℕ) (shape : Shape) → slice_get nodes n ≡ Some shape
         → ((m z : ℕ) → TailAsks shape (suc i) r m z → TailAsks shape i q m z) → IsTail n (suc i) r
@@ -142,19 +137,19 @@ module _ (rules : List Rule) (start : ℕ) (nodes : List Shape) (bodies x : List
         let front = front_drop ms i l.0 l.1 in
         elim l.2 [
           | inl e ↦ seen_as b (Pair l.0 q) e
-              (rest_ask l.0 q (node.Seq ms) at (subst (λ w. AM w q l.0 q) (sym front) member_here))
+              (rest_ask l.0 q (node.Seq ms) at (subst (λ w. AM' w q l.0 q) (sym front) member_here))
           | inr e ↦ seen_as b (Tail n (suc i) e.1) e.4
               (further_visited e.1 (node.Seq ms) at
-              (λ m z h. subst (λ w. AM w q m z) (sym front) (member_later e.3 h)))
+              (λ m z h. subst (λ w. AM' w q m z) (sym front) (member_later e.3 h)))
         ]
     rest_seen_by b (node.Choice ms) at l =
         let front = front_drop ms i l.0 l.1 in
         elim l.2 [
           | inl e ↦ seen_as b (Pair l.0 q) e
-              (rest_ask l.0 q (node.Choice ms) at (subst (λ w. AA q w l.0) (sym front) alternative_here, refl))
+              (rest_ask l.0 q (node.Choice ms) at (subst (λ w. AA' q w l.0) (sym front) alternative_here, refl))
           | inr e ↦ seen_as b (Tail n (suc i) q) e.3
               (further_visited q (node.Choice ms) at
-              (λ m z h. (subst (λ w. AA q w m) (sym front) (alternative_later e.2 h.0), h.1)))
+              (λ m z h. (subst (λ w. AA' q w m) (sym front) (alternative_later e.2 h.0), h.1)))
         ]
     rest_seen_by b (node.Star k) at l = absurd l
     rest_seen_by b (node.Plus k j) at l = absurd l
@@ -165,21 +160,42 @@ module _ (rules : List Rule) (start : ℕ) (nodes : List Shape) (bodies x : List
     rest_seen_by b node.Open at l = absurd l
     rest_seen_by b node.Close at l = absurd l
 
-  seen_next : (a b : Spot) → Seen a → Leads rules nodes bodies x a b → Seen b
+  pub seen_next : (a b : Spot) → Seen a → Leads rules nodes bodies x a b → Seen b
   seen_next (Pair n p) b s l = seen_by n p s b l.0 l.1 l.2
   seen_next (Tail n i p) b s l = rest_seen_by n i p s b l.0 l.1 l.2
 
-  reach_seen : {a : Spot} → R a → Seen a
+module _ (rules : List Rule) (start : ℕ) (nodes : List Shape) (bodies x : List ℕ)
+    (root : ℕ) (is_root : slice_get bodies start ≡ Some root) where
+  abbrev W : ℕ → ℕ → Type 0
+  W n p = Visits rules nodes bodies x start n p
+
+  abbrev AM : List ℕ → ℕ → ℕ → ℕ → Type 0
+  AM ms p m q = AsksMember rules nodes bodies x ms p m q
+
+  abbrev AA : ℕ → List ℕ → ℕ → Type 0
+  AA p ms m = AsksAlternative rules nodes bodies x p ms m
+
+  abbrev R : Spot → Type 0
+  R a = Reach Spot (Leads rules nodes bodies x) (Pair root 0) a
+
+  goes_on : (n p m q : ℕ) → W n p → Asks rules nodes bodies x n p m q → W m q
+  goes_on n p m q v a = asked v a
+
+  abbrev S : Spot → Type 0
+  S a = Seen rules nodes bodies x W goes_on a
+
+  reach_seen : {a : Spot} → R a → S a
   reach_seen reach_root = first is_root
-  reach_seen (reach_edge {a = a} {b = b} r l) = seen_next a b (reach_seen r) l
+  reach_seen (reach_edge {a = a} {b = b} r l) =
+      seen_next rules nodes bodies x W goes_on a b (reach_seen r) l
 
   -- what is reached is visited
-  pub reached_is_visited : (n p : ℕ) → R (Pair n p) → V n p
+  pub reached_is_visited : (n p : ℕ) → R (Pair n p) → W n p
   reached_is_visited n p r = reach_seen r
 
   -- and a rest is of a node that is visited somewhere
-  pub rest_is_of : (n i q : ℕ) → R (Tail n i q) → (p : ℕ) × V n p
-  rest_is_of n i q r = let s : IsTail n i q = reach_seen r in (s.place, s.visited)
+  pub rest_is_of : (n i q : ℕ) → R (Tail n i q) → (p : ℕ) × W n p
+  rest_is_of n i q r = let s : IsTail rules nodes bodies x W goes_on n i q = reach_seen r in (s.place, s.visited)
 
   member_front : {ms : List ℕ} {p m q : ℕ} → AM ms p m q → (k : ℕ) × (l : List ℕ) × (ms ≡ k ∷ l)
   member_front (member_here {m = m} {ms = ms}) = (m, ms, refl)
@@ -254,7 +270,7 @@ module _ (rules : List Rule) (start : ℕ) (nodes : List Shape) (bodies x : List
     reach_by node.Close at a = absurd a
 
   -- what is visited is reached
-  pub visited_is_reached : {n p : ℕ} → V n p → R (Pair n p)
+  pub visited_is_reached : {n p : ℕ} → W n p → R (Pair n p)
   visited_is_reached (first {n = n} h) =
       let same : root ≡ n = cc (h, is_root) in
       subst (λ v. R (Pair v 0)) same reach_root

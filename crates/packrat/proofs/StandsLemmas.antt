@@ -1,7 +1,7 @@
 -- The loop's turns are steps of the machine.
 -- Serves: Packrat::match_unit
 use Rattle.std.proofs.Common.{◌≡◌, ◌⊎◌, inl, inr, ℕ, ◌+◌, Bool, true, false, List, [], ◌∷◌, ◌++◌, length, Some}
-use Rattle.std.proofs.Common.{refl, sym, subst, ◌∙◌, arith, ◌*◌, ◌-◌, ◌≤◌}
+use Rattle.std.proofs.Common.{refl, sym, subst, ap, ◌∙◌, arith, ◌*◌, ◌-◌, ◌≤◌}
 use Rattle.std.proofs.lemmas.List.{length-map}
 use Rattle.std.specs.Prelude.{slice_get}
 use Rattle.pegread.specs.PegViews.{rules_of}
@@ -19,7 +19,7 @@ use Rattle.pegnodes.specs.KeyLists.{Marks}
 use Rattle.memo.specs.declared.key_log.Given.{Given}
 use Rattle.memo.specs.declared.key_log.Stored.{Stored}
 use Rattle.memo.specs.declared.spot.Spot.{Spot}
-use Rattle.memo.specs.declared.spot.Spot.TheVariants.{Pair}
+use Rattle.memo.specs.declared.spot.Spot.TheVariants.{Pair, Tail}
 use Rattle.packrat.specs.ByteGives.{turns_on}
 use Rattle.packrat.specs.Turned.{AreTurned}
 use Rattle.packrat.specs.TurnsLeft.{most_begun}
@@ -43,8 +43,11 @@ use Rattle.packrat.specs.declared.machine.Turn.TheVariants.{Ask, Answer}
 use Rattle.packrat.specs.MachineSteps.{Level, State, Asks, Works, held, start_at, store, step_stored, step_begin}
 use Rattle.packrat.specs.MachineSteps.{step_next, step_last}
 use Rattle.packrat.specs.MachineSteps.{steps_none, steps_more}
-use Rattle.packrat.specs.Onward.{IsWell, ReachesEnd, AfterNone, AfterOne, PassesOn, IsLed, tail_of, member_of}
-use Rattle.packrat.specs.SpotSteps.{IsFirst, NextOf, next_first, next_second, SpotSteps}
+use Rattle.packrat.specs.Onward.{IsWell, IsNear, IsHere, ReachesEnd, AfterNone, AfterOne, PassesOn, IsLed, tail_of}
+use Rattle.packrat.specs.Onward.{member_of}
+use Rattle.pegnodes.specs.NodeWays.{Way, Leaf, Body, Members, Alternatives, Turns, Operand, way_of}
+use Rattle.packrat.proofs.GoodLemmas.{in_front}
+use Rattle.packrat.specs.SpotSteps.{FirstBy, TailFirstBy, IsFirst, NextOf, next_first, next_second, SpotSteps}
 use Rattle.packrat.specs.Stands.{AreLevels, levels_none, levels_frame, levels_passed, levels_turned}
 use Rattle.packrat.specs.Stands.{Waiting, state_of, key_of}
 use Rattle.packrat.specs.Stands.{Stands, IsClosed, NeedsMore, HeadStands, kept_joined, IsJoined, IsWaitHead}
@@ -216,10 +219,10 @@ module _ (g : Grammar) (x : List ℕ) (more : Bool) (marks : Marks) where
   -- the levels of the frames, of which the last one waits so for spot b
   abbrev TopBy : List Link → Spot → Wait → Frame → List Frame → List (Level Spot) → Spot → Type 0
   TopBy links root First l ls fs b = (asked : List Spot) × (rest : List (Level Spot))
-      × (fs ≡ record { at = l.spot; asked = asked } ∷ rest) × IsWell g x l.spot × (l.key ≡ Key l.spot)
+      × (fs ≡ record { at = l.spot; asked = asked } ∷ rest) × IsHere g x more l.spot × (l.key ≡ Key l.spot)
       × Waiting g x more links First l.spot asked b × L links root ls rest l.spot
   TopBy links root (Last head) l ls fs b = (asked : List Spot) × (rest : List (Level Spot))
-      × (fs ≡ record { at = l.spot; asked = asked } ∷ rest) × IsWell g x l.spot × (l.key ≡ Key l.spot)
+      × (fs ≡ record { at = l.spot; asked = asked } ∷ rest) × IsHere g x more l.spot × (l.key ≡ Key l.spot)
       × Waiting g x more links (Last head) l.spot asked b × L links root ls rest l.spot
   TopBy links root (Turned last) l ls fs b = IsTurnedTop links root l.spot last ls fs b
 
@@ -228,7 +231,7 @@ module _ (g : Grammar) (x : List ℕ) (more : Bool) (marks : Marks) where
   AreTop links root (l ∷ ls) fs b = TopBy links root l.wait l ls fs b
 
   top_of_frame : (links : List Link) (root : Spot) (w : Wait) (l : Frame) (ls : List Frame) (asked : List Spot)
-      (fs : List (Level Spot)) (b : Spot) → IsWell g x l.spot → l.key ≡ Key l.spot
+      (fs : List (Level Spot)) (b : Spot) → IsHere g x more l.spot → l.key ≡ Key l.spot
       → Waiting g x more links w l.spot asked b → L links root ls fs l.spot
       → TopBy links root w l ls (record { at = l.spot; asked = asked } ∷ fs) b
   top_of_frame links root First l ls asked fs b w t h r = (asked, fs, refl, w, t, h, r)
@@ -237,8 +240,8 @@ module _ (g : Grammar) (x : List ℕ) (more : Bool) (marks : Marks) where
 
   top_well : (links : List Link) (root : Spot) (w : Wait) (l : Frame) (ls : List Frame) (fs : List (Level Spot))
       (b : Spot) → TopBy links root w l ls fs b → IsWell g x l.spot
-  top_well links root First l ls fs b h = h.3
-  top_well links root (Last head) l ls fs b h = h.3
+  top_well links root First l ls fs b h = h.3.0
+  top_well links root (Last head) l ls fs b h = h.3.0
   top_well links root (Turned last) l ls fs b h = subst (IsWell g x) (sym h.is) h.well
 
   top_head : (links : List Link) (root : Spot) (w : Wait) (l : Frame) (ls : List Frame) (fs : List (Level Spot))
@@ -306,7 +309,7 @@ module _ (g : Grammar) (x : List ℕ) (more : Bool) (marks : Marks) where
 
   -- the levels of a spot that waits for its last one
   waiting_levels : (links : List Link) (root a b : Spot) (key : Bool) (head : ℕ) (es : List Event)
-      (asked : List Spot) (ls new : List Frame) (fs : List (Level Spot)) → key ≡ Key a → IsWell g x a
+      (asked : List Spot) (ls new : List Frame) (fs : List (Level Spot)) → key ≡ Key a → IsHere g x more a
       → HeadStands (shapes_of g.nodes) links head es → PassesOn g x more a asked b es → AreWaiting key head a ls new
       → L links root ls fs a → L links root new (record { at = a; asked = asked } ∷ fs) b
   waiting_levels links root a b key head es asked ls new fs t w hs p (inl is) r =
@@ -316,21 +319,57 @@ module _ (g : Grammar) (x : List ℕ) (more : Bool) (marks : Marks) where
       subst (λ v. L links root v (record { at = a; asked = asked } ∷ fs) b) (sym h.2)
       (levels_passed (sym t ∙ h.0) (subst (PassesOn g x more a asked b) (none_at h.1 hs) p) r)
 
-  pub stands_first : (root : Spot) (st : List Stored) (links : List Link) → IsWell g x root → st ≡ []
+  pub stands_first : (root : Spot) (st : List Stored) (links : List Link) → IsHere g x more root → st ≡ []
       → S root (Ask root) [] st links 0
-  stands_first root st links well none = subst (λ v. S root (Ask root) [] v links 0) (sym none) (record {
+  stands_first root st links here none = subst (λ v. S root (Ask root) [] v links 0) (sym none) (record {
     levels = [];
     begun = [];
     spot = root;
     are = levels_none;
-    turns = (refl, well);
+    turns = (refl, here.0, here.1);
     given = record { given = λ s i. elim i [ ] };
     is = refl;
     steps = steps_none;
+    near = λ m q i. elim i [ ];
   })
+
+  -- a spot leads first to one at its own place
+  place_by : (w : Way) (n p : ℕ) (b : Spot) → FirstBy (rules_of g.rules) (shapes_of g.nodes) g.bodies x w n p b
+      → place_of b ≡ p
+  place_by Leaf n p b h = absurd h
+  place_by (Body id) n p b h = ap place_of h.2
+  place_by (Members ms) n p b h = ap place_of h.2
+  place_by (Alternatives ms) n p b h = ap place_of h.2
+  place_by (Turns k s) n p b h = ap place_of h
+  place_by (Operand k) n p b h = ap place_of h
+
+  tail_place_by : (w : Way) (n i p : ℕ) (b : Spot)
+      → TailFirstBy (rules_of g.rules) (shapes_of g.nodes) g.bodies x w n i p b → place_of b ≡ p
+  tail_place_by Leaf n i p b h = absurd h
+  tail_place_by (Body id) n i p b h = absurd h
+  tail_place_by (Members ms) n i p b h = ap place_of h.2
+  tail_place_by (Alternatives ms) n i p b h = ap place_of h.2
+  tail_place_by (Turns k s) n i p b h = absurd h
+  tail_place_by (Operand k) n i p b h = absurd h
+
+  first_place : (a k : Spot) → F a k → place_of k ≡ place_of a
+  first_place (Pair n p) k h = place_by (way_of n h.0) n p k h.2
+  first_place (Tail n i p) k h = tail_place_by (way_of n h.0) n i p k h.2
+
+  first_near : (a k : Spot) → F a k → IsNear x more a → IsNear x more k
+  first_near a k h near is = let same = first_place a k h in let lt = near is in omega (arith, same, lt)
 
   module _ (root a : Spot) (ls : List Frame) (st : List Stored) (links : List Link) (n : ℕ)
       (s : S root (Ask a) ls st links n) where
+    asked_near : IsNear x more a
+    asked_near = subst (IsNear x more) (sym s.turns.0) s.turns.2
+
+    begun_near : (m q : ℕ) → IsIn (Pair m q) (a ∷ s.begun) → IsNear x more (Pair m q)
+    begun_near m q i = elim (in_front i) [
+      | inl is ↦ subst (IsNear x more) (sym is) asked_near
+      | inr j ↦ s.near m q j
+    ]
+
     pub asked_well : IsWell g x a
     asked_well = subst (IsWell g x) (sym s.turns.0) s.turns.1
 
@@ -352,6 +391,7 @@ module _ (g : Grammar) (x : List ℕ) (more : Bool) (marks : Marks) where
       is = s.is;
       steps = steps_more s.steps (step_stored (subst (λ v. Key v ≡ true) spot_here t)
           (subst (λ v. IsIn v (spots_of st)) spot_here (spot_of_stored i)));
+      near = s.near;
     }
 
     module _ (fresh : Key a ≡ true → IsIn a (spots_of st) → ⊥) where
@@ -378,6 +418,8 @@ module _ (g : Grammar) (x : List ℕ) (more : Bool) (marks : Marks) where
         is = begin_counts;
         steps = steps_begin;
         reaches = h;
+        near = begun_near;
+        right = record { right = λ e i. let y = s.given.given e i in (y.events, y.yields) };
       }
 
       pub stands_leaf : (more_links : List Link) (given : Given) (new : List Stored) → AreGrown links more_links
@@ -393,6 +435,7 @@ module _ (g : Grammar) (x : List ℕ) (more : Bool) (marks : Marks) where
         is = begin_counts;
         steps = subst (λ v. SS root (Works (record { levels = s.levels; stored = v; begun = a ∷ s.begun })))
             (sym c.spots) (steps_more steps_begin (step_last none));
+        near = begun_near;
       }
 
       pub stands_down : (k : Spot) (key : Bool) → key ≡ Key a → AfterNone g x more a (start.Leads k)
@@ -401,8 +444,10 @@ module _ (g : Grammar) (x : List ℕ) (more : Bool) (marks : Marks) where
         levels = record { at = a; asked = k ∷ [] } ∷ s.levels;
         begun = a ∷ s.begun;
         spot = k;
-        are = levels_frame {l = record { spot = a; key = key; wait = First }} asked_well t (h.0, refl) levels_above;
-        turns = (refl, h.1);
+        are = levels_frame {l = record { spot = a; key = key; wait = First }} (asked_well, asked_near) t (h.0, refl)
+            levels_above;
+        turns = (refl, h.1, first_near a k h.0 asked_near);
+        near = begun_near;
         given = s.given;
         is = begin_counts;
         steps = steps_more steps_begin (step_next (next_first h.0));
@@ -416,9 +461,10 @@ module _ (g : Grammar) (x : List ℕ) (more : Bool) (marks : Marks) where
         levels = record { at = a; asked = k ∷ [] } ∷ s.levels;
         begun = a ∷ s.begun;
         spot = k;
-        are = waiting_levels links root a k key 0 [] (k ∷ []) ls new s.levels t asked_well
+        are = waiting_levels links root a k key 0 [] (k ∷ []) ls new s.levels t (asked_well, asked_near)
             (head_none (shapes_of g.nodes) links) h.2 w levels_above;
-        turns = (refl, h.1);
+        turns = (refl, h.1, first_near a k h.0 asked_near);
+        near = begun_near;
         given = s.given;
         is = begin_counts;
         steps = steps_more steps_begin (step_next (next_first h.0));
@@ -499,7 +545,8 @@ module _ (g : Grammar) (x : List ℕ) (more : Bool) (marks : Marks) where
             are = waiting_levels links root a k key given.events is_ready.gives.events
                 (is_ready.spot ∷ (k ∷ [])) ls new is_ready.are.1
                 is_ready.are.4 is_ready.are.3 is_ready.gives.head h.0 w is_ready.are.6;
-            turns = (refl, h.1);
+            turns = (refl, h.1, h.2 is_ready.are.3.1);
+            near = s.near;
             given = s.given;
             is = s.is;
             steps = steps_more as_first (step_next (next_second h.0.0));
@@ -527,6 +574,7 @@ module _ (g : Grammar) (x : List ℕ) (more : Bool) (marks : Marks) where
         steps = subst (λ v. SS root (Works (record { levels = is_ready.are.1; stored = v; begun = s.begun })))
             (sym c.spots)
             (steps_more as_first (step_last kids));
+        near = s.near;
       }
 
       pub stands_up : (f : Found) (new : List Stored) → After (way.Gives f)
@@ -569,6 +617,7 @@ module _ (g : Grammar) (x : List ℕ) (more : Bool) (marks : Marks) where
           steps = subst (λ v. SS root (Works (record { levels = r.are.1; stored = v; begun = s.begun }))) (sym c.spots)
               (steps_more (at_levels s.begun r.levels (record { at = a; asked = r.are.0 } ∷ r.are.1) r.are.2 r.steps)
               (step_last w.2.0));
+          near = s.near;
         }
 
   module _ (root : Spot) (l : Frame) (given : Given) (ls : List Frame) (st : List Stored) (links : List Link) (n : ℕ)

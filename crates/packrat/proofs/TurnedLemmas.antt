@@ -361,8 +361,13 @@ module _ (g : Grammar) (x : List ℕ) (more : Bool) (marks : Marks) (sound : IsS
             spot = Pair t.star t.end;
             are = goes_along (node_marks marks t.star) refl links root ls new h.levels frames lt
                 (levels_above g x more marks root (Pair t.star t.from) ls st links n h);
-            turns = (refl, (d.spelled, d.within));
+            turns = (refl, (d.spelled, d.within), d.last);
             given = keeps h.given;
+            near = λ m z i. elim (in_either come.front h.begun i) [
+              | inl j ↦ λ t. let le = come.near m z j in let lt = d.last t in let low = d.low in
+                  omega (arith, le, lt, low)
+              | inr j ↦ h.near m z j
+            ];
             is = omega (arith, one, two, sum);
             steps = subst (λ v. SS root (Asks (Pair t.star v) (record {
               levels = turns_on t.star t.operand t.from (t.end - t.from) h.levels;
@@ -409,6 +414,10 @@ module _ (g : Grammar) (x : List ℕ) (more : Bool) (marks : Marks) (sound : IsS
             turns = ended_given g x more marks sound t.star t.operand t.from t.end count d links c e t.from
                 (omega arith) d.low;
             given = keeps h.given;
+            near = λ m z i. elim (in_either come.front h.begun i) [
+              | inl j ↦ λ t. let le = come.near m z j in let lt = e.last t in omega (arith, le, lt, low)
+              | inr j ↦ h.near m z j
+            ];
             is = omega (arith, one, two, sum, more_pairs);
             steps = subst (λ v. SS root (Works (record {
               levels = h.levels;
@@ -451,6 +460,7 @@ module _ (g : Grammar) (x : List ℕ) (more : Bool) (marks : Marks) (sound : IsS
             (λ q low high. given_before g x more marks sound top.star top.operand top.from (last + 1) top.count d links
             given give q low (omega (arith, some, high))) s.given);
         is = s.is;
+        near = s.near;
         steps = subst (λ v. SS root (Works (record { levels = top.rest; stored = v; begun = s.begun }))) (sym now)
             (then_steps top.star top.operand top.from (last + 1) top.count d at end);
       }

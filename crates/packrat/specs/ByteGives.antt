@@ -48,11 +48,13 @@ module _ (rules : List Rule) (nodes : List Shape) (bodies x : List ℕ) where
           → RunAll Spot (Kids rules nodes bodies x) (is_key marks tails) weight old kids old below
       pub whole : weight a + below ≡ count
 
-    -- The machine comes from one state to the other. Between them it begins those in front, which are so many pairs.
-    pub record ComesWith (s : State Spot) (to : List Spot → State Spot) (count : ℕ) : Type 0 where
+    -- The machine comes from one state to the other. Between them it begins those in front, which are so many pairs at
+    -- places up to `most`.
+    pub record ComesWith (s : State Spot) (to : List Spot → State Spot) (most count : ℕ) : Type 0 where
       pub front : List Spot
       pub is : total Spot (Kids rules nodes bodies x) (is_key marks tails) weight front ≡ count
       pub steps : SpotSteps rules nodes bodies x marks tails s (to front)
+      pub near : (n p : ℕ) → IsIn (Pair n p) front → p ≤ most
 
 -- A turn of repetition s of node k at place p, which waits for the rest.
 abbrev pub turn_at : ℕ → ℕ → ℕ → Level Spot

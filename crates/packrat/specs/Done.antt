@@ -1,5 +1,5 @@
 -- What a match leaves behind.
-use Rattle.std.specs.Prelude.{◌≡◌, ℕ, Bool, true, List, [], length, slice_get, Option, Some, None}
+use Rattle.std.specs.Prelude.{◌≡◌, ℕ, ◌<◌, ◌≤◌, Bool, true, List, [], length, slice_get, Option, Some, None}
 use Rattle.pegread.specs.PegViews.{rules_of}
 use Rattle.gramcheck.specs.Grammar.{Grammar}
 use Rattle.pegnodes.specs.Nodes.{shapes_of}
@@ -16,14 +16,12 @@ use Rattle.memo.specs.KeyLog.{spots_of}
 use Rattle.memo.specs.declared.key_log.Given.{Given}
 use Rattle.memo.specs.declared.key_log.Stored.{Stored}
 use Rattle.pegnodes.specs.KeyLists.{node_marks, tail_marks}
-use Rattle.memo.specs.Run.{total}
+use Rattle.memo.specs.Parts.{IsIn}
 use Rattle.memo.specs.declared.spot.Spot.{Spot}
 use Rattle.memo.specs.declared.spot.Spot.TheVariants.{Pair}
-use Rattle.packrat.specs.MachineSteps.{Level, Works, start_at}
 use Rattle.packrat.specs.SpotGives.{AreRight}
-use Rattle.packrat.specs.SpotSteps.{SpotSteps}
-use Rattle.packrat.specs.Spots.{Kids, is_key}
-use Rattle.packrat.specs.View.{AreStored, AreImplied, AreAll, weight}
+use Rattle.packrat.specs.View.{AreStored, AreReachedKeys, AreVisitedPairs}
+use Rattle.pegmatch.specs.VisitedCells.{AreVisitedCells}
 use Rattle.packrat.specs.declared.frames.Frame.{Frame}
 use Rattle.pegnodes.specs.KeyLists.{Marks}
 
@@ -58,7 +56,7 @@ unit_of_match None begun = Need
 unit_of_match (Some given) begun = unit_of given.found begun
 
 module _ (g : Grammar) (x : List ℕ) (more : Bool) where
-  -- Stored are exactly the keys that are reached, each once and with what it gives. The cells that they imply are
+  -- No frame is left. Stored are exactly the keys that are reached, each once and with what it gives. The cells are
   -- exactly the pairs that are visited, each with its outcome and once, and as many as were begun.
   pub record IsDone (marks : Marks) (c : Contents) : Type 0 where
     pub frames : c.frames ≡ []
@@ -67,9 +65,7 @@ module _ (g : Grammar) (x : List ℕ) (more : Bool) where
         root (spots_of c.stored)
     pub right : AreRight g x more c.stored
     pub cells : List Entry
-    pub seen : AreImplied (rules_of g.rules) g.start (shapes_of g.nodes) g.bodies x more (node_marks marks)
-        (tail_marks marks) (spots_of c.stored) cells
-    pub every : AreAll (rules_of g.rules) g.start (shapes_of g.nodes) g.bodies x more cells
+    pub every : AreVisitedCells (rules_of g.rules) g.start (shapes_of g.nodes) g.bodies x more cells
     pub count : c.begun ≡ length cells
 
   -- the start rule's outcome, which did not look at the last byte of a window behind which there is more
@@ -79,21 +75,27 @@ module _ (g : Grammar) (x : List ℕ) (more : Bool) where
     pub gives : StartGives g x (outcome_of f events) looked
     pub enough : WasEnough x more looked
 
-  -- Where a match stops for want of bytes: the machine comes from nothing to what is stored and to these begun pairs.
+  -- What a match holds where it stops for want of bytes: no frame and no event. Stored are keys that are reached, each
+  -- once and with what it gives. The pairs are those that were begun. They stand before the window's end, and those of
+  -- the stored keys are among them.
   pub record IsOnTheWay (marks : Marks) (c : Contents) : Type 0 where
-    pub root : ℕ
-    pub at : slice_get g.bodies g.start ≡ Some root
-    pub levels : List (Level Spot)
-    pub begun : List Spot
-    pub steps : SpotSteps (rules_of g.rules) (shapes_of g.nodes) g.bodies x (node_marks marks) (tail_marks marks)
-        (start_at Spot (Pair root 0))
-        (Works (record { levels = levels; stored = spots_of c.stored; begun = begun }))
-    pub count : total Spot (Kids (rules_of g.rules) (shapes_of g.nodes) g.bodies x)
-        (is_key (node_marks marks) (tail_marks marks)) weight begun ≡ c.begun
+    pub frames : c.frames ≡ []
+    pub kept : c.kept ≡ []
+    pub keys : (root : ℕ) → slice_get g.bodies g.start ≡ Some root →
+        AreReachedKeys (rules_of g.rules) g.start (shapes_of g.nodes) g.bodies x more (node_marks marks)
+        (tail_marks marks) root (spots_of c.stored)
+    pub right : AreRight g x more c.stored
+    pub pairs : List Spot
+    pub visited : AreVisitedPairs (rules_of g.rules) g.start (shapes_of g.nodes) g.bodies x more pairs
+    pub near : (n p : ℕ) → IsIn (Pair n p) pairs → p < length x
+    pub among : (n p : ℕ) → IsIn (Pair n p) (spots_of c.stored) → IsIn (Pair n p) pairs
+    pub some : 1 ≤ c.begun
+    pub count : c.begun ≡ length pairs
 
-  -- what a match ends with: all is evaluated; or the start rule looks at the last byte of a window behind which there
-  -- is more, and the match stops on its way
+  -- What a match ends with. All is evaluated, and a failure has no events; or the start rule looks at the last byte of
+  -- a window that more bytes follow, and the match stops on its way.
   abbrev pub IsOutcome : Marks → Contents → UnitAnswer → Type 0
   IsOutcome marks c (Took end begun) = IsDone marks c × Answers (found.Took end) × (begun ≡ c.begun)
-  IsOutcome marks c (Failed begun) = IsDone marks c × Answers found.Failed × (begun ≡ c.begun)
+  IsOutcome marks c (Failed begun) =
+      IsDone marks c × Answers found.Failed × (begun ≡ c.begun) × (c.kept ≡ [])
   IsOutcome marks c Need = IsOnTheWay marks c × (more ≡ true) × ((o : Outcome) × StartGives g x o (length x))

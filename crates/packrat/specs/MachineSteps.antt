@@ -64,11 +64,12 @@ pub record IsNext (V : Type 0) (Edge : V → V → Type 0) (root : V) (Kids : V 
   pub all : (a k : V) (asked more : List V) → Kids a (asked ++ k ∷ more) → Next a asked k
 
 -- On the way: what was begun are reached vertices, each once; those of the stack are among them, each once, and none of
--- them is stored; what is stored was begun, and is no longer on the stack.
+-- them is stored; what is stored are begun keys, each once, and is no longer on the stack.
 pub record IsGood (V : Type 0) (Edge : V → V → Type 0) (root : V) (key : V → Bool) (h : Held V) : Type 0 where
   pub reached : (a : V) → IsIn a h.begun → Reach V Edge root a
   pub once : Distinct h.begun
   pub stack : (a : V) → IsIn a (stack_of V h.levels) → IsIn a h.begun
   pub stack_once : Distinct (stack_of V h.levels)
   pub stored : (a : V) → IsIn a h.stored → IsIn a h.begun × (key a ≡ true)
+  pub stored_once : Distinct h.stored
   pub apart : (a : V) → IsIn a (stack_of V h.levels) → IsIn a h.stored → ⊥

@@ -51,12 +51,20 @@ abbrev pub entering_of : ℕ → List ℕ → ℕ → ℕ → Entering
 entering_of n ms i p =
     record { node = n; index = i; place = p; member = get_or ms i 0; only = i + 1 == length ms }
 
+-- if more bytes follow the window, the spot stands before the window's end
+abbrev pub IsNear : List ℕ → Bool → Spot → Type 0
+IsNear x more a = more ≡ true → place_of a < length x
+
 module _ (g : Grammar) (x : List ℕ) where
   -- a spot of the grammar and the window
   abbrev pub IsWell : Spot → Type 0
   IsWell (Pair n p) = SpellsSome (rules_of g.rules) (shapes_of g.nodes) n × (p ≤ length x)
   IsWell (Tail n i p) = SpellsSome (rules_of g.rules) (shapes_of g.nodes) n × (p ≤ length x)
       × ((shape : Shape) × (slice_get (shapes_of g.nodes) n ≡ Some shape) × HasMember shape i)
+
+  -- and such that if more bytes follow the window, it stands before the window's end
+  abbrev pub IsHere : Bool → Spot → Type 0
+  IsHere more a = IsWell a × IsNear x more a
 
   -- the node's own comparison reaches the last byte of a window behind which there is more
   abbrev pub ReachesEnd : Bool → Spot → Type 0
@@ -93,8 +101,11 @@ module _ (g : Grammar) (x : List ℕ) where
         Kids (rules_of g.rules) (shapes_of g.nodes) g.bodies x a (j ∷ []) × SpotYields g x more a f []
     AfterOne a j found events Same =
         Kids (rules_of g.rules) (shapes_of g.nodes) g.bodies x a (j ∷ []) × SpotYields g x more a found events
-    AfterOne a j found events (Passes k) = PassesOn a (j ∷ (k ∷ [])) k events × IsWell k
-    AfterOne a j found events (Enters e) = (PassesOn a (j ∷ (tail_of e ∷ [])) (tail_of e) events × IsWell (tail_of e))
+    AfterOne a j found events (Passes k) =
+        PassesOn a (j ∷ (k ∷ [])) k events × IsWell k × (IsNear x more a → IsNear x more k)
+    AfterOne a j found events (Enters e) =
+        (PassesOn a (j ∷ (tail_of e ∷ [])) (tail_of e) events × IsWell (tail_of e)
+        × (IsNear x more a → IsNear x more (tail_of e)))
         × IsLed e.only (tail_of e) (member_of e)
 
 -- what a comparison tells: what was found, unless it reached the last byte of a window behind which there is more

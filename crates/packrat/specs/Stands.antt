@@ -16,7 +16,7 @@ use Rattle.pegnodes.specs.KeyLists.{Marks}
 use Rattle.memo.specs.declared.key_log.Stored.{Stored}
 use Rattle.memo.specs.declared.spot.Spot.{Spot}
 use Rattle.memo.specs.declared.spot.Spot.TheVariants.{Pair}
-use Rattle.packrat.specs.SpotGives.{SpotYields, IsQuiet}
+use Rattle.packrat.specs.SpotGives.{SpotYields, IsQuiet, AreRight}
 use Rattle.pegnodes.specs.KeyLists.{node_marks, tail_marks}
 use Rattle.memo.specs.KeyLog.{spots_of}
 use Rattle.memo.specs.Run.{Run, total}
@@ -28,7 +28,7 @@ use Rattle.packrat.specs.declared.frames.Wait.TheVariants.{First, Last, Turned}
 use Rattle.packrat.specs.declared.machine.Turn.{Turn}
 use Rattle.packrat.specs.declared.machine.Turn.TheVariants.{Ask, Answer}
 use Rattle.packrat.specs.MachineSteps.{Level, State, Asks, Works, start_at, store}
-use Rattle.packrat.specs.Onward.{IsWell, ReachesEnd, PassesOn, tail_of, member_of}
+use Rattle.packrat.specs.Onward.{IsWell, IsNear, IsHere, ReachesEnd, PassesOn, tail_of, member_of}
 use Rattle.packrat.specs.declared.onward.Entering.{Entering}
 use Rattle.packrat.specs.ByteGives.{turns_on}
 use Rattle.packrat.specs.Turned.{AreTurned}
@@ -102,7 +102,7 @@ module _ (g : Grammar) (x : List ℕ) (more : Bool) where
   Waiting links (Turned last) a asked b = ⊥
 
   abbrev pub IsTurn : List Link → Turn → Spot → Type 0
-  IsTurn links (Ask a) b = (a ≡ b) × IsWell g x b
+  IsTurn links (Ask a) b = (a ≡ b) × IsWell g x b × IsNear x more b
   IsTurn links (Answer given) b = GivenBy links b given
 
   module _ (marks : Marks) where
@@ -112,7 +112,7 @@ module _ (g : Grammar) (x : List ℕ) (more : Bool) where
     pub data AreLevels (links : List Link) (root : Spot) : List Frame → List (Level Spot) → Spot → Type 0 where
       levels_none : AreLevels links root [] [] root
       levels_frame : {l : Frame} {b : Spot} {asked : List Spot} {ls : List Frame} {fs : List (Level Spot)}
-          → IsWell g x l.spot → l.key ≡ key_of marks l.spot → Waiting links l.wait l.spot asked b
+          → IsHere g x more l.spot → l.key ≡ key_of marks l.spot → Waiting links l.wait l.spot asked b
           → AreLevels links root ls fs l.spot
           → AreLevels links root (l ∷ ls) (record { at = l.spot; asked = asked } ∷ fs) b
       levels_passed : {a b : Spot} {asked : List Spot} {ls : List Frame} {fs : List (Level Spot)}
@@ -139,6 +139,7 @@ module _ (g : Grammar) (x : List ℕ) (more : Bool) where
       pub given : AreGiven links stored
       pub is : total Spot (Kids (rules_of g.rules) (shapes_of g.nodes) g.bodies x) (key_of marks) weight begun ≡ count
       pub steps : Comes root (state_of turn spot levels (spots_of stored) begun)
+      pub near : (n p : ℕ) → IsIn (Pair n p) begun → IsNear x more (Pair n p)
 
     -- a spot that gives this is closed: a key is stored
     pub record IsClosed (links : List Link) (a : Spot) (given : Given) (old new : List Stored) : Type 0 where
@@ -154,6 +155,8 @@ module _ (g : Grammar) (x : List ℕ) (more : Bool) where
           ≡ count
       pub steps : Comes root (Works (record { levels = levels; stored = spots_of stored; begun = spot ∷ begun }))
       pub reaches : ReachesEnd g x more spot
+      pub near : (n p : ℕ) → IsIn (Pair n p) (spot ∷ begun) → IsNear x more (Pair n p)
+      pub right : AreRight g x more stored
 
     -- what a turn comes to; none where it needs more
     abbrev pub AreOn : Spot → Option Turn → List Frame → List Stored → List Link → ℕ → Type 0
@@ -169,10 +172,10 @@ module _ (g : Grammar) (x : List ℕ) (more : Bool) where
           (spots_of stored) count
       pub empty : frames ≡ []
 
-    -- what an evaluation ended with; none where it needs more
+    -- what an evaluation ended with; none, and no frames, where it needs more
     abbrev pub IsEvaluated : Spot → Option Given → List Frame → List Stored → List Link → ℕ → Type 0
     IsEvaluated root (Some given) frames stored links count = IsEnded root given frames stored links count
-    IsEvaluated root None frames stored links count = NeedsMore root stored count
+    IsEvaluated root None frames stored links count = NeedsMore root stored count × (frames ≡ [])
 
 -- a turn lowers what is left, unless it needs more
 abbrev pub LowersLeft : Grammar → List ℕ → Option Turn → List Frame → ℕ → ℕ → Type 0

@@ -3,8 +3,9 @@ use Rattle.std.specs.Prelude.{◌≡◌, ℕ, Bool, true, List, [], ◌∷◌, l
 use Rattle.pegread.specs.Pattern.{Rule}
 use Rattle.pegnodes.specs.Nodes.{Shape}
 use Rattle.memo.specs.declared.found.Found.{Found}
-use Rattle.memo.specs.Entries.{Entry, found_at, AreDifferent}
-use Rattle.pegmatch.specs.CellOutcomes.{IsFound, HasCell}
+use Rattle.memo.specs.Entries.{Entry}
+use Rattle.pegmatch.specs.CellOutcomes.{IsFound}
+use Rattle.pegmatch.specs.VisitedCells.{AreVisitedCells}
 use Rattle.pegmatch.specs.Visits.{Visits}
 use Rattle.memo.specs.Parts.{IsIn, Distinct, Reach, Whole}
 use Rattle.memo.specs.Run.{Run}
@@ -34,6 +35,12 @@ module _ (rules : List Rule) (start : ℕ) (nodes : List Shape) (bodies x : List
       pub whole : Whole Spot (Kids rules nodes bodies x) (is_key marks tails) stored spots
       pub cells_of : CellsOf spots cells
 
+  -- Stored are keys that are reached, each once.
+  pub record AreReachedKeys (marks : ℕ → Bool) (tails : ℕ → ℕ → Bool) (root : ℕ) (stored : List Spot) : Type 0 where
+    pub reached : (a : Spot) → IsIn a stored → Reach Spot (Leads rules nodes bodies x) (Pair root 0) a
+    pub keys : (a : Spot) → IsIn a stored → is_key marks tails a ≡ true
+    pub once : Distinct stored
+
   -- Stored are exactly the keys that are reached, each once.
   pub record AreStored (marks : ℕ → Bool) (tails : ℕ → ℕ → Bool) (root : ℕ) (stored : List Spot) : Type 0 where
     pub reached : (a : Spot) → IsIn a stored → Reach Spot (Leads rules nodes bodies x) (Pair root 0) a
@@ -42,12 +49,15 @@ module _ (rules : List Rule) (start : ℕ) (nodes : List Shape) (bodies x : List
         → IsIn a stored
     pub once : Distinct stored
 
-  -- The cells are exactly the pairs that are visited, each with its outcome and once.
-  pub record AreAll (cells : List Entry) : Type 0 where
-    pub visited : (n p : ℕ) (f : Found) → found_at cells n p ≡ Some f → Visits rules nodes bodies x start n p
-    pub whole : (n p : ℕ) → Visits rules nodes bodies x start n p → HasCell cells n p
-    pub found : (n p : ℕ) (f : Found) → found_at cells n p ≡ Some f → IsFound rules start nodes bodies x more n p f
-    pub different : AreDifferent cells
+  -- a pair that is visited
+  abbrev pub IsVisitedPair : Spot → Type 0
+  IsVisitedPair (Pair n p) = Visits rules nodes bodies x start n p
+  IsVisitedPair (Tail n i p) = ⊥
+
+  -- pairs that are visited, each once
+  pub record AreVisitedPairs (pairs : List Spot) : Type 0 where
+    pub visited : (a : Spot) → IsIn a pairs → IsVisitedPair a
+    pub once : Distinct pairs
 
   -- The start rule's body is evaluated at the front of the window, where nothing is stored; that begins so many pairs,
   -- and then these keys are stored.
@@ -60,4 +70,4 @@ module _ (rules : List Rule) (start : ℕ) (nodes : List Shape) (bodies x : List
     pub cells : List Entry
     pub implied : AreImplied marks tails stored cells
     pub count : length cells ≡ begun
-    pub every : AreAll cells
+    pub every : AreVisitedCells rules start nodes bodies x more cells

@@ -27,7 +27,7 @@ ghost use Rattle.packrat.specs.SpotGives.{SpotGives};
 ghost use Rattle.packrat.specs.SpotSteps.{SpotSteps};
 
 /// A pair that the byte at its place decides gives just that, without events. Its evaluation stores nothing but itself,
-/// and begins as many pairs as were counted.
+/// and begins as many pairs as were counted, at places up to the next one.
 pub fn one_byte_decides()
     ensures gives { (rules : List Rule) (start : ℕ) (nodes : List Shape) (bodies ranks x : List ℕ) →
         IsRanked rules start nodes bodies ranks → (marks : ℕ → Bool) (tails : ℕ → ℕ → Bool) (b n p c : ℕ)
@@ -53,12 +53,13 @@ pub fn one_byte_decides()
           levels = levels;
           stored = store Spot (marks n) (Pair n p) stored;
           begun = front ++ begun;
-        })) c }
+        })) (p + 1) c }
 {}
 
 /// Where bytes decide that the operand of a repetition takes each of them, the machine comes from the repetition's pair
 /// at the first of them to the one behind the last, with a level for each turn. What the turns evaluate stores the
-/// operand's pairs if the operand is a key, and nothing else; and as many pairs begin as were counted.
+/// operand's pairs if the operand is a key, and nothing else; and as many pairs begin as were counted, up to the last
+/// turn's end.
 pub fn turns_run()
     ensures { (rules : List Rule) (start : ℕ) (nodes : List Shape) (bodies ranks x : List ℕ) →
         IsRanked rules start nodes bodies ranks → (root : ℕ) → slice_get bodies start ≡ Some root →
@@ -73,7 +74,7 @@ pub fn turns_run()
           levels = turns_on s k a n levels;
           stored = operands_on (marks k) k a n stored;
           begun = front ++ begun;
-        })) c }
+        })) (a + n) c }
 {}
 
 /// The levels of such turns close one after the other; each stores its pair if the repetition is a key.
@@ -124,7 +125,7 @@ pub fn turns_whole()
           stored = turns_closed (marks s) s a (suc n)
               (operands_on (marks k) k a n stored);
           begun = front ++ begun;
-        })) (c + d) }
+        })) ((a + n) + 1) (c + d) }
     ensures gives { (rules : List Rule) (start : ℕ) (nodes : List Shape) (bodies ranks x : List ℕ) →
         IsRanked rules start nodes bodies ranks → (marks : ℕ → Bool) (tails : ℕ → ℕ → Bool) (s k a n c b d : ℕ) →
         slice_get nodes s ≡ Some (Star k) → SpellsSome rules nodes s →

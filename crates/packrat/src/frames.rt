@@ -10,7 +10,7 @@ use std::marker::Model;
 /// What a spot waits for: the first spot that it asked for; or the last one, to give what that one gives, with the
 /// events of this head before its events; or, if it is a repetition with turns at all places up to this one, its own
 /// node behind them, to give what that one gives.
-#[derive(Clone, Copy, PartialEq, Eq, Debug)]
+#[derive(Clone, Copy)]
 pub enum Wait {
     First,
     Last(usize),
@@ -18,7 +18,7 @@ pub enum Wait {
 }
 
 /// A spot that is begun and not ended, whether it is a key, and what it waits for.
-#[derive(Clone, Copy, PartialEq, Eq, Debug)]
+#[derive(Clone, Copy)]
 pub struct Frame {
     pub spot: Spot,
     pub key: bool,

@@ -16,7 +16,8 @@ ghost use Rattle.pegnodes.specs.KeyMarks.{AreMarks};
 ghost use Rattle.packrat.specs.Offset.{Offset, IsAskedBy};
 ghost use Rattle.packrat.specs.SpotSteps.{SpotSteps};
 ghost use Rattle.packrat.specs.Spots.{Leads, Kids, is_key};
-ghost use Rattle.packrat.specs.View.{weight, AreStored, AreImplied, AreAll, AreBegun, Evaluates};
+ghost use Rattle.packrat.specs.View.{weight, AreStored, AreImplied, AreBegun, Evaluates};
+ghost use Rattle.pegmatch.specs.VisitedCells.{AreVisitedCells};
 ghost use Rattle.pegnodes.specs.Width.{Width};
 
 /// A node of a width takes that many bytes wherever it succeeds.
@@ -34,15 +35,26 @@ pub fn asked_once()
 {}
 
 /// Where exactly the keys that are reached are stored, the cells that they imply are exactly the pairs that are
-/// visited, each with its outcome and once.
+/// visited, each with its outcome and once. They imply some cells if the window is long enough for the outcome of the
+/// start rule's body. All lists of such cells have one length.
 pub fn implied_cells()
-    ensures { (rules : List Rule) (start : ℕ) (nodes : List Shape) (bodies ranks x : List ℕ) (more : Bool) →
+    ensures every { (rules : List Rule) (start : ℕ) (nodes : List Shape) (bodies ranks x : List ℕ) (more : Bool) →
         IsRanked rules start nodes bodies ranks → (root : ℕ) → slice_get bodies start ≡ Some root →
         (marks : ℕ → Bool) (tails : ℕ → ℕ → Bool) → AreMarks start nodes bodies marks tails →
         (stored : List Spot) (cells : List Entry) →
         AreStored rules start nodes bodies x more marks tails root stored →
         AreImplied rules start nodes bodies x more marks tails stored cells →
-        AreAll rules start nodes bodies x more cells }
+        AreVisitedCells rules start nodes bodies x more cells }
+    ensures some { (rules : List Rule) (start : ℕ) (nodes : List Shape) (bodies ranks x : List ℕ) (more : Bool) →
+        IsRanked rules start nodes bodies ranks → (root : ℕ) → slice_get bodies start ≡ Some root →
+        (marks : ℕ → Bool) (tails : ℕ → ℕ → Bool) → AreMarks start nodes bodies marks tails →
+        (o : Outcome) (k : ℕ) → NodeGives rules nodes bodies x root 0 o k → WasEnough x more k →
+        (stored : List Spot) → AreStored rules start nodes bodies x more marks tails root stored →
+        (cells : List Entry) × AreImplied rules start nodes bodies x more marks tails stored cells }
+    ensures count { (rules : List Rule) (start : ℕ) (nodes : List Shape) (bodies ranks x : List ℕ) (more : Bool) →
+        IsRanked rules start nodes bodies ranks → (cs ds : List Entry) →
+        AreVisitedCells rules start nodes bodies x more cs → AreVisitedCells rules start nodes bodies x more ds →
+        length cs ≡ length ds }
 {}
 
 /// An evaluation that remembers its keys stores exactly those that are reached, each once, and has begun as many pairs
@@ -101,6 +113,6 @@ pub fn steps_hold()
         IsRanked rules start nodes bodies ranks → (root : ℕ) → slice_get bodies start ≡ Some root →
         (marks : ℕ → Bool) (tails : ℕ → ℕ → Bool) → AreMarks start nodes bodies marks tails → (s : State Spot) →
         SpotSteps rules nodes bodies x marks tails (start_at Spot (Pair root 0)) s →
-        (cells : List Entry) → AreAll rules start nodes bodies x more cells →
+        (cells : List Entry) → AreVisitedCells rules start nodes bodies x more cells →
         total Spot (Kids rules nodes bodies x) (is_key marks tails) weight (held Spot s).begun ≤ length cells }
 {}

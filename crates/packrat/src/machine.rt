@@ -527,7 +527,10 @@ impl Machine {
             match turn {
                 Turn::Ask(spot) => match self.ask(peg, window, more, spot)? {
                     Some(next) => turn = next,
-                    None => return Ok(None),
+                    None => {
+                        self.frames.clear();
+                        return Ok(None);
+                    }
                 },
                 Turn::Answer(given) => match self.frames.pop() {
                     None => return Ok(Some(given)),

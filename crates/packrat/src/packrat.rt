@@ -21,11 +21,12 @@ use ruletable::{Memory, Sink};
 use std::alloc::Global;
 use std::marker::Model;
 
-// So many nodes, or bytes of a window, are too many.
+// So many nodes or more, or so many bytes of a window or more, are too many.
 const MOST: usize = 4_294_967_295;
 
 /// A matcher that stores the outcomes of the keys alone, by node and place, and evaluates each node at each place at
-/// most once. A match in a window of 4,294,967,295 bytes, or by as many nodes, is refused as `Memory`.
+/// most once. `match_unit` returns `Memory` for a window of 4,294,967,295 bytes or more, and for a grammar of as many
+/// nodes or more.
 ///
 /// It is seen as the keys that are stored, the frames of what is under way, each with the last one first, how many
 /// evaluations were begun, and the events of the last success. It recurses nowhere: its depth is that of its frames.
@@ -142,18 +143,21 @@ impl Matcher for Packrat {
     ///
     /// Without `more` the window is the whole rest of the input, and the answer is never `Need`. With `more` the window
     /// is not empty, and `Need` says that its last byte was compared; any other answer holds for every rest that begins
-    /// with the window. At `Need` the machine stands on its way, and each pair that was begun is visited and was begun
-    /// once. However it ends, it has begun at most as many pairs as there are nodes at the places up to where the start
-    /// rule looks.
+    /// with the window. At `Need` no frame is left, and stored are reached keys with their outcomes. The pairs that
+    /// were begun are visited ones before the window's end, each begun once. A failure and `Need` leave no events.
+    ///
+    /// However it ends, it has begun at most as many pairs as there are nodes at the places up to where the start rule
+    /// looks. With `more` they are also at most as many as there are nodes at the window's bytes.
     ///
     /// # Errors
-    /// `Memory` if an allocation fails; nothing is stored.
+    /// `Memory` if an allocation fails, or if a count does not fit in 32 bits; nothing is stored.
     fn match_unit(&mut self, peg: &SoundPeg, window: &[u8], more: bool) -> Result<Unit, Memory>
         requires some { more ≡ true → 0 < length window.now }
         ensures answer { IfOk result (IsAnswer peg.now window.now more (Holds self.new peg.now window.now)) }
         ensures outcome { IfOk result (IsOutcome peg.now window.now more peg.now.keys self.new) }
-        ensures bounded { IfOk result (λ unit. (o : Outcome) (k : ℕ) → StartGives peg.now window.now o k →
-            self.new.begun ≤ length peg.now.nodes * (k + 1)) }
+        ensures bounded { IfOk result (λ unit. ((o : Outcome) (k : ℕ) → StartGives peg.now window.now o k →
+            self.new.begun ≤ length peg.now.nodes * (k + 1))
+            × (more ≡ true → self.new.begun ≤ length peg.now.nodes * length window.now)) }
         ensures empty { OnErr result (self.new ≡ empty) }
     {
         let root = peg.body_node(peg.start());
@@ -180,7 +184,7 @@ impl Matcher for Packrat {
     }
 
     /// Writes what the actions of its last success print, in order. It must hold a success for this grammar and window,
-    /// and then holds it still.
+    /// and holds it afterwards, unless it returns `Memory`.
     ///
     /// # Errors
     /// - `Memory` if an allocation fails; nothing was written, and nothing is stored.

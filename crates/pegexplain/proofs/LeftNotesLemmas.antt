@@ -29,7 +29,7 @@ use Rattle.pegread.specs.PegViews.{pattern_of, rule_of, rules_of}
 use Rattle.pegread.specs.Reading.{Reads}
 use Rattle.pegread.specs.Slices.{White, First}
 use Rattle.pegread.specs.Tokens.{Tok, AreTokens}
-use Rattle.shortestpaths.specs.ShortChains.{IsRoundIfAny}
+use Rattle.fixpoint.specs.ShortChains.{IsRoundIfAny}
 use Rattle.pegexplain.specs.LeftLines.{left_steps, way_told}
 use Rattle.pegexplain.specs.LeftNotes.{AreLeftLines, IsWayOr, TellsNullable, is_early, set_before}
 use Rattle.pegexplain.specs.LeftUses.{left_row}

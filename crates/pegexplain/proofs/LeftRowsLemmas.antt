@@ -1,7 +1,7 @@
 -- The row of one rule more.
 -- Serves: left_rows
-use Rattle.std.proofs.Common.{◌≡◌, ℕ, zero, suc, ◌+◌, List, [], ◌∷◌, ◌++◌, map, take, Some, sym, ap, ◌∙◌, add-one}
-use Rattle.std.proofs.Common.{Vec, Global}
+use Rattle.std.proofs.Common.{◌≡◌, ◌≤◌, ℕ, zero, suc, ◌+◌, List, [], ◌∷◌, ◌++◌, length, map, take, Some}
+use Rattle.std.proofs.Common.{refl, sym, ap, ◌∙◌, add-one, arith, Vec, Global}
 use Rattle.std.specs.Prelude.{slice_get}
 use Rattle.std.proofs.lemmas.List.{map-append}
 use Rattle.fixpoint.specs.StepRows.{rows_of}
@@ -25,3 +25,9 @@ rows-next f rules id e rows new row at is pushed before =
     ∙ ap (λ (r : List ℕ). map (λ rule. f rule.body) (take id rules) ++ r ∷ []) is
     ∙ sym (body-next f rules id e at)
     ∙ ap (λ (k : ℕ). map (λ rule. f rule.body) (take k rules)) (sym (add-one id))
+
+pub rules-taken : {A : Type 0} (xs : List A) (n : ℕ) → length xs ≤ n → take n xs ≡ xs
+rules-taken [] zero le = refl
+rules-taken [] (suc n) le = refl
+rules-taken (x ∷ xs) zero le = absurd (omega (arith, le))
+rules-taken (x ∷ xs) (suc n) le = ap (λ l. x ∷ l) (rules-taken xs n (omega (arith, le)))

@@ -6,11 +6,14 @@ pub mod PegWhyLemmas
 mod NullTestsLemmas
 pub mod ExplainedLoopLemmas
 mod RepeatsLemmas
+mod TellsKindsLemmas
+mod NamesInLemmas
 mod LeftRowsLemmas
 mod LeftStepLineLemmas
 mod LeftSameLemmas
 mod LeftWithinLemmas
 mod LeftNotesLemmas
+mod LeadBackLemmas
 mod BodyHintsLemmas
 mod NeverTakenLemmas
 mod PegHintsLemmas

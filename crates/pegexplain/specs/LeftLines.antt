@@ -7,9 +7,8 @@ use Rattle.pegread.specs.CanonMembers.{members_text}
 use Rattle.pegread.specs.Definitions.{id_in}
 use Rattle.pegread.specs.Pattern.{Pattern, Rule}
 use Rattle.pegread.specs.PegViews.{patterns}
-use Rattle.shortestpaths.specs.ShortChains.{IsRoundIfAny}
+use Rattle.fixpoint.specs.ShortChains.{IsRoundIfAny}
 use Rattle.pegexplain.specs.LeftUses.{NameUse, left_row, skipped_in, uses_in}
-use Rattle.pegexplain.specs.declared.left_lines.TheConstants.{MAX_STEPS}
 
 -- a use of the name to which left steps lead
 abbrev pub is_left_use : List ℕ → NameUse → Bool
@@ -64,7 +63,7 @@ module _ (rules : List Rule) (null : Pattern → Bool) (lines : List ℕ → Lis
 
   abbrev pub way_told : ℕ → Option (List ℕ) → List ℕ
   way_told first None = []
-  way_told first (Some ids) = steps_told first MAX_STEPS ids
+  way_told first (Some ids) = steps_told first 8 ids
 
   -- the steps of the way from a rule back to itself
   pub record IsWayTold (id : ℕ) (told : List ℕ) : Type 0 where

@@ -1,6 +1,6 @@
 -- Which token of a text decides that it is no grammar.
 use Rattle.std.specs.Prelude.{◌≡◌, ℕ, ◌≤◌, ◌⊎◌, true, false, length, slice_get, List, Some}
-use Rattle.lexer.specs.declared.limits.TheConstants.{MAX_OPEN}
+use Rattle.lexer.specs.GrammarLimits.{max_open}
 use Rattle.lexer.specs.TokenLists.{tok_of}
 use Rattle.pegread.specs.declared.kind.Kind.{Kind}
 use Rattle.pegread.specs.Reading.{IsHopeless, IsTooDeep}
@@ -26,7 +26,7 @@ pub record TellsKinds (place : Place) (ts : List Tok) (i : ℕ) : Type 0 where
 
 abbrev pub Decides : List ℕ → Decision → Type 0
 Decides text (Hopeless place token) =
-    IsTokenOf text (tok_of token) (λ ts i. IsHopeless ts i × TellsKinds place ts i) × (place.depth ≤ MAX_OPEN)
+    IsTokenOf text (tok_of token) (λ ts i. IsHopeless ts i × TellsKinds place ts i) × (place.depth ≤ max_open)
 Decides text (TooDeep token) = IsTokenOf text (tok_of token) IsTooDeep
 
 -- no token of the text decides

@@ -1,7 +1,7 @@
 -- What explains a fault of a grammar's text: the lines behind its message.
 use Rattle.std.specs.Prelude.{◌≡◌, ℕ, ◌<◌, ◌≤◌, length, slice_get, List, [], ◌∷◌, ◌++◌, Some, codes}
 use Rattle.lexer.specs.TokenLists.{tok}
-use Rattle.lexer.specs.declared.limits.TheConstants.{MAX_GRAMMAR}
+use Rattle.lexer.specs.GrammarLimits.{max_grammar}
 use Rattle.diagnostics.specs.FirstBytes.{Row, first_told}
 use Rattle.diagnostics.specs.PhraseLists.{listed}
 use Rattle.diagnostics.specs.Pictures.{place_told}
@@ -40,14 +40,14 @@ token_facts (tok _ z p) = []
 
 -- The lines that explain why the text is no grammar.
 pub data Why (text : List ℕ) : List ℕ → Type 0 where
-  too_long : MAX_GRAMMAR < length text → Why text (codes "  a grammar has at most 1048576 bytes\n")
+  too_long : max_grammar < length text → Why text (codes "  a grammar has at most 1048576 bytes\n")
   -- with that token the tokens begin no grammar: what could stand in its place
-  hopeless : {all : List Tok} {i : ℕ} {t : Tok} {told : List (List ℕ)} → length text ≤ MAX_GRAMMAR
+  hopeless : {all : List Tok} {i : ℕ} {t : Tok} {told : List (List ℕ)} → length text ≤ max_grammar
       → AreTokens (length text) text all → slice_get all i ≡ Some t → IsHopeless all i
       → AreTold (CanStand all i) phrases told →
       Why text (token_place text t ++ (codes "expected " ++ (listed told ++ (codes "\n" ++ token_facts t))))
   -- that bracket is one too many of those open at once
-  too_deep : {all : List Tok} {i : ℕ} {t : Tok} → length text ≤ MAX_GRAMMAR → AreTokens (length text) text all
+  too_deep : {all : List Tok} {i : ℕ} {t : Tok} → length text ≤ max_grammar → AreTokens (length text) text all
       → slice_get all i ≡ Some t → IsTooDeep all i →
       Why text (token_place text t ++ codes "200 brackets are open before it\n")
 

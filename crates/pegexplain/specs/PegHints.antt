@@ -16,7 +16,6 @@ use Rattle.ruletable.specs.declared.lines.LineRule.TheVariants.{Any}
 use Rattle.ruletable.specs.declared.table.NameCase.TheVariants.{Exact}
 use Rattle.pegexplain.specs.PegNotes.{sign_of}
 use Rattle.pegexplain.specs.HiddenLiterals.{LiteralAt, literals_in}
-use Rattle.pegexplain.specs.declared.hints.told.TheConstants.{MAX_HINTS}
 
 -- an alternative that is never taken: its rule, the place of its literal among those of the rule, this, and that which
 -- is the earlier alternative
@@ -57,9 +56,9 @@ module _ (lines : List ℕ → List ℕ) where
   abbrev pub hint_told : HintAt → List ℕ
   hint_told h = rule_told h.rule ++ hint_line (slice_get (lines h.rule) h.place) h.later h.earlier
 
-  -- the first ones of the hints, and how many more there are
+  -- the first 16 hints, and how many more there are
   abbrev pub hints_told : List HintAt → List ℕ
-  hints_told hints = flat_map hint_told (take MAX_HINTS hints) ++ more_told (length hints - MAX_HINTS)
+  hints_told hints = flat_map hint_told (take 16 hints) ++ more_told (length hints - 16)
 
 -- on which lines the literals in the first definition of a name stand
 abbrev pub literal_lines : List ℕ → List Tok → List ℕ → List ℕ

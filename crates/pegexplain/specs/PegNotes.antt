@@ -1,8 +1,9 @@
 -- What explains a note on the grammar of a text.
-use Rattle.std.specs.Prelude.{◌≡◌, ℕ, Bool, List, [], ◌++◌, Option, None, length, map}
+use Rattle.std.specs.Prelude.{◌≡◌, ℕ, Bool, false, List, [], ◌++◌, Option, None, length, map}
 use Rattle.diagnostics.specs.DefinitionHeads.{sign_at}
 use Rattle.diagnostics.specs.ExplainedNotes.{ArePlaces, IsNoteExplained, note_lines}
 use Rattle.diagnostics.specs.MentionLines.{lines_mentioned}
+use Rattle.diagnostics.specs.ReportedTrees.{TreeRule}
 use Rattle.diagnostics.specs.declared.noteplaces.mentions.MentionKind.TheVariants.{Repeat, Use}
 use Rattle.diagnostics.specs.declared.noteplaces.sign.Sign.{Sign}
 use Rattle.diagnostics.specs.declared.noteplaces.sign.Sign.TheVariants.{Name, Defines, Repeats, Other}
@@ -25,6 +26,7 @@ use Rattle.ruletable.specs.declared.note.NoteKind.TheVariants.{LeftRecursion, Lo
 use Rattle.ruletable.specs.declared.table.NameCase.TheVariants.{Exact}
 use Rattle.gramcheck.specs.GrammarNotes.{AreMarks}
 use Rattle.gramcheck.specs.Left.{IsLeftRecursive, Nullable}
+use Rattle.gramcheck.specs.Uses.{names_in}
 use Rattle.pegexplain.specs.LeftNotes.{AreLeftLines, TellsNullable}
 use Rattle.pegexplain.specs.PegLoops.{IsLoopLineIf}
 use Rattle.pegexplain.specs.declared.places.PegPlaces.{PegPlaces}
@@ -38,6 +40,12 @@ sign_of Star = Repeats
 sign_of Plus = Repeats
 sign_of Literal = signs.Literal
 sign_of _ = Other
+
+-- the definitions, as the tokens report them
+abbrev pub tree_rules : List Rule → List TreeRule
+tree_rules definitions =
+    map (λ rule. record { name = rule.name; start = rule.span.start; adds = false; uses = names_in rule.body })
+    definitions
 
 -- on which lines the repetitions of the first definition of a name have their marks
 abbrev pub marked_lines : List ℕ → List Tok → List ℕ → List ℕ

@@ -1,7 +1,7 @@
 //! What explains a fault.
 ghost use Rattle.std.specs.Prelude.{◌≡◌, ℕ, ◌≤◌, ◌++◌, List, true, length, map, codes, OnOk, IfOk};
 ghost use Rattle.lexer.specs.TokenLists.{tok_of};
-ghost use Rattle.lexer.specs.declared.limits.TheConstants.{MAX_GRAMMAR, MAX_OPEN};
+ghost use Rattle.lexer.specs.GrammarLimits.{max_grammar, max_open};
 ghost use Rattle.diagnostics.specs.FactRows.{row_of};
 ghost use Rattle.diagnostics.specs.PhraseLists.{listed};
 ghost use Rattle.diagnostics.specs.ToldPhrases.{AreTold};
@@ -95,7 +95,7 @@ fn push_token_facts(out: &mut Vec<u8>, token: Token<'_, Kind>) -> Result<(), Mem
 
 // Adds what can stand there.
 fn push_expected(alloc: Global, out: &mut Vec<u8>, place: Place) -> Result<(), Memory>
-    requires { place.depth ≤ MAX_OPEN }
+    requires { place.depth ≤ max_open }
     ensures { OnOk result ((told : List (List ℕ)) × AreTold (λ k. allows place k ≡ true) phrases told
         × (out.new.items ≡ out.old.items ++ listed told)) }
 {
@@ -111,7 +111,7 @@ fn hopeless_lines(
     place: Place,
     token: Token<'_, Kind>,
 ) -> Result<Vec<u8>, Memory>
-    requires depth { place.depth ≤ MAX_OPEN }
+    requires depth { place.depth ≤ max_open }
     requires within { token.span.start ≤ length text.now }
     ensures { IfOk result (λ v. (told : List (List ℕ)) × AreTold (λ k. allows place k ≡ true) phrases told
         × (v.items ≡ token_place text.now (tok_of token.entry) ++ (codes "expected " ++ (listed told
@@ -140,7 +140,7 @@ fn deep_lines(alloc: Global, text: &[u8], token: Token<'_, Kind>) -> Result<Vec<
 
 // The lines on the token that decides.
 fn explain_token(alloc: Global, text: &[u8]) -> Result<Vec<u8>, Memory>
-    requires within { length text.now ≤ MAX_GRAMMAR }
+    requires within { length text.now ≤ max_grammar }
     requires decided { NoneDecides text.now → ⊥ }
     ensures { IfOk result (λ why. Why text.now why.items) }
 {

@@ -178,8 +178,8 @@ fn next_of(rest: &[usize], first: usize) -> usize
     }
 }
 
-/// Adds the lines of the first ones of the steps from each rule of a chain to the next, and from the last to the first
-/// one of all, and how many more there are.
+/// Adds the lines of the first `budget` steps from each rule of a chain to the next, and from the last to the first one
+/// of all, and how many more there are.
 ///
 /// # Errors
 /// `Memory` if an allocation fails.

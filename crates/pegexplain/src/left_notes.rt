@@ -7,7 +7,7 @@ ghost use Rattle.pegread.specs.PegViews.{pattern_of, rules_of};
 ghost use Rattle.ruletable.specs.Notes.{said};
 ghost use Rattle.ruletable.specs.Rules.{find_in};
 ghost use Rattle.ruletable.specs.declared.note.NoteKind.TheVariants.{Unused};
-ghost use Rattle.shortestpaths.specs.ShortChains.{IsRoundIfAny};
+ghost use Rattle.fixpoint.specs.ShortChains.{IsRoundIfAny};
 ghost use Rattle.pegexplain.specs.LeftLines.{way_told};
 ghost use Rattle.pegexplain.specs.LeftNotes.{is_early as among_the_first, set_before};
 ghost use Rattle.pegexplain.specs.LeftUses.{left_row};

@@ -1,15 +1,18 @@
 //! To which rules left steps lead from each rule.
 ghost use Rattle.std.specs.Prelude.{◌≡◌, ◌++◌, ◌&&◌, true, map, IfOk, OnOk};
 ghost use Rattle.fixpoint.specs.StepRows.{rows_of};
-ghost use Rattle.pegread.specs.PegViews.{pattern_of, patterns_of};
+ghost use Rattle.gramcheck.specs.GrammarNotes.{AreMarks};
+ghost use Rattle.gramcheck.specs.Left.{Nullable};
+ghost use Rattle.pegread.specs.PegViews.{pattern_of, patterns_of, rules_of};
 ghost use Rattle.ruletable.specs.Rules.{find_in};
 ghost use Rattle.pegexplain.specs.FoundUses.{use_found};
+ghost use Rattle.pegexplain.specs.LeftNotes.{LeadBack};
 ghost use Rattle.pegexplain.specs.LeftUses.{alternative_uses, left_row, member_uses, use_ids, uses_in};
 ghost use Rattle.pegexplain.specs.NullTests.{null_mark_of, nullable_by};
 
 use crate::nulls::is_nullable;
 use pegread::Expr;
-use ruletable::{Memory, RuleTable};
+use ruletable::{Memory, NameCase, RuleTable};
 use std::alloc::Global;
 
 /// A name that an expression uses, and whether left steps lead to it.
@@ -140,7 +143,7 @@ fn row_of(
 }
 
 /// Returns of each rule the ids of the rules to which left steps lead from its body, where marks of the rules tell
-/// which of their bodies may take nothing.
+/// which of their bodies may take nothing. By these rows a rule leads back to itself exactly if it is left-recursive.
 ///
 /// # Errors
 /// `Memory` if an allocation fails.
@@ -149,8 +152,11 @@ pub fn left_rows(
     rules: &RuleTable<Expr>,
     marks: &[bool],
 ) -> Result<Vec<Vec<usize>>, Memory>
-    ensures { IfOk result (λ rows. rows_of rows.items ≡ map (λ rule. left_row (find_in rules.now)
+    ensures rows { IfOk result (λ rows. rows_of rows.items ≡ map (λ rule. left_row (find_in rules.now)
         (nullable_by (null_mark_of rules.now marks.now)) (pattern_of rule.body)) rules.now.rules) }
+    ensures back { IfOk result (λ rows. rules.now.names ≡ NameCase.Exact
+        → AreMarks (λ rule. Nullable (rules_of rules.now) rule.body) (rules_of rules.now) marks.now
+        → LeadBack (rules_of rules.now) (rows_of rows.items)) }
 {
     let mut rows = Vec::new(alloc);
     for id in 0..rules.len() {

@@ -19,7 +19,7 @@ mod ways;
 
 pub use explain::explain_fault;
 pub use hints::{MAX_HINTS, never_taken, one_text_of_hints, peg_hints};
-pub use laws::one_explanation;
+pub use laws::{nothing_left_out, one_explanation};
 pub use left_lines::{MAX_STEPS, push_steps};
 pub use left_notes::MAX_WAYS;
 pub use left_uses::left_rows;

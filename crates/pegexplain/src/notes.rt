@@ -7,10 +7,10 @@ use crate::left_notes::push_left;
 use crate::loops::push_first_loop;
 use crate::places::PegPlaces;
 use diagnostics::{MentionKind, explain_note, mention_lines};
+use fixpoint::one_way_back;
 use lexer::one_list;
 use pegread::{Kind, one_reading};
 use ruletable::{Memory, Note, NoteKind};
-use shortestpaths::one_way_back;
 use std::alloc::Global;
 
 // Adds the line of the first repetition of what may take nothing in the rule of a name.

@@ -1,7 +1,7 @@
 //! The phrases that tell what can stand at a place.
 ghost use Rattle.std.specs.Prelude.{◌≡◌, ◌≤◌, true, map, IfOk};
 ghost use Rattle.std.specs.List.{list_all, list_any};
-ghost use Rattle.lexer.specs.declared.limits.TheConstants.{MAX_OPEN};
+ghost use Rattle.lexer.specs.GrammarLimits.{max_open};
 ghost use Rattle.diagnostics.specs.ToldPhrases.{AreTold, tells};
 ghost use Rattle.pegexplain.specs.PegExpected.{phrases};
 ghost use Rattle.pegexplain.specs.PegStands.{allows};
@@ -101,7 +101,7 @@ static PHRASES: [Phrase; 12] = [
 ];
 
 fn allows_all(place: Place, kinds: &[Kind]) -> bool
-    requires { place.depth ≤ MAX_OPEN }
+    requires { place.depth ≤ max_open }
     ensures { result ≡ list_all (allows place) kinds.now }
 {
     for kind in kinds {
@@ -113,7 +113,7 @@ fn allows_all(place: Place, kinds: &[Kind]) -> bool
 }
 
 fn allows_any(place: Place, kinds: &[Kind]) -> bool
-    requires { place.depth ≤ MAX_OPEN }
+    requires { place.depth ≤ max_open }
     ensures { result ≡ list_any (allows place) kinds.now }
 {
     for kind in kinds {
@@ -125,7 +125,7 @@ fn allows_any(place: Place, kinds: &[Kind]) -> bool
 }
 
 fn is_told(place: Place, phrase: &Phrase) -> bool
-    requires { place.depth ≤ MAX_OPEN }
+    requires { place.depth ≤ max_open }
     ensures { result ≡ tells (allows place) (phrase_of phrase.now) }
 {
     allows_all(place, phrase.kinds) && !allows_any(place, phrase.bars)
@@ -139,7 +139,7 @@ fn all_phrases() -> &'static [Phrase]
 
 // The words of the phrases of a table that are told.
 fn told_of(alloc: Global, place: Place, table: &[Phrase]) -> Result<Vec<&'static [u8]>, Memory>
-    requires { place.depth ≤ MAX_OPEN }
+    requires { place.depth ≤ max_open }
     ensures { IfOk result (λ v. AreTold (λ k. allows place k ≡ true) (map phrase_of table.now)
         (map (λ w. w.now) v.items)) }
 {
@@ -157,7 +157,7 @@ fn told_of(alloc: Global, place: Place, table: &[Phrase]) -> Result<Vec<&'static
 /// # Errors
 /// `Memory` if an allocation fails.
 pub(crate) fn told_phrases(alloc: Global, place: Place) -> Result<Vec<&'static [u8]>, Memory>
-    requires { place.depth ≤ MAX_OPEN }
+    requires { place.depth ≤ max_open }
     ensures { IfOk result (λ v. AreTold (λ k. allows place k ≡ true) phrases (map (λ w. w.now) v.items)) }
 {
     told_of(alloc, place, all_phrases())

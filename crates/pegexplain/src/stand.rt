@@ -1,6 +1,6 @@
 //! Where a token stands in a grammar, as far as the kinds of the tokens before it tell.
 ghost use Rattle.std.specs.Prelude.{◌≡◌, ◌≤◌, Some};
-ghost use Rattle.lexer.specs.declared.limits.TheConstants.{MAX_OPEN};
+ghost use Rattle.lexer.specs.GrammarLimits.{max_open};
 ghost use Rattle.pegexplain.specs.PegStands.{closed, ended, begun, primary, unmarked};
 ghost use Rattle.pegexplain.specs.PegStands.{behind_primary, prefixed, goes, allows};
 
@@ -71,7 +71,7 @@ fn begin(depth: usize) -> Option<Place>
 
 // Behind a primary that is neither a name nor an action.
 fn take_primary(depth: usize, kind: Kind) -> Option<Place>
-    requires { depth ≤ MAX_OPEN }
+    requires { depth ≤ max_open }
     ensures { result ≡ primary depth kind }
 {
     match kind {
@@ -85,7 +85,7 @@ fn take_primary(depth: usize, kind: Kind) -> Option<Place>
 
 // Where no prefix waits.
 fn take_unmarked(depth: usize, kind: Kind) -> Option<Place>
-    requires { depth ≤ MAX_OPEN }
+    requires { depth ≤ max_open }
     ensures { result ≡ unmarked depth kind }
 {
     match kind {
@@ -102,7 +102,7 @@ fn take_unmarked(depth: usize, kind: Kind) -> Option<Place>
 
 // Behind a primary.
 fn take_behind(depth: usize, kind: Kind) -> Option<Place>
-    requires { depth ≤ MAX_OPEN }
+    requires { depth ≤ max_open }
     ensures { result ≡ behind_primary depth kind }
 {
     match kind {
@@ -112,7 +112,7 @@ fn take_behind(depth: usize, kind: Kind) -> Option<Place>
 }
 
 fn take_prefixed(depth: usize, kind: Kind, may_act: bool) -> Option<Place>
-    requires { depth ≤ MAX_OPEN }
+    requires { depth ≤ max_open }
     ensures { result ≡ prefixed depth kind may_act }
 {
     match kind {
@@ -140,7 +140,7 @@ impl Place {
 
     /// Returns the place behind a token of the kind, if one can stand here.
     pub(crate) fn after(self, kind: Kind) -> Option<Place>
-        requires { self.depth ≤ MAX_OPEN }
+        requires { self.depth ≤ max_open }
         ensures { result ≡ goes self.stand self.depth kind }
     {
         match self.stand {
@@ -166,7 +166,7 @@ impl Place {
 
     /// Returns whether a token of the kind can stand here.
     pub(crate) fn allows(self, kind: Kind) -> bool
-        requires { self.depth ≤ MAX_OPEN }
+        requires { self.depth ≤ max_open }
         ensures { result ≡ allows self kind }
     {
         self.after(kind).is_some()

@@ -1,11 +1,10 @@
 //! The way by which a left-recursive rule comes back to itself.
 ghost use Rattle.std.specs.Prelude.{◌≡◌, ◌<◌, length, IfOk, option_map};
 ghost use Rattle.fixpoint.specs.StepRows.{rows_of, AreStepsWithin};
-ghost use Rattle.shortestpaths.specs.ShortChains.{IsRoundIfAny};
+ghost use Rattle.fixpoint.specs.ShortChains.{IsRoundIfAny};
 
-use fixpoint::slices;
+use fixpoint::{chains_from, slices};
 use ruletable::Memory;
-use shortestpaths::chains_from;
 use std::alloc::Global;
 
 /// Returns the rules on the shortest way from one back to itself by left steps, the first at its beginning alone, if

@@ -1,14 +1,14 @@
 //! The run of the program.
-ghost use Rattle.std.specs.Prelude.{◌≡◌, [], false, map, string_bytes};
+ghost use Rattle.std.specs.Prelude.{◌≡◌, ◌≢◌, [], false, map, string_bytes};
 ghost use Rattle.std.specs.Io.KnownBytes.{Keeps};
 ghost use Rattle.clap.specs.Words.{fault_of, matches_of};
 ghost use Rattle.cli.specs.Command.{IsAppOf};
 ghost use Rattle.cli.specs.Jobs.{JobStates};
-ghost use Rattle.cli.specs.Parsing.{Answers, EndsAs};
+ghost use Rattle.cli.specs.Parsing.{WordsState};
 ghost use Rattle.pegrun.specs.Answers.{States};
 ghost use Rattle.toolrun.specs.Right.{Comes};
 ghost use Rattle.toolrun.specs.Status.{code_of};
-ghost use Rattle.toolrun.specs.Stream.{passed};
+ghost use Rattle.toolrun.specs.Stream.{no_input, passed};
 
 use cli::{Program, tool_main};
 use feed::Source;
@@ -24,6 +24,7 @@ use toolrun::Status;
 /// - Other words, or a value out of its range: what is wrong with them on `err`, `Refused`, and nothing is read.
 /// - A file that cannot be read: `cannot read the grammar`, `Fault`.
 /// - If an allocation fails in parsing the words or reading the file: `out of memory`, `NoMemory`.
+/// - Where a writer fails it holds a prefix of its text, and the status is at least `Fault`.
 pub(crate) fn pegi_main<R: Files + AllocGlobal, I: Source, O: Sink, E: Sink>(
     rt: &R,
     words: &[String],
@@ -35,11 +36,10 @@ pub(crate) fn pegi_main<R: Files + AllocGlobal, I: Source, O: Sink, E: Sink>(
     requires reader_is_open { I.ended reader.old ≡ false }
     requires out_is_fresh { O.failed out.old ≡ false }
     requires err_is_fresh { E.failed err.old ≡ false }
-    ensures words { (app : _) × IsAppOf Program.Pegi app × Answers (fault_of app (map string_bytes words.now))
-        (Keeps (I.remaining reader.old) (I.remaining reader.new) × Keeps (O.contents out.old) (O.contents out.new) ×
-        EndsAs (O.failed out.new) (E.failed err.new) Status.Refused result)
-        (Keeps (I.remaining reader.old) (I.remaining reader.new) ×
-        EndsAs (O.failed out.new) (E.failed err.new) Status.Done result) }
+    ensures words { (app : _) × IsAppOf Program.Pegi app × (fault_of app (map string_bytes words.now) ≢ [] →
+        Keeps (I.remaining reader.old) (I.remaining reader.new) ×
+        Comes (WordsState (fault_of app (map string_bytes words.now))) no_input
+        (passed O.contents O.failed out.old out.new) (passed E.contents E.failed err.old err.new) (code_of result)) }
     ensures right { (app : _) × IsAppOf Program.Pegi app × (fault_of app (map string_bytes words.now) ≡ [] →
         Comes (JobStates States (matches_of app (map string_bytes words.now)))
         (passed I.remaining I.failed reader.old reader.new) (passed O.contents O.failed out.old out.new)

@@ -4,3 +4,4 @@ pub mod Text
 pub mod EventPrinting
 pub mod Visits
 pub mod CellOutcomes
+pub mod VisitedCells

@@ -1,7 +1,7 @@
 //! Events as they are kept.
 
 /// An event of a success, an action by the number of its node.
-#[derive(Clone, Copy, Debug, PartialEq, Eq)]
+#[derive(Clone, Copy)]
 pub enum Kept {
     /// A capture opened at this place.
     Opened(usize),

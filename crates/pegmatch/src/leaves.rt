@@ -10,7 +10,7 @@ use memo::Found;
 use ruletable::{ByteSet, Memory};
 
 /// What was found, and one more than the last place looked at, or 0.
-#[derive(Clone, Copy, PartialEq, Eq, Debug)]
+#[derive(Clone, Copy)]
 pub struct Tried {
     pub found: Found,
     pub looked: usize,

@@ -10,7 +10,7 @@ use ruletable::{Memory, Sink};
 use thiserror::Error;
 
 /// What the start rule gives at the front of a window.
-#[derive(Clone, Copy, Debug, PartialEq, Eq)]
+#[derive(Clone, Copy, PartialEq, Eq)]
 pub enum Unit {
     /// It succeeds: how many bytes it takes, and how many evaluations were begun, which is at least 1 and stays at the
     /// greatest number.

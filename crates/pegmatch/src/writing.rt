@@ -107,7 +107,7 @@ fn write_action<W: Sink>(
 }
 
 /// The capture so far, as the part of the window from `from` to `to`, and where one was opened last.
-#[derive(Clone, Copy, PartialEq, Eq, Debug)]
+#[derive(Clone, Copy)]
 pub struct Capture {
     pub start: Option<usize>,
     pub from: usize,

@@ -12,7 +12,7 @@ use crate::node::Node;
 use ruletable::ByteSet;
 
 /// Says what a node does at a place, where the byte there alone decides it.
-#[derive(Clone, Copy, Debug, PartialEq, Eq)]
+#[derive(Clone, Copy)]
 pub enum Verdict {
     /// Takes the byte.
     Takes,
@@ -23,7 +23,7 @@ pub enum Verdict {
 }
 
 /// Says what a byte decides of a node, and how many pairs of a node and the place that evaluates.
-#[derive(Clone, Copy, Debug, PartialEq, Eq)]
+#[derive(Clone, Copy)]
 pub struct Decided {
     pub verdict: Verdict,
     pub count: u16,

@@ -11,14 +11,14 @@ use ruletable::Memory;
 use std::alloc::Global;
 
 /// Names the only byte that a node is not known to take, and tells how many pairs a turn over each other byte is.
-#[derive(Clone, Copy, Debug, PartialEq, Eq)]
+#[derive(Clone, Copy)]
 pub struct Stop {
     pub byte: u8,
     pub pairs: u64,
 }
 
 /// Tells where a run of bytes that a node takes ends, and how many pairs the turns of a repetition over it are.
-#[derive(Clone, Copy, Debug, PartialEq, Eq)]
+#[derive(Clone, Copy)]
 pub struct Run {
     pub end: usize,
     pub pairs: u128,

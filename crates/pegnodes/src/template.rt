@@ -9,7 +9,7 @@ use ruletable::Memory;
 use std::alloc::Global;
 
 /// What is put in a slot.
-#[derive(Clone, Copy, PartialEq, Eq, Debug)]
+#[derive(Clone, Copy)]
 pub enum Put {
     /// The capture.
     Capture,
@@ -18,7 +18,7 @@ pub enum Put {
 }
 
 /// A word of a template in whose place something is put: where it begins and ends, and what takes its place.
-#[derive(Clone, Copy, PartialEq, Eq, Debug)]
+#[derive(Clone, Copy)]
 pub struct Slot {
     pub from: usize,
     pub to: usize,

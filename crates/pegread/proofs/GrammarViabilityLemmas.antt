@@ -87,7 +87,7 @@ runs-begins : (ws : List Word) (c : Config) → run start ws ≡ Some c → Begi
 runs-begins = viability.runs-begins step Grammar start done (λ ws g h. grammar-runs h) (λ ws g h. runs-grammar g ws h)
     run-completes
 
-stops-begins : (ws : List Word) → run start ws ≡ None → Begins ws → ⊥
+pub stops-begins : (ws : List Word) → run start ws ≡ None → Begins ws → ⊥
 stops-begins = viability.stops-begins step Grammar start done (λ ws g h. grammar-runs h) (λ ws g h. runs-grammar g ws h)
     run-completes
 

@@ -2,7 +2,7 @@
 use Rattle.std.specs.Prelude.{◌≡◌, ℕ, ◌≤◌, length, map, List, []}
 use Rattle.ruletable.specs.Rules as table
 use Rattle.pegread.specs.declared.expr.Expr.{Expr}
-use Rattle.lexer.specs.declared.limits.TheConstants.{MAX_GRAMMAR}
+use Rattle.lexer.specs.GrammarLimits.{max_grammar}
 use Rattle.pegread.specs.Canon.{grammar_text}
 use Rattle.pegread.specs.Definitions.{IsTableOf}
 use Rattle.pegread.specs.Formed.{AreBytes, AreFormedRules, IsSome}
@@ -32,7 +32,7 @@ pub record IsRead (source : List ℕ) (rules : table.Rules Expr) (redefined : Li
 -- what a text reads as, its canonical text reads as again, where that is not too long
 abbrev pub ReadBack : Type 0
 ReadBack = (source : List ℕ) (rules : List Rule) → AreBytes source → Reads source rules → length (grammar_text rules)
-    ≤ MAX_GRAMMAR → ReadsAs (grammar_text rules) rules
+    ≤ max_grammar → ReadsAs (grammar_text rules) rules
 
 -- the canonical text tells nothing of spans
 abbrev pub SpansUnseen : Type 0

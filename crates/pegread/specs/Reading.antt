@@ -5,7 +5,7 @@ use Rattle.ruletable.specs.declared.lines.LineRule.TheVariants.{Any}
 use Rattle.ruletable.specs.declared.fault.ReadFault.{ReadFault}
 use Rattle.ruletable.specs.declared.fault.ReadFault.TheVariants as faults
 use Rattle.lexer.specs.Viability as viability
-use Rattle.lexer.specs.declared.limits.TheConstants.{MAX_GRAMMAR, MAX_OPEN}
+use Rattle.lexer.specs.GrammarLimits.{max_grammar, max_open}
 use Rattle.pegread.specs.declared.kind.Kind.TheVariants.{Amp, Action}
 use Rattle.pegread.specs.Pattern.{Rule}
 use Rattle.lexer.specs.TokenLists.{kind_of, start_of}
@@ -16,13 +16,13 @@ use Rattle.pegread.specs.Spelling.{Grammar, Viable}
 
 -- The text is a grammar of these definitions, and keeps to the limits of its length and of brackets open at once.
 pub record Reads (text : List ℕ) (definitions : List Rule) : Type 0 where
-  pub within : length text ≤ MAX_GRAMMAR
+  pub within : length text ≤ max_grammar
   pub tokens : List Tok
   pub are_tokens : AreTokens (length text) text tokens
   pub words : List Word
   pub say : SayAll tokens words
   pub grammar : Grammar words definitions
-  pub shallow : IsShallow MAX_OPEN 0 tokens
+  pub shallow : IsShallow max_open 0 tokens
 
 -- an action right behind an `&`
 pub record IsCodePredicate (ts : List Tok) (i : ℕ) : Type 0 where
@@ -31,9 +31,9 @@ pub record IsCodePredicate (ts : List Tok) (i : ℕ) : Type 0 where
   pub amp : slice_get (map kind_of ts) place ≡ Some Amp
   pub action : slice_get (map kind_of ts) i ≡ Some Action
 
--- at most MAX_OPEN brackets are open at once
+-- at most 200 brackets are open at once
 abbrev pub AreWithin : List Tok → Type 0
-AreWithin = IsShallow MAX_OPEN 0
+AreWithin = IsShallow max_open 0
 
 -- with token i the tokens begin no grammar any more
 abbrev pub IsHopeless : List Tok → ℕ → Type 0
@@ -45,7 +45,7 @@ IsTooDeep = viability.IsOver Viable AreWithin
 
 -- a token of the text decides, and stands on that line
 pub record IsDecidedAt (text : List ℕ) (line : ℕ) (Decides : List Tok → ℕ → Type 0) : Type 0 where
-  pub within : length text ≤ MAX_GRAMMAR
+  pub within : length text ≤ max_grammar
   pub all : List Tok
   pub are_tokens : AreTokens (length text) text all
   pub number : ℕ
@@ -60,6 +60,6 @@ abbrev pub IsFaultOf : List ℕ → ReadFault → Type 0
 IsFaultOf text (faults.Syntax line) = IsDecidedAt text line (λ ts i. IsHopeless ts i × (IsCodePredicate ts i → ⊥))
 IsFaultOf text (faults.CodePredicate line) = IsDecidedAt text line (λ ts i. IsHopeless ts i × IsCodePredicate ts i)
 IsFaultOf text (faults.Depth line) = IsDecidedAt text line IsTooDeep
-IsFaultOf text faults.TooLong = MAX_GRAMMAR < length text
-IsFaultOf text faults.Memory = length text ≤ MAX_GRAMMAR
+IsFaultOf text faults.TooLong = max_grammar < length text
+IsFaultOf text faults.Memory = length text ≤ max_grammar
 IsFaultOf text (faults.NumberTooLarge line) = ⊥

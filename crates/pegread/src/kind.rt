@@ -2,7 +2,7 @@
 
 /// What a token is (peg(1) manual, "PEG GRAMMARS"). White space, which is space, tab, LF, CR and comments from `#` to
 /// the end of the line, only separates tokens.
-#[derive(Clone, Copy, Debug, PartialEq, Eq)]
+#[derive(Clone, Copy)]
 pub enum Kind {
     /// A name: a letter or `_`, then letters, digits and `_`.
     Ident,

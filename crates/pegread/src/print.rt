@@ -1,5 +1,6 @@
 //! Writes a grammar's canonical text.
 ghost use Rattle.std.specs.Prelude.{◌≡◌, ◌≤◌, ◌++◌, ◌==◌, ℕ, cond, List, [], length, false};
+ghost use Rattle.lexer.specs.GrammarLimits.{max_grammar};
 ghost use Rattle.ruletable.specs.Writing.{Writes, Flags};
 ghost use Rattle.pegread.specs.Brackets.{wraps, around};
 ghost use Rattle.pegread.specs.Canon as canon;
@@ -10,7 +11,6 @@ ghost use Rattle.pegread.specs.PegViews.{pattern_of, patterns_of, rules_of};
 use crate::expr::{Expr, Peg};
 use crate::place::{Place, is_wrapped};
 use crate::print_bytes::{print_action, print_literal, print_set};
-use lexer::MAX_GRAMMAR;
 use ruletable::{Sink, WriteFault, write_pieces, write_whole};
 
 // An expression within another, in parentheses where it needs them.
@@ -168,7 +168,7 @@ pub fn print_peg<W: Sink>(peg: &Peg, w: &mut W) -> Result<(), WriteFault>
     ensures bytes { Writes (W.contents w.old) (W.contents w.new) (canon.grammar_text (rules_of peg.now.rules)) result }
     ensures flag { Flags (W.failed w.old) (W.failed w.new) result }
     ensures read_back { (source : List ℕ) → IsRead source peg.now.rules peg.now.redefined.items
-        → length (canon.grammar_text (rules_of peg.now.rules)) ≤ MAX_GRAMMAR
+        → length (canon.grammar_text (rules_of peg.now.rules)) ≤ max_grammar
         → ReadsAs (canon.grammar_text (rules_of peg.now.rules)) (rules_of peg.now.rules) }
 {
     for id in 0..peg.rules.len() {

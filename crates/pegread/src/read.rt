@@ -9,6 +9,7 @@ ghost use Rattle.pegread.specs.Reading.{Reads, IsFaultOf};
 ghost use Rattle.pegread.specs.Spelling.{Grammar};
 ghost use Rattle.pegread.specs.Steps.{config_of, rules_from, Takes};
 ghost use Rattle.pegread.specs.Predicates.{hopeless_fault};
+ghost use Rattle.lexer.specs.GrammarLimits.{max_grammar};
 ghost use Rattle.lexer.specs.TokenLists.{tok, tok_of, kind_of};
 ghost use Rattle.pegread.specs.Tokens.{Tok, Next};
 ghost use Rattle.pegread.specs.Words.{Word, Says, SayAll};
@@ -34,7 +35,7 @@ use std::alloc::Global;
 ///   for any other. The line is that of the token's first byte, where lines end with LF, CR LF or CR.
 /// - `Memory` if an allocation fails.
 pub fn read_peg(alloc: Global, text: &[u8]) -> Result<Peg, ReadFault>
-    ensures long { MAX_GRAMMAR < length text.now → result ≡ Err ReadFault.TooLong }
+    ensures long { max_grammar < length text.now → result ≡ Err ReadFault.TooLong }
     ensures found { IfOk result (λ peg. (definitions : List Rule) × Reads text.now definitions
         × IsTableOf definitions peg.rules peg.redefined.items) }
     ensures only { (definitions : List Rule) → Reads text.now definitions
@@ -53,7 +54,7 @@ pub fn read_peg(alloc: Global, text: &[u8]) -> Result<Peg, ReadFault>
 
 // Reads the definitions of a text that isn't too long.
 fn read_definitions(alloc: Global, text: &[u8]) -> Result<Vec<Definition<'_>>, ReadFault>
-    requires { length text.now ≤ MAX_GRAMMAR }
+    requires { length text.now ≤ max_grammar }
     ensures found { IfOk result (λ ds. Reads text.now (rules_from ds.items)) }
     ensures fault { IfErr result (λ f. IsFaultOf text.now f) }
 {

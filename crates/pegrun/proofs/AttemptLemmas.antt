@@ -13,8 +13,8 @@ use Rattle.gramcheck.proofs.StartRuleLemmas.{rises_of_start, grows_of_start}
 use Rattle.pegmatch.specs.Answers.{StartGives}
 use Rattle.pegmatch.specs.Text.{text_of}
 use Rattle.pegrun.specs.Attempts.{IsAttempt}
-use Rattle.pegrun.specs.declared.unit.Attempt.{Attempt}
-use Rattle.pegrun.specs.declared.unit.Attempt.TheVariants.{Printed, Failed, TooLong, NoMemory}
+use Rattle.pegrun.specs.declared.attempt.Attempt.{Attempt}
+use Rattle.pegrun.specs.declared.attempt.Attempt.TheVariants.{Printed, Failed, TooLong, NoMemory}
 use Rattle.pegrun.proofs.TextOfLemmas.{text_same}
 
 module _ (g : Grammar) (front back : List ℕ) (raw : Bool) where

@@ -1,6 +1,6 @@
 -- The units so far, and the step that follows them.
 -- Serves: run_peg (right)
-use Rattle.std.proofs.Common.{◌≡◌, ℕ, ◌+◌, Bool, true, false, List, [], ◌++◌, length, take, Option, refl, arith}
+use Rattle.std.proofs.Common.{◌≡◌, ℕ, suc, ◌+◌, Bool, true, false, List, [], ◌++◌, length, take, Option, refl, arith}
 use Rattle.std.proofs.Common.{◌≤◌, ◌∙◌, ap, inl, inr, sym, subst, append_assoc}
 use Rattle.std.proofs.Math.Seq.{take-append_seam}
 use Rattle.std.specs.Prelude.{Result, Ok, Err}
@@ -18,7 +18,7 @@ use Rattle.pegrun.specs.Attempts.{IsStep}
 use Rattle.toolrun.specs.Input.{Input}
 use Rattle.pegrun.specs.PegStopped.{IsCut}
 use Rattle.pegrun.specs.PegReply.{RunStates}
-use Rattle.pegrun.specs.Units.{Units, none, one_more, Ends, taken_at}
+use Rattle.pegrun.specs.Units.{Units, none, one_more, Ends, taken_at, unit_count}
 use Rattle.toolrun.specs.Agrees.{Agrees}
 use Rattle.toolrun.specs.RunSteps.{Begins, EndsTold, HasToldRun}
 use Rattle.toolrun.specs.Stopped.{Fulfils}
@@ -47,11 +47,13 @@ module _ (rules : List Rule) (start : ℕ) (settings : Settings) (input : Input)
     (place : ℕ) (text : List ℕ) (taken : ℕ)
     (units : Units rules start settings input place text) (wrote : Appends old mid text) where
   pub one_more_unit : (n : ℕ) → IsStep rules start settings input place mid new (Ok (Takes n)) →
-      (longer : List ℕ) × Units rules start settings input (place + n) longer × Appends old new longer
+      (longer : List ℕ) × (later : Units rules start settings input (place + n) longer) × Appends old new longer ×
+      (unit_count rules start settings input later ≡ suc (unit_count rules start settings input units))
   one_more_unit n (unit, is, more, some) = (
     text ++ unit,
     one_more place n text unit units is some,
     Appends-join old mid new text unit wrote more,
+    refl,
   )
 
   -- the unit that was taken is the one before the next, and is kept

@@ -3,6 +3,7 @@ pub mod CutLemmas
 pub mod FirstsLemmas
 pub mod FollowsLemmas
 pub mod LooksOfStartLemmas
+pub mod MatchCallsLemmas
 pub mod NextUnitLemmas
 pub mod OneReplyLemmas
 pub mod OpenPegLemmas

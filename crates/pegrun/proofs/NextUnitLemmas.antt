@@ -19,8 +19,8 @@ use Rattle.pegrun.specs.Units.{taken_at}
 use Rattle.toolrun.specs.declared.settings.Settings.{Settings}
 use Rattle.toolrun.specs.declared.status.Status.TheVariants.{Done}
 use Rattle.toolrun.specs.declared.stop.Stop.TheVariants as stop
-use Rattle.pegrun.specs.declared.unit.Attempt.{Attempt}
-use Rattle.pegrun.specs.declared.unit.Attempt.TheVariants.{Printed, Failed, TooLong, NoMemory}
+use Rattle.pegrun.specs.declared.attempt.Attempt.{Attempt}
+use Rattle.pegrun.specs.declared.attempt.Attempt.TheVariants.{Printed, Failed, TooLong, NoMemory}
 use Rattle.pegrun.specs.declared.unit.Step.{Step}
 use Rattle.pegrun.specs.declared.unit.Step.TheVariants.{Stops}
 use Rattle.toolrun.proofs.AgreesLemmas.{bytes_len, rest_held, rest_is, taken_end, taken_full, window_is}

@@ -20,8 +20,8 @@ use Rattle.pegrun.specs.Units.{empty_at_end}
 use Rattle.toolrun.specs.declared.settings.Settings.{Settings}
 use Rattle.toolrun.specs.declared.status.Status.TheVariants.{Done}
 use Rattle.toolrun.specs.declared.stop.Stop.TheVariants.{Quiet, NoMatch, Broken}
-use Rattle.pegrun.specs.declared.unit.Attempt.{Attempt}
-use Rattle.pegrun.specs.declared.unit.Attempt.TheVariants.{Printed, Failed, TooLong, NoMemory}
+use Rattle.pegrun.specs.declared.attempt.Attempt.{Attempt}
+use Rattle.pegrun.specs.declared.attempt.Attempt.TheVariants.{Printed, Failed, TooLong, NoMemory}
 use Rattle.pegrun.proofs.WindowLemmas.{window_seen, seen_text, seen_long}
 
 module _ (g : Grammar) (settings : Settings) (input : Input) (s : ℕ) (inside : s ≤ length input.bytes) where

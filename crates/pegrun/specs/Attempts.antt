@@ -1,8 +1,8 @@
 -- What one attempt at a unit comes to, and what it writes.
 use Rattle.std.specs.Prelude.{◌≡◌, ℕ, zero, suc, ◌+◌, ◌<◌, ◌≤◌, ◌⊎◌, ◌==◌, ⊤, Bool, true, List, length, Option, Result}
-use Rattle.std.specs.Prelude.{Ok, Err, if◌then◌else◌}
+use Rattle.std.specs.Prelude.{Ok, Err, Some, None, if◌then◌else◌}
 use Rattle.std.specs.Io.KnownBytes.{Appends, Keeps}
-use Rattle.ruletable.specs.Writing.{AppendsPart}
+use Rattle.ruletable.specs.Writing.{AppendsPart, Flags}
 use Rattle.ruletable.specs.declared.sink.WriteFault.{WriteFault}
 use Rattle.pegread.specs.Pattern.{Rule}
 use Rattle.gramcheck.specs.Grammar.{Grammar}
@@ -15,8 +15,8 @@ use Rattle.toolrun.specs.declared.settings.Settings.{Settings}
 use Rattle.toolrun.specs.declared.stop.Stop.{Stop}
 use Rattle.toolrun.specs.declared.status.Status.TheVariants.{Done}
 use Rattle.toolrun.specs.declared.stop.Stop.TheVariants as stop
-use Rattle.pegrun.specs.declared.unit.Attempt.{Attempt}
-use Rattle.pegrun.specs.declared.unit.Attempt.TheVariants.{Printed, Failed, TooLong, NoMemory}
+use Rattle.pegrun.specs.declared.attempt.Attempt.{Attempt}
+use Rattle.pegrun.specs.declared.attempt.Attempt.TheVariants.{Printed, Failed, TooLong, NoMemory}
 use Rattle.pegrun.specs.declared.unit.Step.{Step}
 use Rattle.pegrun.specs.declared.unit.Step.TheVariants.{Takes as Goes, Stops}
 
@@ -34,6 +34,18 @@ IsAttempt g window more raw old new (Ok NoMemory) = Keeps old new
 IsAttempt g window more raw old new (Err fault) = (k : ℕ) × (events : List Event) × (looked : ℕ) ×
     StartGives g window (Takes k events) looked × WasEnough window more looked
     × AppendsPart old new (text_of raw window events)
+
+-- What came of the first piece of a window stands for the window, whatever follows it. Without an answer nothing is
+-- printed.
+abbrev pub IsFrontAttempt : Grammar → List ℕ → Bool → Option (List ℕ) → Option (List ℕ)
+    → Option (Result Attempt WriteFault) → Type 0
+IsFrontAttempt g window raw old new None = Keeps old new
+IsFrontAttempt g window raw old new (Some attempted) = (more : Bool) → IsAttempt g window more raw old new attempted
+
+-- without an answer the writer has not failed
+abbrev pub FrontFlags : Bool → Bool → Option (Result Attempt WriteFault) → Type 0
+FrontFlags old new None = new ≡ old
+FrontFlags old new (Some attempted) = Flags old new attempted
 
 -- how a run ends at a place where no unit goes on
 abbrev pub stop_at : ℕ → ℕ → Stop

@@ -1,5 +1,6 @@
 pub mod Answers
 pub mod Attempts
+pub mod MatchCalls
 pub mod Noted
 pub mod OpenPeg
 pub mod PastUnits

@@ -1,17 +1,19 @@
 //! The units of an input that is read as far as they need it.
-ghost use Rattle.std.specs.Prelude.{◌≡◌, ℕ, List, ◌+◌, [], length, false};
+ghost use Rattle.std.specs.Prelude.{◌≡◌, ℕ, List, ◌+◌, [], length, false, IfSome};
 ghost use Rattle.std.specs.Io.KnownBytes.{Consumes};
 ghost use Rattle.ruletable.specs.Writing.{Flags};
 ghost use Rattle.feed.specs.Feed.{IsTrueOfReader, SameLoan, allowance_of, bytes_of, capacity_of, flow_of, input_limit};
 ghost use Rattle.feed.specs.Feed.{reader_of};
 ghost use Rattle.pegread.specs.PegViews.{rules_of};
 ghost use Rattle.toolrun.specs.Agrees.{Agrees};
-ghost use Rattle.toolrun.specs.Input.{Input};
+ghost use Rattle.toolrun.specs.Input.{Input, input_from};
+ghost use Rattle.pegrun.specs.MatchCalls.{HasFewCalls, calls_of};
 ghost use Rattle.pegrun.specs.PegReply.{RunStates};
 ghost use Rattle.pegrun.specs.PegStopped.{IsCut};
 ghost use Rattle.toolrun.specs.Stopped.{Fulfils};
 ghost use Rattle.toolrun.specs.Stream.{passed};
 
+use crate::attempt::CountedMatcher;
 use crate::past::{Past, ending_at};
 use crate::unit::{Step, next_unit};
 use feed::{Feed, Source};
@@ -25,7 +27,7 @@ use toolrun::{Ending, Settings, Stop};
 /// ask for that, it explains how the run ends.
 pub fn cut<M: Matcher, R: Source, O: Sink>(
     alloc: Global,
-    matcher: &mut M,
+    matcher: &mut CountedMatcher<M>,
     peg: &SoundPeg,
     settings: &Settings<'_>,
     feed: &mut Feed<'_, R>,
@@ -43,7 +45,8 @@ pub fn cut<M: Matcher, R: Source, O: Sink>(
         (allowance_of feed.new + length seen ≡ input_limit) ×
         ((input : Input) → Agrees seen (flow_of feed.new) input → IsCut (rules_of peg.now.rules) peg.now.start
         settings.now input (length seen)
-        (O.contents out.old) (O.contents out.new) result) }
+        (O.contents out.old) (O.contents out.new) result × HasFewCalls (rules_of peg.now.rules) peg.now.start
+        settings.now input (length seen) (calls_of matcher.old) (calls_of matcher.new)) }
     ensures flag { Flags (O.failed out.old) (O.failed out.new) result }
 {
     let mut start = 0;
@@ -66,7 +69,7 @@ pub fn cut<M: Matcher, R: Source, O: Sink>(
 /// Runs the units of a grammar on what a reader gives.
 pub fn run_units<M: Matcher, R: Source, O: Sink>(
     alloc: Global,
-    matcher: &mut M,
+    matcher: &mut CountedMatcher<M>,
     peg: &SoundPeg,
     settings: &Settings<'_>,
     reader: &mut R,
@@ -75,8 +78,12 @@ pub fn run_units<M: Matcher, R: Source, O: Sink>(
     requires reader_is_fresh { R.failed reader.old ≡ false }
     requires reader_is_open { R.ended reader.old ≡ false }
     requires out_is_fresh { O.failed out.old ≡ false }
-    ensures { Fulfils (RunStates (rules_of peg.now.rules) peg.now.start settings.now)
+    ensures runs { Fulfils (RunStates (rules_of peg.now.rules) peg.now.start settings.now)
         (passed R.remaining R.failed reader.old reader.new) (passed O.contents O.failed out.old out.new) result }
+    ensures calls { IfSome (R.remaining reader.old) (λ given. (taken : List ℕ) ×
+        Consumes (R.remaining reader.old) (R.remaining reader.new) taken × HasFewCalls (rules_of peg.now.rules)
+        peg.now.start settings.now (input_from given taken (R.failed reader.new)) (length taken)
+        (calls_of matcher.old) (calls_of matcher.new)) }
 {
     // its contract says that the grammar is sound
     let _ = peg.start();

@@ -1,6 +1,7 @@
 //! The peg tool: it reads a grammar, checks or prints it or runs it on an input, and answers on two writers.
 #![tactic(auto)]
 
+mod attempt;
 mod engine;
 mod laws;
 mod open_law;

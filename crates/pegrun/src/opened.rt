@@ -9,6 +9,7 @@ ghost use Rattle.ruletable.specs.Notes.{said_of};
 ghost use Rattle.toolrun.specs.Stopped.{Fulfils};
 ghost use Rattle.toolrun.specs.Stream.{passed};
 
+use crate::attempt::CountedMatcher;
 use crate::engine::run_units;
 use crate::peg_language::PegLanguage;
 use feed::Source;
@@ -24,7 +25,7 @@ use toolrun::{Checked, Ending, Language, Settings};
 #[derive(Drop)]
 pub struct PegRunner {
     grammar: SoundPeg,
-    matcher: Packrat,
+    matcher: CountedMatcher<Packrat>,
 }
 
 impl Model for PegRunner {
@@ -108,7 +109,7 @@ pub fn open_peg(alloc: Global, text: &[u8], settings: &Settings<'_>) -> Result<O
             runner: None,
         });
     };
-    let matcher = Packrat::new(alloc);
+    let matcher = CountedMatcher::new(Packrat::new(alloc));
     Ok(OpenedPeg {
         notes,
         runner: Some(PegRunner { grammar, matcher }),

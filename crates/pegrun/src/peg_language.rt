@@ -9,6 +9,7 @@ ghost use Rattle.pegrun.specs.Answers.{States};
 ghost use Rattle.pegrun.specs.PegLanguage.{IsChecked, IsPrintable, IsReadAs};
 ghost use Rattle.pegrun.specs.PegReply.{RunStates};
 
+use crate::attempt::CountedMatcher;
 use crate::engine::run_units;
 use feed::Source;
 use gramcheck::{SoundPeg, check_peg, redefinitions};
@@ -104,7 +105,7 @@ impl Language for PegLanguage {
         reader: &mut R,
         out: &mut O,
     ) -> Result<Ending, WriteFault> {
-        let mut matcher = Packrat::new(alloc);
+        let mut matcher = CountedMatcher::new(Packrat::new(alloc));
         run_units(alloc, &mut matcher, grammar, settings, reader, out)
     }
 

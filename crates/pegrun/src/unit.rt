@@ -1,67 +1,28 @@
 //! One unit at the front of what a feed holds.
-ghost use Rattle.std.specs.Prelude.{◌≡◌, ◌≢◌, ℕ, List, Bool, ◌≤◌, ◌<◌, ◌+◌, ◌++◌, Ok, length, true, false};
-ghost use Rattle.std.specs.Io.KnownBytes.{Keeps};
+ghost use Rattle.std.specs.Prelude.{◌≡◌, ℕ, List, ◌≤◌, ◌<◌, ◌+◌, ◌++◌, length, true, false};
 ghost use Rattle.ruletable.specs.Writing.{Flags};
 ghost use Rattle.feed.specs.Feed.{Grows, IsTrueOfReader, SameFeed, SameLoan, allowance_of, bytes_of, capacity_of};
 ghost use Rattle.feed.specs.Feed.{flow_of, input_limit};
 ghost use Rattle.pegread.specs.PegViews.{rules_of};
 ghost use Rattle.toolrun.specs.Agrees.{Agrees};
-ghost use Rattle.pegrun.specs.Attempts.{IsAttempt, IsStep, IsStepOn, StaysWithin, step_after, stop_at};
+ghost use Rattle.pegrun.specs.Attempts.{FrontFlags, IsAttempt, IsFrontAttempt, IsStep, IsStepOn, StaysWithin};
+ghost use Rattle.pegrun.specs.Attempts.{step_after, stop_at};
+ghost use Rattle.pegrun.specs.MatchCalls.{calls_of};
 ghost use Rattle.toolrun.specs.Input.{Input};
 ghost use Rattle.pegrun.specs.Units.{taken_at};
 
+use crate::attempt::{Attempt, CountedMatcher};
 use feed::{Feed, Held, Source};
 use gramcheck::SoundPeg;
-use pegmatch::{Matcher, ReplayFault, Unit};
+use pegmatch::Matcher;
 use ruletable::{Sink, WriteFault};
 use toolrun::{Settings, Status, Stop};
 
-/// What came of the start rule at the front of a window.
-#[derive(Clone, Copy, Debug, PartialEq, Eq)]
-pub enum Attempt {
-    /// It takes this many bytes, and its text is printed.
-    Printed(usize),
-    /// It fails.
-    Failed,
-    /// It would look at the last byte of a window behind which there is more.
-    TooLong,
-    /// An allocation failed; nothing is printed.
-    NoMemory,
-}
-
 /// What follows at a place: a unit of so many bytes, or a stop.
-#[derive(Clone, Copy, Debug, PartialEq, Eq)]
+#[derive(Clone, Copy)]
 pub enum Step {
     Takes(usize),
     Stops(Stop),
-}
-
-/// Runs the start rule at the front of a window, and prints the text of a success.
-#[inline(always)]
-fn print_unit<M: Matcher, O: Sink>(
-    matcher: &mut M,
-    peg: &SoundPeg,
-    window: &[u8],
-    more: bool,
-    raw: bool,
-    out: &mut O,
-) -> Result<Attempt, WriteFault>
-    requires some { more ≡ true → 0 < length window.now }
-    requires out_is_fresh { O.failed out.old ≡ false }
-    ensures answer { IsAttempt peg.now window.now more raw (O.contents out.old) (O.contents out.new) result }
-    ensures flag { Flags (O.failed out.old) (O.failed out.new) result }
-{
-    let end = match matcher.match_unit(peg, window, more) {
-        Ok(Unit::Took { end, .. }) => end,
-        Ok(Unit::Failed { .. }) => return Ok(Attempt::Failed),
-        Ok(Unit::Need) => return Ok(Attempt::TooLong),
-        Err(_) => return Ok(Attempt::NoMemory),
-    };
-    match matcher.replay(peg, window, raw, out) {
-        Ok(()) => Ok(Attempt::Printed(end)),
-        Err(ReplayFault::Memory) => Ok(Attempt::NoMemory),
-        Err(ReplayFault::Write) => Err(WriteFault),
-    }
 }
 
 /// Returns how a run ends where no unit goes on at a place.
@@ -94,37 +55,40 @@ fn step_of(
     }
 }
 
-/// Runs the start rule on the first piece of what a feed holds, where that is most of it but not all. `TooLong` puts
-/// the answer off.
+/// Runs the start rule on the first piece of what a feed holds, where that is most of it but not all. Returns no answer
+/// if it does not run the rule, or if the piece is too short for one.
 #[inline(always)]
 fn attempt_front<M: Matcher, R: Source, O: Sink>(
-    matcher: &mut M,
+    matcher: &mut CountedMatcher<M>,
     peg: &SoundPeg,
     feed: &Feed<'_, R>,
     raw: bool,
     out: &mut O,
-) -> Result<Attempt, WriteFault>
+) -> Option<Result<Attempt, WriteFault>>
     requires { O.failed out.old ≡ false }
-    ensures answer { result ≢ Ok Attempt.TooLong → (more : Bool) →
-        IsAttempt peg.now (bytes_of feed.now) more raw (O.contents out.old) (O.contents out.new) result }
-    ensures kept { result ≡ Ok Attempt.TooLong → Keeps (O.contents out.old) (O.contents out.new) }
-    ensures flag { Flags (O.failed out.old) (O.failed out.new) result }
+    ensures answer { IsFrontAttempt peg.now (bytes_of feed.now) raw (O.contents out.old) (O.contents out.new) result }
+    ensures flag { FrontFlags (O.failed out.old) (O.failed out.new) result }
+    ensures once { calls_of matcher.new ≤ calls_of matcher.old + 1 }
 {
     let front = feed.front();
     let held = feed.len();
     if front.len() == held {
-        return Ok(Attempt::TooLong);
+        return None;
     }
     if front.len() <= held / 4 * 3 {
-        return Ok(Attempt::TooLong);
+        return None;
     }
-    print_unit(matcher, peg, front, true, raw, out)
+    let attempted = matcher.print_unit(peg, front, true, raw, out);
+    if attempted == Ok(Attempt::TooLong) {
+        return None;
+    }
+    Some(attempted)
 }
 
 /// Runs the start rule on all that a feed holds.
 #[inline(always)]
 fn attempt_all<M: Matcher, R: Source, O: Sink>(
-    matcher: &mut M,
+    matcher: &mut CountedMatcher<M>,
     peg: &SoundPeg,
     feed: &mut Feed<'_, R>,
     more: bool,
@@ -136,16 +100,17 @@ fn attempt_all<M: Matcher, R: Source, O: Sink>(
     ensures same { SameFeed feed.old feed.new }
     ensures answer { IsAttempt peg.now (bytes_of feed.old) more raw (O.contents out.old) (O.contents out.new) result }
     ensures flag { Flags (O.failed out.old) (O.failed out.new) result }
+    ensures once { calls_of matcher.new ≤ calls_of matcher.old + 1 }
 {
     let window: &[u8] = feed.window();
-    print_unit(matcher, peg, window, more, raw, out)
+    matcher.print_unit(peg, window, more, raw, out)
 }
 
 /// Runs the start rule at the front of what a feed holds, and prints the text of a success. It is put in one piece only
-/// where its first piece is too short for an answer.
+/// where its first piece gives no answer.
 #[inline(always)]
 fn attempt_unit<M: Matcher, R: Source, O: Sink>(
-    matcher: &mut M,
+    matcher: &mut CountedMatcher<M>,
     peg: &SoundPeg,
     feed: &mut Feed<'_, R>,
     more: bool,
@@ -157,20 +122,18 @@ fn attempt_unit<M: Matcher, R: Source, O: Sink>(
     ensures same { SameFeed feed.old feed.new }
     ensures answer { IsAttempt peg.now (bytes_of feed.old) more raw (O.contents out.old) (O.contents out.new) result }
     ensures flag { Flags (O.failed out.old) (O.failed out.new) result }
+    ensures twice { calls_of matcher.new ≤ calls_of matcher.old + 2 }
 {
     match attempt_front(matcher, peg, feed, raw, out) {
-        Ok(Attempt::TooLong) => attempt_all(matcher, peg, feed, more, raw, out),
-        Ok(Attempt::Printed(n)) => Ok(Attempt::Printed(n)),
-        Ok(Attempt::Failed) => Ok(Attempt::Failed),
-        Ok(Attempt::NoMemory) => Ok(Attempt::NoMemory),
-        Err(fault) => Err(fault),
+        Some(attempted) => attempted,
+        None => attempt_all(matcher, peg, feed, more, raw, out),
     }
 }
 
 /// Runs one unit at the front of what a feed holds.
 #[inline(always)]
 fn unit_at<M: Matcher, R: Source, O: Sink>(
-    matcher: &mut M,
+    matcher: &mut CountedMatcher<M>,
     peg: &SoundPeg,
     feed: &mut Feed<'_, R>,
     more: bool,
@@ -185,6 +148,7 @@ fn unit_at<M: Matcher, R: Source, O: Sink>(
     ensures follows { IsStepOn peg.now (bytes_of feed.old) more settings.now start (O.contents out.old)
         (O.contents out.new) result }
     ensures flag { Flags (O.failed out.old) (O.failed out.new) result }
+    ensures twice { calls_of matcher.new ≤ calls_of matcher.old + 2 }
 {
     let end = start + feed.len();
     let attempted = attempt_unit(matcher, peg, feed, more, settings.raw, out);
@@ -194,7 +158,7 @@ fn unit_at<M: Matcher, R: Source, O: Sink>(
 /// Reads until `limit` + 1 bytes are held, the input ends or a read fails, and runs one unit.
 #[inline(always)]
 pub fn next_unit<M: Matcher, R: Source, O: Sink>(
-    matcher: &mut M,
+    matcher: &mut CountedMatcher<M>,
     peg: &SoundPeg,
     settings: &Settings<'_>,
     feed: &mut Feed<'_, R>,
@@ -215,6 +179,7 @@ pub fn next_unit<M: Matcher, R: Source, O: Sink>(
         (length (before ++ bytes_of feed.new) ≡ taken_at settings.now input start) }
     ensures fits { StaysWithin (start + length (bytes_of feed.new)) start result }
     ensures flag { Flags (O.failed out.old) (O.failed out.new) result }
+    ensures twice { calls_of matcher.new ≤ calls_of matcher.old + 2 }
 {
     // its contract says that the grammar is sound
     let _ = peg.start();

@@ -10,14 +10,15 @@ use Rattle.abnfcheck.specs.Beginnings.{BeginsMember}
 use Rattle.abnfcheck.specs.Derivable.{AreLetters, Derives, RuleDerives}
 use Rattle.abnfcheck.proofs.YieldsLemmas.{letters_both}
 use Rattle.flatgrammar.specs.Flat.{Nothing, Flat}
-use Rattle.flatgrammar.specs.Lowered.{Spells, spells, shows_prose, IsLowered}
-use Rattle.flatgrammar.specs.NullElements.{AreNullAlike}
-use Rattle.flatgrammar.specs.Places.{size, sizes}
-use Rattle.flatgrammar.specs.ToldBeginnings.{HasItem, TellsBeginnings}
-use Rattle.flatgrammar.proofs.BeforeLemmas.{get_below}
-use Rattle.flatgrammar.proofs.RuleDerivesLemmas.{derives_exactly}
+use Rattle.lowering.specs.Lowered.{Spells, spells, shows_prose, IsLowered}
+use Rattle.lowering.specs.NullElements.{AreNullAlike}
+use Rattle.lowering.specs.Sizes.{size, sizes}
+use Rattle.flatgrammar.specs.Holds.{HasItem}
+use Rattle.lowering.specs.ToldBeginnings.{TellsBeginnings}
+use Rattle.flatgrammar.proofs.SliceGetLemmas.{get_below}
+use Rattle.lowering.proofs.RuleDerivesLemmas.{derives_exactly}
 use Rattle.abnfcheck.proofs.RuleIdLemmas.{body_at_id}
-use Rattle.flatgrammar.proofs.RuleNodeLemmas.{get_there}
+use Rattle.flatgrammar.proofs.SliceGetLemmas.{get_there}
 use Rattle.prune.specs.Pruned.{IsProductive, Keeps, keep_text, keep_values, keep_range, keep_concat, keep_alt}
 use Rattle.prune.specs.Pruned.{keep_rep, empty_rep, keep_opt, empty_opt, keep_name, KeepsAll, keep_none, keep_more}
 use Rattle.prune.specs.Pruned.{KeepsSome, some_none, kept, dropped, IsLeftBody, left_body, no_body, ArePruned}

@@ -15,14 +15,14 @@ use Rattle.abnfcheck.proofs.YieldsLemmas.{letters_both}
 use Rattle.flatgrammar.specs.Flat.{Node, Flat, Name, Place, at, Calling, Starts, starts, name_starts, reads, Calls}
 use Rattle.flatgrammar.specs.Flat.{calls}
 use Rattle.flatgrammar.specs.Holds.{Holds, begins, called, has_read, returned}
-use Rattle.flatgrammar.specs.Lowered.{Spells, spells, Shows, shows_name, shows_concat, spell_none, spell_more}
-use Rattle.flatgrammar.specs.Lowered.{IsLowered}
+use Rattle.lowering.specs.Lowered.{Spells, spells, Shows, shows_name, shows_concat, spell_none, spell_more}
+use Rattle.lowering.specs.Lowered.{IsLowered}
 use Rattle.flatgrammar.specs.Places.{width}
-use Rattle.flatgrammar.specs.ToldBeginnings.{HasItem}
-use Rattle.flatgrammar.proofs.OnLineLemmas.{short_on_line}
+use Rattle.flatgrammar.specs.Holds.{HasItem}
+use Rattle.lowering.proofs.OnLineLemmas.{short_on_line}
 use Rattle.flatgrammar.proofs.PlacesLemmas.{holds_place, calling_within}
-use Rattle.flatgrammar.proofs.ReachedLemmas.{Reached, holds_reached}
-use Rattle.flatgrammar.proofs.RuleNodeLemmas.{body_of_number}
+use Rattle.lowering.proofs.ReachedLemmas.{Reached, holds_reached}
+use Rattle.lowering.proofs.RuleNodeLemmas.{body_of_number}
 use Rattle.prune.specs.Pruned.{IsProductive}
 use Rattle.prune.proofs.LiveLemmas.{IsLive, live_concat, live_name, no_live, more_live, goes_on, part_of}
 

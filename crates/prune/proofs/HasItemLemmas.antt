@@ -15,18 +15,18 @@ use Rattle.abnfcheck.proofs.LiesLemmas.{OnLine, Lies, all_of}
 use Rattle.flatgrammar.specs.Flat.{Node, Flat, Letters, Concat, Alt, Rep, Place, at, Set, Has, Reading, Calling, Begins}
 use Rattle.flatgrammar.specs.Flat.{Starts, starts, name_starts, reads, calls}
 use Rattle.flatgrammar.specs.Holds.{Holds, begins, called, has_read}
-use Rattle.flatgrammar.specs.Lowered.{capped_most, Spells, spells, shows_text, shows_values, shows_range, shows_concat}
-use Rattle.flatgrammar.specs.Lowered.{shows_alt, shows_rep, shows_turns, shows_reversed, shows_opt, shows_name}
-use Rattle.flatgrammar.specs.Lowered.{SpellAll, spell_none, spell_more, AreBodies, IsLowered}
-use Rattle.flatgrammar.specs.ToldBeginnings.{HasItem}
-use Rattle.flatgrammar.proofs.BeforeLemmas.{Fit, fit_none, fit_more, text_fits, values_fit, Turned, turned_none}
-use Rattle.flatgrammar.specs.NullElements.{IsNeverEmpty}
-use Rattle.flatgrammar.proofs.NodeRunsLemmas.{next_of, turn_on, take_on, within_same, fewer_within}
-use Rattle.flatgrammar.proofs.NodeRunsLemmas.{node_runs, call_step, plain_node}
-use Rattle.flatgrammar.proofs.CappedMostLemmas.{most_is}
-use Rattle.flatgrammar.proofs.OnLineLemmas.{lies_count}
+use Rattle.lowering.specs.Lowered.{capped_most, Spells, spells, shows_text, shows_values, shows_range, shows_concat}
+use Rattle.lowering.specs.Lowered.{shows_alt, shows_rep, shows_turns, shows_reversed, shows_opt, shows_name}
+use Rattle.lowering.specs.Lowered.{SpellAll, spell_none, spell_more, AreBodies, IsLowered}
+use Rattle.flatgrammar.specs.Holds.{HasItem}
+use Rattle.lowering.proofs.BeforeLemmas.{Fit, fit_none, fit_more, text_fits, values_fit, Turned, turned_none}
+use Rattle.lowering.specs.NullElements.{IsNeverEmpty}
+use Rattle.lowering.proofs.NodeRunsLemmas.{next_of, turn_on, take_on, within_same, fewer_within}
+use Rattle.lowering.proofs.NodeRunsLemmas.{node_runs, call_step, plain_node}
+use Rattle.lowering.proofs.CappedMostLemmas.{most_is}
+use Rattle.lowering.proofs.OnLineLemmas.{lies_count}
 use Rattle.abnfcheck.proofs.RuleIdLemmas.{body_at_id}
-use Rattle.flatgrammar.proofs.RuleNodeLemmas.{node_of_rule}
+use Rattle.lowering.proofs.RuleNodeLemmas.{node_of_rule}
 
 -- one list ends within another
 append_splits : (w v u r : List ℕ) → w ++ v ≡ u ++ r → ((m : List ℕ) × (u ≡ w ++ m) × (v ≡ m ++ r))
@@ -91,7 +91,7 @@ module _ (has : ℕ → Bool) (rules : List Rule) (limit : ℕ) (flat : Flat)
     item_reached (der.alt d) s i j le (spells is (shows_alt {ms = ms} all)) u r cut l begin =
         reach_some d all s ms is 0 i j le refl u r cut l begin
     item_reached (der.rep {k = count} {b = b} low within d) s i j le
-        (spells is (shows_rep {c = c} {m = m} {d = d'} least most never sp)) u r cut l begin =
+        (spells is (shows_rep {c = c} {m = m} {d = d'} least most bounds never sp)) u r cut l begin =
         reach_times d s c m b d' most is sp never 0 0 i j i le (turned_none c d') (from_none count b within)
         (omega arith) u r cut l (begin (at s 0) (starts is Begins.rep))
       where

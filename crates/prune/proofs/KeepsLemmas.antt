@@ -8,7 +8,7 @@ use Rattle.abnfcheck.specs.Derivable.{AreLetters, AtMost, Derives, DerivesAll, D
 use Rattle.abnfcheck.specs.Derivable.{then, this, later, no_more, one_more}
 use Rattle.abnfcheck.proofs.AimLemmas.{spelled_itself}
 use Rattle.abnfcheck.proofs.YieldsLemmas.{letters_both, letters_parts}
-use Rattle.flatgrammar.specs.Places.{count, size, size_all}
+use Rattle.lowering.specs.Sizes.{count, size, size_all}
 use Rattle.prune.specs.Pruned.{IsProductive, AreAllProductive, Keeps, keep_text, keep_values, keep_range, keep_concat}
 use Rattle.prune.specs.Pruned.{keep_alt, keep_rep, empty_rep, keep_opt, empty_opt, keep_name, KeepsAll, keep_none}
 use Rattle.prune.specs.Pruned.{keep_more, KeepsSome, some_none, kept, dropped}

@@ -11,16 +11,16 @@ use Rattle.abnfcheck.specs.Derivable.{AreLetters, Derives, DerivesAll, DerivesTi
 use Rattle.abnfcheck.specs.Derivable.{one_more}
 use Rattle.abnfcheck.proofs.YieldsLemmas.{letters_both}
 use Rattle.flatgrammar.specs.Flat.{Node, Concat, Set, Turns, Between, Calling}
-use Rattle.flatgrammar.specs.Lowered.{Spells, Shows, shows_text, shows_values, shows_range, shows_concat, shows_alt}
-use Rattle.flatgrammar.specs.Lowered.{shows_rep, shows_turns, shows_reversed, shows_opt, shows_name, shows_prose}
-use Rattle.flatgrammar.specs.Lowered.{SpellAll, spell_none, spell_more}
+use Rattle.lowering.specs.Lowered.{Spells, Shows, shows_text, shows_values, shows_range, shows_concat, shows_alt}
+use Rattle.lowering.specs.Lowered.{shows_rep, shows_turns, shows_reversed, shows_opt, shows_name, shows_prose}
+use Rattle.lowering.specs.Lowered.{SpellAll, spell_none, spell_more}
 use Rattle.flatgrammar.specs.Places.{width}
-use Rattle.flatgrammar.proofs.CappedMostLemmas.{free_within}
-use Rattle.flatgrammar.proofs.BeforeLemmas.{Fit, fit_none, fit_more, fit_text, fit_values, text_fits, values_fit, first}
-use Rattle.flatgrammar.proofs.BeforeLemmas.{nth, turned_more, turns_most, few_counted, next_within, next_counted}
-use Rattle.flatgrammar.proofs.BeforeLemmas.{all_snoc, times_snoc, some_of, Before, in_letters, in_concat, alt_begun}
-use Rattle.flatgrammar.proofs.BeforeLemmas.{alt_done, in_rep, in_turns, opt_begun, opt_done, opt_passed, member_at}
-use Rattle.flatgrammar.proofs.BeforeLemmas.{get_below}
+use Rattle.lowering.proofs.CappedMostLemmas.{free_within}
+use Rattle.lowering.proofs.BeforeLemmas.{Fit, fit_none, fit_more, fit_text, fit_values, text_fits, values_fit, first}
+use Rattle.lowering.proofs.BeforeLemmas.{nth, turned_more, turns_most, few_counted, next_within, next_counted}
+use Rattle.lowering.proofs.BeforeLemmas.{all_snoc, times_snoc, some_of, Before, in_letters, in_concat, alt_begun}
+use Rattle.lowering.proofs.BeforeLemmas.{alt_done, in_rep, in_turns, opt_begun, opt_done, opt_passed, member_at}
+use Rattle.flatgrammar.proofs.SliceGetLemmas.{get_below}
 use Rattle.prune.specs.Pruned.{IsProductive}
 
 -- each part of an element is productive
@@ -193,7 +193,7 @@ module _ (has : ℕ → Bool) (rules : List Rule) where
             record { rest = one.word; letters = one.letters; derives = der.alt (this one.derives) }
     goes_on {w = w} (shows_alt {es = es} all) live lt letters (alt_done m same is d) =
         as_is w (der.alt (some_of has rules es m is d))
-    goes_on (shows_rep {a = a} {b = b} least most never sp) (live_rep within one l) lt letters
+    goes_on (shows_rep {a = a} {b = b} least most bounds never sp) (live_rep within one l) lt letters
         (in_rep {j = j} ds turned inside) =
         rep_rest a j b within inside one ds
     goes_on (shows_turns {a = a} {b = b} most some empty sp) (live_rep within one l) lt letters
@@ -237,7 +237,7 @@ module _ (has : ℕ → Bool) (rules : List Rule) where
         record { of = h.el; spelled = h.spelled; live = live_at k ls h.is; on = λ v c. alt_done k refl h.is c }
     part_of (Calling.alternative {ms = ms} {k = k} is) (shows_alt all) live (alt_done m same found d) short =
         absurd (let lt = get_below ms k is in omega (arith, lt, same))
-    part_of (Calling.turn {a = a} {k = k} {b = d} lt) (shows_rep {b = b} {el = el} least most never s)
+    part_of (Calling.turn {a = a} {k = k} {b = d} lt) (shows_rep {b = b} {el = el} least most bounds never s)
         (live_rep within one l) (in_rep {j = j} ds is inside) short =
         let few = turns_most has rules never ds in
         let under : j ≤ limit = omega (arith, few, short) in
@@ -248,8 +248,8 @@ module _ (has : ℕ → Bool) (rules : List Rule) where
           on = λ v c. in_rep (times_snoc has rules ds c) (turned_more a j k d lt
               is) (next_within limit a j k b d most under lt is);
         }
-    part_of (Calling.turn_uncounted {a = a}) (shows_rep {b = b} {el = el} least most never s) (live_rep within one l)
-        (in_rep {j = j} ds is inside) short =
+    part_of (Calling.turn_uncounted {a = a}) (shows_rep {b = b} {el = el} least most bounds never s)
+        (live_rep within one l) (in_rep {j = j} ds is inside) short =
         let few = turns_most has rules never ds in
         let under : j ≤ limit = omega (arith, few, short) in
         record {

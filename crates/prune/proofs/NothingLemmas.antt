@@ -5,7 +5,7 @@ use Rattle.std.specs.Prelude.{slice_get}
 use Rattle.flatgrammar.specs.Flat.{Flat, Node, Nothing, Concat, Place, at, Set, Begins, IsDone, Reading, Calling}
 use Rattle.flatgrammar.specs.Flat.{Starts, starts, name_starts, Ends, ends, name_ends, Reads, reads, Calls, calls}
 use Rattle.flatgrammar.specs.Holds.{Holds, begins, called, has_read, returned}
-use Rattle.flatgrammar.specs.ToldBeginnings.{HasItem}
+use Rattle.flatgrammar.specs.Holds.{HasItem}
 
 abbrev node_in : Place → ℕ
 node_in (at s k) = s

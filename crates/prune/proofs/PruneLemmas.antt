@@ -19,7 +19,7 @@ use Rattle.abnfcheck.specs.Derivable.{no_more, one_more, RuleDerives}
 use Rattle.abnfcheck.specs.RuleMarks as marks
 use Rattle.abnfcheck.proofs.YieldsLemmas.{letters_parts}
 use Rattle.fixpoint.specs.NumberMarks.{IsMarked}
-use Rattle.flatgrammar.proofs.BeforeLemmas.{get_below}
+use Rattle.flatgrammar.proofs.SliceGetLemmas.{get_below}
 use Rattle.abnfcheck.proofs.RuleIdLemmas.{body_at_id}
 use Rattle.prune.specs.Pruned.{IsProductive, AreAllProductive, Keeps, keep_values, empty_rep, keep_concat, keep_alt}
 use Rattle.prune.specs.Pruned.{KeepsAll, IsLeft, some_element}

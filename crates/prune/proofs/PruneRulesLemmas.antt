@@ -13,8 +13,8 @@ use Rattle.abnfread.specs.Element.{Element, bodies, id_of}
 use Rattle.abnfread.specs.AbnfViews.{element_of, rule_of, rules_of}
 use Rattle.abnfread.specs.declared.elem.Elem.{Elem}
 use Rattle.rulenames.proofs.IsAddedLemmas.{name_next}
-use Rattle.flatgrammar.proofs.BeforeLemmas.{get_below}
-use Rattle.flatgrammar.proofs.FlatCutLemmas.{push_cases}
+use Rattle.flatgrammar.proofs.SliceGetLemmas.{get_below}
+use Rattle.flatgrammar.proofs.SliceGetLemmas.{push_cases}
 use Rattle.prune.specs.Pruned.{IsLeftBody, ArePruned}
 
 -- the first i rules

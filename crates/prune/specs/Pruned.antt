@@ -6,8 +6,9 @@ use Rattle.abnfread.specs.AbnfViews.{element_of}
 use Rattle.abnfread.specs.declared.elem.Elem.{Elem}
 use Rattle.abnfcheck.specs.Derivable.{AreLetters, Derives, DerivesAll, AtMost}
 use Rattle.flatgrammar.specs.Flat.{Flat}
-use Rattle.flatgrammar.specs.Lowered.{IsLowered}
-use Rattle.flatgrammar.specs.Places.{places, sizes}
+use Rattle.lowering.specs.Lowered.{IsLowered}
+use Rattle.flatgrammar.specs.Places.{places}
+use Rattle.lowering.specs.Sizes.{sizes}
 use Rattle.letters.specs.Letters.{HasLetter}
 
 -- `has` tells the letters of the alphabet

@@ -2,15 +2,17 @@
 ghost use Rattle.std.specs.Prelude.{◌≡◌, ◌+◌, ◌≤◌, IfOk};
 ghost use Rattle.abnfread.specs.Element.{bodies};
 ghost use Rattle.abnfread.specs.AbnfViews.{rules_of};
-ghost use Rattle.flatgrammar.specs.Places.{places, sizes};
-ghost use Rattle.flatgrammar.specs.ToldBeginnings.{TellsBeginnings};
+ghost use Rattle.flatgrammar.specs.Places.{places};
+ghost use Rattle.lowering.specs.Sizes.{sizes};
+ghost use Rattle.lowering.specs.ToldBeginnings.{TellsBeginnings};
 ghost use Rattle.letters.specs.Letters.{has};
 ghost use Rattle.prune.specs.Pruned.{SpellsProductive};
 
 use crate::pruned::prune_rules;
 use abnfcheck::{SoundAbnf, productive};
-use flatgrammar::{Flat, lower_rules};
+use flatgrammar::Flat;
 use letters::Alphabet;
+use lowering::lower_rules;
 use ruletable::Memory;
 use std::alloc::Global;
 

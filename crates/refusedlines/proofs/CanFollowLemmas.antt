@@ -16,7 +16,7 @@ use Rattle.flatgrammar.specs.Flat.{Turns, Opt, Name, Nothing}
 use Rattle.flatgrammar.specs.Holds.{Holds, begins, called, has_read, returned}
 use Rattle.flatgrammar.specs.NodeSteps.{IfSomeSet}
 use Rattle.flatgrammar.specs.Places.{In}
-use Rattle.flatgrammar.specs.ToldBeginnings.{TellsBeginnings}
+use Rattle.lowering.specs.ToldBeginnings.{TellsBeginnings}
 use Rattle.flatgrammar.specs.Blocks.{spot}
 use Rattle.flatgrammar.specs.declared.block.Spot.{Spot}
 use Rattle.earleyitems.specs.ChartSets.{AreSpotsOf, IsSet}

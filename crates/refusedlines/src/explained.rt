@@ -5,7 +5,7 @@ ghost use Rattle.abnfread.specs.Element.{Rule};
 ghost use Rattle.letters.specs.declared.alphabet.Alphabet.{Alphabet as the_alphabet};
 ghost use Rattle.refusedlines.specs.Following.{AreFollowing, DerivesNothing};
 ghost use Rattle.abnfread.specs.AbnfViews.{rules_of};
-ghost use Rattle.flatgrammar.specs.ToldBeginnings.{TellsBeginnings};
+ghost use Rattle.lowering.specs.ToldBeginnings.{TellsBeginnings};
 ghost use Rattle.letters.specs.Letters.{has};
 ghost use Rattle.letters.specs.Utf8Text.{IsLongestText, Spells, numbers};
 ghost use Rattle.refusedlines.specs.Refusals.{IsExplained, IsRefusalTold, name_at, octet_count, octets as the_octets};

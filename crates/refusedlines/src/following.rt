@@ -2,7 +2,7 @@
 ghost use Rattle.std.specs.Prelude.{◌≡◌, ◌+◌, ◌≤◌, ℕ, Bool, List, length, map, IfOk};
 ghost use Rattle.abnfread.specs.Element.{Rule};
 ghost use Rattle.abnfcheck.specs.Beginnings.{IsFurthest};
-ghost use Rattle.flatgrammar.specs.ToldBeginnings.{TellsBeginnings};
+ghost use Rattle.lowering.specs.ToldBeginnings.{TellsBeginnings};
 ghost use Rattle.letters.specs.Letters.{has};
 ghost use Rattle.refusedlines.specs.declared.letterruns.run.LetterRun.{LetterRun as the_run};
 ghost use Rattle.refusedlines.specs.Following.{AreFollowing};
@@ -10,8 +10,9 @@ ghost use Rattle.refusedlines.specs.Following.{AreFollowing};
 use crate::letterruns::{LetterRun, runs_are_one};
 use crate::read_letters::letters_read;
 use earley::{Chart, judge, viable};
-use flatgrammar::{Flat, Verdict, values_are_letters};
+use flatgrammar::Flat;
 use letters::Letter;
+use lowering::{Verdict, values_are_letters};
 use ruletable::Memory;
 use std::alloc::Global;
 

@@ -3,7 +3,7 @@ ghost use Rattle.std.specs.Prelude.{◌≡◌};
 ghost use Rattle.ruletable.specs.Lines.{line_at, ends_line};
 
 /// Which bytes end a line.
-#[derive(Clone, Copy, Debug, PartialEq, Eq)]
+#[derive(Clone, Copy)]
 pub enum LineRule {
     /// LF alone.
     Lf,

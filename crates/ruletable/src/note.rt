@@ -6,7 +6,7 @@ ghost use Rattle.ruletable.specs.Writing.{Writes, Flags};
 use crate::sink::{Sink, WriteFault, write_pieces};
 
 /// The kinds of notes on a grammar, of both languages, in the order in which the notes of a grammar stand.
-#[derive(Clone, Copy, Debug, PartialEq, Eq)]
+#[derive(Clone, Copy)]
 pub enum NoteKind {
     /// A rule is defined more than once; its first definition stands.
     Redefined,

@@ -1,7 +1,7 @@
 //! Where a piece of a text lies.
 
 /// The bytes of a text from `start` up to but not with `end`.
-#[derive(Clone, Copy, Debug, PartialEq, Eq, Drop)]
+#[derive(Clone, Copy, PartialEq, Eq, Drop)]
 pub struct Span {
     pub start: usize,
     pub end: usize,

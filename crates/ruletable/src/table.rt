@@ -11,7 +11,7 @@ use std::alloc::Global;
 use std::marker::Model;
 
 /// How names compare.
-#[derive(Clone, Copy, Debug, PartialEq, Eq)]
+#[derive(Clone, Copy)]
 pub enum NameCase {
     /// Two names are one only where their bytes are.
     Exact,
@@ -27,7 +27,7 @@ struct Row<E> {
 }
 
 /// What `define` did: the id is the rule's position.
-#[derive(Clone, Copy, Debug, PartialEq, Eq)]
+#[derive(Clone, Copy, PartialEq, Eq)]
 pub enum Defined {
     /// The rule is new, and stands last.
     Added(usize),

@@ -3,8 +3,9 @@
 use crate::flat_grammars::flat;
 use crate::rooms::is_told;
 use earley::{Chart, judge};
-use flatgrammar::{Flat, items_at_most, items_tell};
+use flatgrammar::{Flat, items_at_most};
 use lazydfa::Automaton;
+use lowering::items_tell;
 use ruletable::Memory;
 use std::alloc::Global;
 use testio::{Fields, Text};

@@ -1,8 +1,9 @@
 //! Flat grammars.
 
 use crate::sound_grammars::sound;
-use flatgrammar::{Flat, Node, lower};
+use flatgrammar::{Flat, Node};
 use letters::Alphabet;
+use lowering::lower;
 use prune::lower_viable;
 use std::alloc::Global;
 use testio::{Fields, Text};

@@ -2,9 +2,10 @@
 
 use crate::flat_grammars::viable_flat;
 use earley::{Chart, viable};
-use flatgrammar::{Flat, Verdict};
+use flatgrammar::Flat;
 use lazydfa::Automaton;
 use letters::{Alphabet, Letter, decode};
+use lowering::Verdict;
 use ruletable::Memory;
 use std::alloc::Global;
 use testio::{Fields, Text};

@@ -1,5 +1,5 @@
 //! Shortest chains on small tables, found by hand.
-use shortestpaths::{Chains, chains_from, one_chain, one_way_back};
+use fixpoint::{Chains, chains_from, one_chain, one_way_back};
 use std::alloc::Global;
 use std::process::Abort;
 use std::test::Fail;

@@ -1,7 +1,7 @@
 -- What the steps at the end of a run tell together.
 -- Serves: finish, conclude
-use Rattle.std.proofs.Common.{◌≡◌, ℕ, ◌≤◌, Option, List, [], ◌++◌, refl, sym, ◌∙◌, ap, true, false, Bool, ◌⊎◌}
-use Rattle.std.specs.Prelude.{Result, Ok, Err}
+use Rattle.std.proofs.Common.{◌≡◌, ℕ, Option, List, [], ◌++◌, refl, sym, ◌∙◌, ap, true, false, Bool}
+use Rattle.std.specs.Prelude.{max, Result, Ok, Err}
 use Rattle.std.proofs.lemmas.List.{append-nil}
 use Rattle.std.specs.Io.KnownBytes.{Appends, Keeps}
 use Rattle.ruletable.specs.Writing.{Flags}
@@ -12,7 +12,7 @@ use Rattle.ruletable.proofs.AppendsLemmas.{IsBeginning-after}
 use Rattle.toolrun.specs.RunEnd.{ended_status, ended_text}
 use Rattle.toolrun.specs.declared.ending.Ending.{Ending}
 use Rattle.toolrun.specs.Stop.{write_error}
-use Rattle.toolrun.specs.Delivery.{IsTold, Reports}
+use Rattle.toolrun.specs.Delivery.{IsTold, Reports, greatest_met}
 use Rattle.toolrun.specs.Flush.{Flushes}
 use Rattle.toolrun.specs.Finish.{told_of, ending_of, Concludes}
 use Rattle.toolrun.specs.Status.{code_of}
@@ -36,8 +36,8 @@ not_true true c h isnt = let e : c ≡ true = h refl in absurd (cc)
 not_true false c h isnt = refl
 
 module _ (out_was out_now err_told err_flushed err_now : Bool) (e0 e1 : Option (List ℕ)) (more : List ℕ) (code : ℕ)
-    (flushes : Flushes out_was out_now err_told err_flushed more) (stays : err_flushed ≡ true → err_now ≡ true)
-    (high : (out_now ≡ true) ⊎ (err_now ≡ true) → 4 ≤ code) where
+    (flushes : Flushes out_was out_now err_told err_flushed more)
+    (stays : err_flushed ≡ true → err_now ≡ true) where
   told_clean : err_now ≡ false → err_told ≡ false
   told_clean isnt = not_true err_told err_now (λ e. stays (flushes.err_stays e)) isnt
 
@@ -55,25 +55,23 @@ module _ (out_was out_now err_told err_flushed err_now : Bool) (e0 e1 : Option (
 
   -- after a stop
   reports_stop : (text : List ℕ) (stated : ℕ) → out_was ≡ false → (f : First e0 e1 err_told text) →
-      (out_now ≡ false → err_now ≡ false → code ≡ stated) → Reports text stated out_now err_now (f.told ++ more) code
-  reports_stop text stated was f same = record {
+      code ≡ greatest_met stated out_now err_now → Reports text stated out_now err_now (f.told ++ more) code
+  reports_stop text stated was f met = record {
     told = λ out_ok. rw (flushes.quiet (out_ok ∙ sym was), append-nil) (f.part, λ err_ok. f.whole (told_clean err_ok));
     fault = λ out_bad. told_before text out_bad was f err_told refl;
-    status = same;
-    high = high;
+    status = met;
   }
 
   -- after a fault of the output
   reports_fault : (stated : ℕ) → out_was ≡ true → (f : First e0 e1 err_told write_error) →
-      Reports [] stated out_now err_now (f.told ++ more) code
-  reports_fault stated was f =
+      code ≡ greatest_met stated out_now err_now → Reports [] stated out_now err_now (f.told ++ more) code
+  reports_fault stated was f met =
       let bad : out_now ≡ true = flushes.out_stays was in
       record {
         told = λ out_ok. absurd (cc);
         fault = λ out_bad. rw (flushes.quiet (bad ∙ sym was), append-nil)
             (f.part, λ err_ok. f.whole (told_clean err_ok));
-        status = λ out_ok err_ok. absurd (cc);
-        high = high;
+        status = met;
       }
 
 pub finish_tells : {A E : Type 0} (ending : Result Ending WriteFault)
@@ -81,22 +79,46 @@ pub finish_tells : {A E : Type 0} (ending : Result Ending WriteFault)
     (r : Result A E) (code : ℕ) →
     Flags false out_was ending → Writes e0 e1 (told_of ending) r → Flags false err_told r →
     ((more : List ℕ) × Appends e1 e2 more × Flushes out_was out_now err_told err_flushed more) →
-    Keeps e2 e3 → (err_flushed ≡ true → err_now ≡ true) → ((out_now ≡ true) ⊎ (err_now ≡ true) → 4 ≤ code) →
-    (out_now ≡ false → err_now ≡ false → code ≡ code_of (ending_of ending)) →
+    Keeps e2 e3 → (err_flushed ≡ true → err_now ≡ true) →
+    code ≡ greatest_met (code_of (ending_of ending)) out_now err_now →
     (told : List ℕ) × Appends e0 e3 told × Concludes ending out_now err_now told code
 finish_tells (Ok ending) {out_was} {out_now} {err_told} {err_flushed} {err_now} e0 e1 e2 e3 r code
-    was w flag m kept stays high same =
+    was w flag m kept stays met =
     let f = first_told e0 e1 err_told (ended_text ending) r w flag in (
       f.told ++ m.0,
       Appends-kept e0 e2 e3 (f.told ++ m.0) (Appends-join e0 e1 e2 f.told m.0 f.taken m.1) kept,
-      reports_stop out_was out_now err_told err_flushed err_now e0 e1 m.0 code m.2 stays high (ended_text ending)
-          (code_of (ended_status ending)) was f same,
+      reports_stop out_was out_now err_told err_flushed err_now e0 e1 m.0 code m.2 stays (ended_text ending)
+          (code_of (ended_status ending)) was f met,
     )
 finish_tells (Err fault) {out_was} {out_now} {err_told} {err_flushed} {err_now} e0 e1 e2 e3 r code
-    was w flag m kept stays high same =
+    was w flag m kept stays met =
     let f = first_told e0 e1 err_told write_error r w flag in (
       f.told ++ m.0,
       Appends-kept e0 e2 e3 (f.told ++ m.0) (Appends-join e0 e1 e2 f.told m.0 f.taken m.1) kept,
-      reports_fault out_was out_now err_told err_flushed err_now e0 e1 m.0 code m.2 stays high
-          _ was f,
+      reports_fault out_was out_now err_told err_flushed err_now e0 e1 m.0 code m.2 stays
+          _ was f met,
     )
+
+-- the status met where a writer failed, and where none did
+pub met_by_out : (stated code : ℕ) (out_failed err_failed : Bool) → true ≡ out_failed → code ≡ max stated 4
+    → code ≡ greatest_met stated out_failed err_failed
+met_by_out stated code true err_failed bad is = is
+met_by_out stated code false err_failed bad is = absurd (cc)
+
+pub met_by_err : (stated code : ℕ) (out_failed err_failed : Bool) → true ≡ err_failed → code ≡ max stated 4
+    → code ≡ greatest_met stated out_failed err_failed
+met_by_err stated code true err_failed bad is = is
+met_by_err stated code false true bad is = is
+met_by_err stated code false false bad is = absurd (cc)
+
+pub met_by_none : (stated code : ℕ) (out_failed err_failed : Bool) → false ≡ out_failed → false ≡ err_failed
+    → code ≡ stated → code ≡ greatest_met stated out_failed err_failed
+met_by_none stated code true err_failed out_ok err_ok is = absurd (cc)
+met_by_none stated code false true out_ok err_ok is = absurd (cc)
+met_by_none stated code false false out_ok err_ok is = is
+
+pub met_of_none : (code stated : ℕ) (out_failed err_failed : Bool) → out_failed ≡ false → err_failed ≡ false
+    → code ≡ greatest_met stated out_failed err_failed → code ≡ stated
+met_of_none code stated true err_failed out_ok err_ok is = absurd (cc)
+met_of_none code stated false true out_ok err_ok is = absurd (cc)
+met_of_none code stated false false out_ok err_ok is = is

@@ -11,7 +11,7 @@ use Rattle.toolrun.specs.Explained.{Explained}
 use Rattle.toolrun.specs.Input.{Input}
 use Rattle.toolrun.specs.Language.{AreStated}
 use Rattle.toolrun.specs.NotesText.{notes_text}
-use Rattle.toolrun.specs.Plan.{Behind, behind_notes, in_reply, IsPlan, does_of, stopped, told_behind}
+use Rattle.toolrun.specs.Plan.{behind_notes, in_reply, IsPlanned, stopped, told_behind}
 use Rattle.toolrun.specs.Reply.{Reply, refusal, text_alone, unexplained_fault, without_memory}
 use Rattle.toolrun.specs.Stop.{unread}
 use Rattle.toolrun.specs.Tasks.{checked_task, task_does}
@@ -54,22 +54,16 @@ module _ (States : Input → List ℕ → Reply → Type 0) (IsFault : ReadFault
     (no_memory : (input : Input) → IsFault fault.Memory → States input [] (without_memory [] 0))
     {T : Type 0} (Does : T → Input → Reply → Type 0) where
   refused-plan : (why : ReadFault) → IsFault why → why ≢ fault.Memory
-      → IsPlan (Behind States) [] (does_of Does (Err (Refused why)))
-  refused-plan why faulty other = record {
-    stated = λ input reply is. rw is (behind_notes
-        (subst (States input []) (plain-refusal why) (refuses input why faulty other)));
-    some = λ input. (stopped (Refused why), refl);
-  }
+      → IsPlanned States [] Does (Err (Refused why))
+  refused-plan why faulty other = λ input. behind_notes
+      (subst (States input []) (plain-refusal why) (refuses input why faulty other))
 
-  pub unread-plan : (why : ReadFault) → IsFault why → IsPlan (Behind States) [] (does_of Does (Err (unread why)))
+  pub unread-plan : (why : ReadFault) → IsFault why → IsPlanned States [] Does (Err (unread why))
   unread-plan (fault.Syntax line) faulty = refused-plan (fault.Syntax line) faulty (λ e. absurd (cc))
   unread-plan (fault.Depth line) faulty = refused-plan (fault.Depth line) faulty (λ e. absurd (cc))
   unread-plan (fault.CodePredicate line) faulty = refused-plan (fault.CodePredicate line) faulty (λ e. absurd (cc))
   unread-plan fault.TooLong faulty = refused-plan fault.TooLong faulty (λ e. absurd (cc))
-  unread-plan fault.Memory faulty = record {
-    stated = λ input reply is. rw is (behind_notes (no_memory input faulty));
-    some = λ input. (stopped NoMemory, refl);
-  }
+  unread-plan fault.Memory faulty = λ input. behind_notes (no_memory input faulty)
   unread-plan (fault.NumberTooLarge line) faulty = refused-plan (fault.NumberTooLarge line) faulty (λ e. absurd (cc))
 
 module _ {Grammar Sound : Type 0} {States : List ℕ → Settings → Input → List ℕ → Reply → Type 0}
@@ -83,8 +77,7 @@ module _ {Grammar Sound : Type 0} {States : List ℕ → Settings → Input → 
     (text : List ℕ) (settings : Settings)
   where
     abbrev Planned : List ℕ → Result (Task Grammar Sound) Stop → Type 0
-    Planned first task = IsPlan (Behind (States text settings)) first
-        (does_of (λ t. task_does canonical Runs t settings) task)
+    Planned first task = IsPlanned (States text settings) first (λ t. task_does canonical Runs t settings) task
 
     -- a text that was not read
     pub plan_unread : settings.explain ≡ false → (why : ReadFault) → HasFault text why → Planned [] (Err (unread why))
@@ -97,47 +90,37 @@ module _ {Grammar Sound : Type 0} {States : List ℕ → Settings → Input → 
         why faulty
 
     pub plan_without_memory : (why : ReadFault) → why ≡ fault.Memory → HasFault text why → Planned [] (Err (unread why))
-    plan_without_memory why is faulty = let f = rw is at faulty in rw is (record {
-      stated = λ input reply r. rw r (behind_notes (law.no_memory text settings input f));
-      some = λ input. (stopped NoMemory, refl);
-    })
+    plan_without_memory why is faulty = let f = rw is at faulty in
+        rw is (λ input. behind_notes (law.no_memory text settings input f))
 
     -- a fault that is explained, and one for whose explanation there is no memory
     pub plan_explained : settings.explain ≡ true → (why : ReadFault) (lines : List ℕ) → HasFault text why
         → why ≢ fault.Memory → Explains text why lines
         → Planned (fault_text why ++ lines) (Err (Quiet status.Refused))
-    plan_explained asked why lines faulty other explains = record {
-      stated = λ input reply r. rw r (in_reply refl (subst (States text settings input []) (whole-refusal why lines)
-          (law.refused text settings input why lines faulty other
-          (explained_so settings (Explains text why) lines asked explains))));
-      some = λ input. (stopped (Quiet status.Refused), refl);
-    }
+    plan_explained asked why lines faulty other explains = λ input.
+        in_reply refl (subst (States text settings input []) (whole-refusal why lines)
+        (law.refused text settings input why lines faulty other
+        (explained_so settings (Explains text why) lines asked explains)))
 
     pub plan_unexplained : settings.explain ≡ true → (why : ReadFault) → HasFault text why → why ≢ fault.Memory
         → Planned (fault_text why ++ []) (Err NoMemory)
-    plan_unexplained asked why faulty other = record {
-      stated = λ input reply r. rw r (in_reply refl (subst (States text settings input []) (whole-unexplained why)
-          (law.unexplained text settings input why faulty other asked)));
-      some = λ input. (stopped NoMemory, refl);
-    }
+    plan_unexplained asked why faulty other = λ input.
+        in_reply refl (subst (States text settings input []) (whole-unexplained why)
+        (law.unexplained text settings input why faulty other asked))
 
     -- a grammar that was checked, and all whose notes are told
     plan_whole : (notes : List Said) (told : List ℕ) (mode : Mode) (sound : Option Sound) → settings.mode ≡ mode
         → mode ≢ Print → IsChecked text (option_copied settings.start) notes sound
         → HintedNotes settings (ExplainsNote text) (AreHints text settings) notes told
         → Planned told (checked_task mode sound)
-    plan_whole notes told mode None is other c t = record {
-      stated = λ input reply r. rw r (behind_notes (law.noted text settings input notes told c t (rw is other)));
-      some = λ input. (stopped (Quiet status.Refused), refl);
-    }
+    plan_whole notes told mode None is other c t = λ input.
+        behind_notes (law.noted text settings input notes told c t (rw is other))
     plan_whole notes told Run (Some sound) is other c t = record {
-      stated = λ input reply r. behind_notes (law.run text settings input notes told sound reply c t is r);
+      stated = λ input reply r. law.run text settings input notes told sound reply c t is r;
       some = λ input. law.replies text settings input notes sound c;
     }
-    plan_whole notes told Check (Some sound) is other c t = record {
-      stated = λ input reply r. rw r (behind_notes (law.checked text settings input notes told sound c t is));
-      some = λ input. (stopped (Quiet status.Done), refl);
-    }
+    plan_whole notes told Check (Some sound) is other c t = λ input.
+        behind_notes (law.checked text settings input notes told sound c t is)
     plan_whole notes told Print (Some sound) is other c t = absurd (other refl)
 
     pub plan_checked : (notes : List Said) (told : List ℕ) (mode : Mode) (sound : Option Sound)
@@ -146,29 +129,21 @@ module _ {Grammar Sound : Type 0} {States : List ℕ → Settings → Input → 
         → AreHintedBefore settings (ExplainsNote text) (AreHints text settings) notes told (checked_task mode sound)
         task → Planned told task
     plan_checked notes told mode sound task is other c (told_whole t) = plan_whole notes told mode sound is other c t
-    plan_checked notes told mode sound task is other c (told_part t) = record {
-      stated = λ input reply r. rw r (behind_notes
-          (law.cut_notes text settings input notes told sound c t (rw is other)));
-      some = λ input. (stopped NoMemory, refl);
-    }
+    plan_checked notes told mode sound task is other c (told_part t) = λ input.
+        behind_notes (law.cut_notes text settings input notes told sound c t (rw is other))
 
     -- a grammar that was read to be printed, with notes and without
     pub plan_again : (grammar : Grammar) (notes : List Said) (told : List ℕ) (task : Result (Task Grammar Sound) Stop)
         → settings.mode ≡ Print → notes ≢ [] → IsPrintable text grammar notes
         → AreToldBefore settings (ExplainsNote text) notes told (Err (Quiet status.Refused)) task → Planned told task
-    plan_again grammar notes told task print some p (told_whole t) = record {
-      stated = λ input reply r. rw r (behind_notes (law.again text settings input grammar notes told p some t print));
-      some = λ input. (stopped (Quiet status.Refused), refl);
-    }
-    plan_again grammar notes told task print some p (told_part t) = record {
-      stated = λ input reply r. rw r (behind_notes
-          (law.cut_again text settings input grammar notes told p some t print));
-      some = λ input. (stopped NoMemory, refl);
-    }
+    plan_again grammar notes told task print some p (told_whole t) = λ input.
+        behind_notes (law.again text settings input grammar notes told p some t print)
+    plan_again grammar notes told task print some p (told_part t) = λ input.
+        behind_notes (law.cut_again text settings input grammar notes told p some t print)
 
     pub plan_printed : (grammar : Grammar) (notes : List Said) → settings.mode ≡ Print → notes ≡ []
         → IsPrintable text grammar notes → Planned (notes_text notes) (Ok (Prints grammar))
     plan_printed grammar notes print none p = let q = rw none at p in rw none (record {
-      stated = λ input reply r. rw r (behind_notes (law.printed text settings input grammar q print));
+      stated = λ input reply r. rw r (law.printed text settings input grammar q print);
       some = λ input. (text_alone (canonical grammar), refl);
     })

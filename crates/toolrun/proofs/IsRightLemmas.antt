@@ -1,36 +1,33 @@
 -- A run and its end were right.
--- Serves: run_tool (right)
+-- Serves: run_tool, run_join (right), end_unready, tool_main, run_plan, run_opened
 use Rattle.std.proofs.Common.{◌≡◌, ℕ, Bool, true, false, Option, Some, None, List, [], ◌++◌, refl, sym, ◌∙◌, ap}
-use Rattle.std.proofs.Common.{◌≢◌, ◌≤◌, ◌∷◌, arith, append_assoc, length, length-append}
-use Rattle.std.specs.Prelude.{Result, Ok, Err, IfSome}
+use Rattle.std.proofs.Common.{◌≢◌, ◌≤◌, ◌⊎◌, inl, inr, arith, append_assoc, length, length-append}
+use Rattle.std.specs.Prelude.{max, Result, Ok, Err, IfSome}
 use Rattle.std.specs.Result.{is_err}
 use Rattle.std.specs.Io.KnownBytes.{Appends, Keeps, Consumes}
-use Rattle.ruletable.specs.Writing.{Flags, Writes, AppendsPart, IsBeginning}
+use Rattle.ruletable.specs.Writing.{Flags, Writes, AppendsPart, IsBeginning, IsProperBeginning}
 use Rattle.ruletable.specs.declared.sink.WriteFault.{WriteFault}
 use Rattle.ruletable.proofs.AppendsLemmas.{Appends-join, Appends-kept, Appends-none, Appends-same, IsBeginning-same}
-use Rattle.ruletable.proofs.AppendsLemmas.{IsBeginning-nil, IsBeginning-join, IsBeginning-after}
-use Rattle.toolrun.specs.Delivery.{Delivers, IsTold, Observed}
+use Rattle.ruletable.proofs.AppendsLemmas.{IsBeginning-nil, IsBeginning-join}
+use Rattle.toolrun.specs.Delivery.{Delivers, Observed, greatest_met}
 use Rattle.toolrun.specs.Input.{Input, input_from}
 use Rattle.toolrun.specs.Reply.{Reply}
 use Rattle.toolrun.specs.Status.{code_of}
-use Rattle.toolrun.specs.Stop.{status_of, write_error}
+use Rattle.toolrun.specs.Stop.{message_of, status_of, write_error}
 use Rattle.toolrun.specs.RunEnd.{ended_status, ended_text, stop_of}
-use Rattle.toolrun.specs.Finish.{Concludes}
-use Rattle.toolrun.specs.Plan.{Behind, behind_notes, in_reply, IsPlan, stopped, told_behind}
+use Rattle.toolrun.specs.Finish.{Concludes, Finishes}
+use Rattle.toolrun.specs.Plan.{Behind, IsPlan, IsPlanned, IsToldAnd, behind_notes, does_of, in_reply, met_before}
+use Rattle.toolrun.specs.Plan.{stopped, told_behind}
 use Rattle.toolrun.specs.Right.{IsRight, Comes}
 use Rattle.toolrun.specs.Stopped.{EndedAs, Fulfils}
 use Rattle.toolrun.specs.Stream.{Stream}
+use Rattle.toolrun.proofs.DeliversLemmas.{begins_nothing, told-after}
+use Rattle.toolrun.proofs.FinishLemmas.{met_by_err, met_of_none}
 use Rattle.toolrun.specs.declared.ending.Ending.{Ending}
 use Rattle.toolrun.specs.declared.ending.Ending.TheVariants.{Plain, Explained, Unexplained}
 use Rattle.toolrun.specs.declared.status.Status.TheVariants as status
 use Rattle.toolrun.specs.declared.stop.Stop.{Stop}
 use Rattle.toolrun.specs.declared.stop.Stop.TheVariants.{NoMemory}
-
--- what stands before is told before
-told-behind : (notes text told : List ℕ) (err_failed : Bool) → IsTold err_failed told text
-    → IsTold err_failed (notes ++ told) (notes ++ text)
-told-behind notes text told err_failed t =
-    (IsBeginning-after notes told text t.0, λ err_ok. ap (λ u. notes ++ u) (t.1 err_ok))
 
 -- a run that stops at once reads nothing and writes nothing
 nothing_done : (stop : Stop) (r0 s0 : Option (List ℕ)) →
@@ -64,9 +61,46 @@ refused_status (Plain stop) is = ap status_of is
 refused_status (Explained told stop why) is = ap status_of is
 refused_status (Unexplained told stop) is = refl
 
+-- what is written first is notes, or stands in the reply
+module _ (States : Input → List ℕ → Reply → Type 0) (given : List ℕ) (run : Observed) where
+  folds_right : (notes : List ℕ) (stated : Reply) →
+      Behind States (input_from given run.taken run.read_failed) notes stated → Delivers notes stated run
+      → IsBeginning notes run.err → length run.taken ≤ stated.taken →
+      (run.out_failed ≡ false → run.err_failed ≡ false → run.status ≢ 5 → length run.taken ≡ stated.taken)
+      → IsRight States given run
+  folds_right notes stated (behind_notes states) d begun within exact = record {
+    notes = notes;
+    stated = stated;
+    states = states;
+    delivers = d;
+    within = within;
+    exact = exact;
+  }
+  folds_right notes stated (in_reply none states) d begun within exact =
+      let silent : run.out ≡ stated.out = begins_nothing run.out stated.out d.part none ∙ sym none in
+      record {
+        notes = [];
+        stated = told_behind notes stated;
+        states = states;
+        delivers = record {
+          part = d.part;
+          out = λ out_ok stands. silent;
+          silent = λ isnt. absurd (isnt (IsBeginning-nil run.err));
+          unread = λ isnt. absurd (isnt (IsBeginning-nil run.err));
+          told = d.told;
+          broken = λ out_bad other. absurd (other silent);
+          unflushed = d.unflushed;
+          status = λ stands same. d.status begun same;
+          cut = d.cut;
+          unnoted = λ isnt. absurd (isnt (IsBeginning-nil run.err));
+        };
+        within = within;
+        exact = exact;
+      }
+
 module _ (States : Input → List ℕ → Reply → Type 0) (notes : List ℕ) (Does : Input → Reply → Type 0)
-    (plan : IsPlan States notes Does) where
-  -- the ending and what is done then, together, behind the notes
+    (stated : (input : Input) (reply : Reply) → Does input reply → Behind States input notes reply) where
+  -- the ending and what is done then, together, after the notes
   is_right : (given taken wrote told : List ℕ) (read_failed out_was out_failed err_failed : Bool)
       (end : Result Ending WriteFault) (code : ℕ) →
       EndedAs (Does (input_from given taken read_failed)) taken end wrote →
@@ -81,46 +115,41 @@ module _ (States : Input → List ℕ → Reply → Type 0) (notes : List ℕ) (
         err_failed = err_failed;
         status = code;
       })
-  is_right given taken wrote told read_failed out_was out_failed err_failed (Ok end) code s flag stays f = record {
-    notes = notes;
-    stated = s.stated;
-    states = plan.stated (input_from given taken read_failed) s.stated s.states;
-    delivers = record {
-      part = rw s.written.0 (IsBeginning-same s.stated.out);
-      out = λ out_ok stands. s.written.0;
-      silent = λ isnt. absurd (isnt (told, refl));
-      unread = λ isnt. absurd (isnt (told, refl));
-      told = λ out_ok. rw s.written.1 (told-behind notes (ended_text end) told err_failed (f.told out_ok));
-      broken = λ out_bad other. absurd (other s.written.0);
-      unflushed = λ out_bad whole. rw (s.written.1, append_assoc notes (ended_text end) write_error)
-          (told-behind notes (ended_text end ++ write_error) told err_failed (f.fault out_bad));
-      status = λ out_ok err_ok. f.status out_ok err_ok ∙ sym s.written.2;
-      high = f.high;
-    };
-    within = s.within;
-    exact = λ out_ok err_ok other. s.exact (λ is. other
-        (f.status out_ok err_ok ∙ ap code_of (refused_status end is)));
-  }
+  is_right given taken wrote told read_failed out_was out_failed err_failed (Ok end) code s flag stays f =
+      folds_right States given _ notes s.stated (stated (input_from given taken read_failed) s.stated s.states)
+      (record {
+        part = rw s.written.0 (IsBeginning-same s.stated.out);
+        out = λ out_ok stands. s.written.0;
+        silent = λ isnt. absurd (isnt (told, refl));
+        unread = λ isnt. absurd (isnt (told, refl));
+        told = λ out_ok. rw s.written.1 (told-after notes (ended_text end) told err_failed (f.told out_ok));
+        broken = λ out_bad other. absurd (other s.written.0);
+        unflushed = λ out_bad whole. rw (s.written.1, append_assoc notes (ended_text end) write_error)
+            (told-after notes (ended_text end ++ write_error) told err_failed (f.fault out_bad));
+        status = λ stands whole. rw s.written.2 f.status;
+        cut = λ other. absurd (other s.written.0);
+        unnoted = λ isnt. absurd (isnt (told, refl));
+      })
+      (told, refl) s.within
+      (λ out_ok err_ok other. s.exact (λ is. other
+      (met_of_none code (code_of (ended_status end)) out_failed err_failed out_ok err_ok f.status
+      ∙ ap code_of (refused_status end is))))
   is_right given taken wrote told read_failed out_was out_failed err_failed (Err fault) code s flag stays f =
       let bad : out_failed ≡ true = stays flag in
-      record {
-        notes = notes;
-        stated = s.stated;
-        states = plan.stated (input_from given taken read_failed) s.stated s.states;
-        delivers = record {
-          part = s.written.0;
-          out = λ out_ok stands. absurd (cc);
-          silent = λ isnt. absurd (isnt (told, refl));
-          unread = λ isnt. absurd (isnt (told, refl));
-          told = λ out_ok. absurd (cc);
-          broken = λ out_bad other. told-behind notes write_error told err_failed (f.fault bad);
-          unflushed = λ out_bad whole. absurd (let same = ap length whole in omega (arith, s.written.1, same));
-          status = λ out_ok err_ok. absurd (cc);
-          high = f.high;
-        };
-        within = s.within;
-        exact = λ out_ok err_ok other. absurd (cc);
-      }
+      folds_right States given _ notes s.stated (stated (input_from given taken read_failed) s.stated s.states)
+      (record {
+        part = s.written.0;
+        out = λ out_ok stands. absurd (cc);
+        silent = λ isnt. absurd (isnt (told, refl));
+        unread = λ isnt. absurd (isnt (told, refl));
+        told = λ out_ok. absurd (cc);
+        broken = λ out_bad other. told-after notes write_error told err_failed (f.fault bad);
+        unflushed = λ out_bad whole. absurd (let same = ap length whole in omega (arith, s.written.1, same));
+        status = λ stands whole. absurd (let same = ap length whole in omega (arith, s.written.1, same));
+        cut = λ other. f.status ∙ ap (λ b. greatest_met 4 b err_failed) bad;
+        unnoted = λ isnt. absurd (isnt (told, refl));
+      })
+      (told, refl) s.within (λ out_ok err_ok other. absurd (cc))
 
   run_of : (old new s0 s1 s2 e0 e1 e2 : Option (List ℕ)) (read_failed out_was out_failed err_failed : Bool)
       (end : Result Ending WriteFault) (code : ℕ) →
@@ -154,112 +183,241 @@ module _ (States : Input → List ℕ → Reply → Type 0) (notes : List ℕ) (
       err.failed end code
       (rw same at p.stopped) front (rw fresh at p.flag) kept stays f
 
+-- a reply that nothing was done for
+record IsLeft (States : Input → List ℕ → Reply → Type 0) (notes : List ℕ) (input : Input) (code : ℕ) : Type 0 where
+  stated : Reply
+  states : States input notes stated
+  cut : [] ≢ stated.out → code ≡ 4
+  unnoted : (code ≡ 4) ⊎ ((stop : Stop) × (stated ≡ stopped stop) × (code ≡ max stated.status 4))
+
+module _ (States : Input → List ℕ → Reply → Type 0) (notes : List ℕ) (code : ℕ) where
   -- the error output failed in the notes
+  left_right : (given part : List ℕ) (read_failed out_failed err_failed : Bool) → IsProperBeginning part notes
+      → err_failed ≡ true → IsLeft States notes (input_from given [] read_failed) code
+      → IsRight States given (record {
+        taken = [];
+        read_failed = read_failed;
+        out = [];
+        out_failed = out_failed;
+        err = part;
+        err_failed = err_failed;
+        status = code;
+      })
+  left_right given part read_failed out_failed err_failed begun failed left =
+      let stated = left.stated in
+      let never : IsBeginning notes part → ⊥ =
+      λ stands. let all = ap length stands.1 in omega (arith, begun.1, all, length-append notes stands.0) in
+      record {
+        notes = notes;
+        stated = stated;
+        states = left.states;
+        delivers = record {
+          part = IsBeginning-nil stated.out;
+          out = λ out_ok stands. absurd (never stands);
+          silent = λ isnt. refl;
+          unread = λ isnt. refl;
+          told = λ out_ok. (IsBeginning-join part notes stated.err begun.0, λ err_ok. absurd (cc));
+          broken = λ out_bad other. (IsBeginning-join part notes write_error begun.0, λ err_ok. absurd (cc));
+          unflushed = λ out_bad whole. (
+            IsBeginning-join part (notes ++ stated.err) write_error
+                (IsBeginning-join part notes stated.err begun.0),
+            λ err_ok. absurd (cc),
+          );
+          status = λ stands whole. absurd (never stands);
+          cut = left.cut;
+          unnoted = λ isnt. left.unnoted;
+        };
+        within = omega arith;
+        exact = λ out_ok err_ok other. absurd (cc);
+      }
+
+-- the error output failed in a text that stands in the reply of a run that stops at once
+reply_right : (States : Input → List ℕ → Reply → Type 0) (first : List ℕ) (stop : Stop) (code : ℕ)
+    (given part : List ℕ) (read_failed out_failed err_failed : Bool) → IsProperBeginning part first
+    → err_failed ≡ true → code ≡ max (code_of (status_of stop)) 4
+    → States (input_from given [] read_failed) [] (told_behind first (stopped stop))
+    → IsRight States given (record {
+      taken = [];
+      read_failed = read_failed;
+      out = [];
+      out_failed = out_failed;
+      err = part;
+      err_failed = err_failed;
+      status = code;
+    })
+reply_right States first stop code given part read_failed out_failed err_failed begun failed is states = record {
+  notes = [];
+  stated = told_behind first (stopped stop);
+  states = states;
+  delivers = record {
+    part = IsBeginning-nil [];
+    out = λ out_ok stands. refl;
+    silent = λ isnt. refl;
+    unread = λ isnt. refl;
+    told = λ out_ok. (IsBeginning-join part first (message_of stop) begun.0, λ err_ok. absurd (cc));
+    broken = λ out_bad other. absurd (other refl);
+    unflushed = λ out_bad whole. (
+      IsBeginning-join part (first ++ message_of stop) write_error
+          (IsBeginning-join part first (message_of stop) begun.0),
+      λ err_ok. absurd (cc),
+    );
+    status = λ stands whole. met_by_err (code_of (status_of stop)) code out_failed err_failed (sym failed) is;
+    cut = λ other. absurd (other refl);
+    unnoted = λ isnt. absurd (isnt (IsBeginning-nil part));
+  };
+  within = omega arith;
+  exact = λ out_ok err_ok other. absurd (cc);
+}
+
+-- what is done after notes is stated, and something is
+module _ {States : Input → List ℕ → Reply → Type 0} {notes : List ℕ} {Does : Input → Reply → Type 0}
+    (plan : IsPlan States notes Does) where
+  pub notes_stated : (input : Input) (reply : Reply) → Does input reply → Behind States input notes reply
+  notes_stated input reply does = behind_notes (plan.stated input reply does)
+
+  pub notes_some : (input : Input) → (reply : Reply) × States input notes reply
+  notes_some input = let one = plan.some input in (one.0, plan.stated input one.0 one.1)
+
+module _ (States : Input → List ℕ → Reply → Type 0) (first : List ℕ) where
+  -- what was written first was cut, whatever the input is
   cut_of : (old s0 s2 e0 e1 e2 : Option (List ℕ)) (read_failed out_failed err_failed : Bool) (code : ℕ) →
-      AppendsPart e0 e1 notes → Keeps s0 s2 → Keeps e1 e2 → err_failed ≡ true → code ≡ 4 →
+      AppendsPart e0 e1 first → Keeps s0 s2 → Keeps e1 e2
+      → ((given part : List ℕ) → IsProperBeginning part first → IsRight States given (record {
+        taken = [];
+        read_failed = read_failed;
+        out = [];
+        out_failed = out_failed;
+        err = part;
+        err_failed = err_failed;
+        status = code;
+      })) →
       Comes States (record { old = old; new = old; was = false; failed = read_failed })
       (record { old = s0; new = s2; was = false; failed = out_failed })
       (record { old = e0; new = e2; was = false; failed = err_failed }) code
-  cut_of None s0 s2 e0 e1 e2 read_failed out_failed err_failed code part out err failed is = tt
-  cut_of (Some given) s0 s2 e0 e1 e2 read_failed out_failed err_failed code part out err failed is =
-      let some = plan.some (input_from given [] read_failed) in (
-        [],
-        [],
-        part.0,
-        refl,
-        Appends-none s0 s2 out,
-        Appends-kept e0 e1 e2 part.0 part.2 err,
-        record {
-          notes = notes;
-          stated = some.0;
-          states = plan.stated (input_from given [] read_failed) some.0 some.1;
-          delivers = record {
-            part = IsBeginning-nil some.0.out;
-            out = λ out_ok stands. absurd
-                (let all = ap length stands.1 in omega (arith, part.1.1, all, length-append notes stands.0));
-            silent = λ isnt. refl;
-            unread = λ isnt. refl;
-            told = λ out_ok. (IsBeginning-join part.0 notes some.0.err part.1.0, λ err_ok. absurd (cc));
-            broken = λ out_bad other. (IsBeginning-join part.0 notes write_error part.1.0, λ err_ok. absurd (cc));
-            unflushed = λ out_bad whole. (
-              IsBeginning-join part.0 (notes ++ some.0.err) write_error
-                  (IsBeginning-join part.0 notes some.0.err part.1.0),
-              λ err_ok. absurd (cc),
-            );
-            status = λ out_ok err_ok. absurd (cc);
-            high = λ bad. omega (arith, is);
-          };
-          within = omega arith;
-          exact = λ out_ok err_ok other. absurd (cc);
-        },
-      )
+  cut_of None s0 s2 e0 e1 e2 read_failed out_failed err_failed code part out err right = tt
+  cut_of (Some given) s0 s2 e0 e1 e2 read_failed out_failed err_failed code part out err right = (
+    [],
+    [],
+    part.0,
+    refl,
+    Appends-none s0 s2 out,
+    Appends-kept e0 e1 e2 part.0 part.2 err,
+    right given part.0 part.1,
+  )
 
-  pub cut_short : (reader out err : Stream) (e : Option (List ℕ)) (code : ℕ) → reader.new ≡ reader.old →
-      AppendsPart err.old e notes → Keeps out.old out.new → Keeps e err.new → err.failed ≡ true → code ≡ 4
-      → Comes States reader out err code
-  cut_short reader out err e code same part kept stays failed is =
+  cut_right : (reader out err : Stream) (e : Option (List ℕ)) (code : ℕ) → reader.new ≡ reader.old →
+      AppendsPart err.old e first → Keeps out.old out.new → Keeps e err.new
+      → ((given part : List ℕ) → IsProperBeginning part first → IsRight States given (record {
+        taken = [];
+        read_failed = reader.failed;
+        out = [];
+        out_failed = out.failed;
+        err = part;
+        err_failed = err.failed;
+        status = code;
+      })) → Comes States reader out err code
+  cut_right reader out err e code same part kept stays right =
       rw same (cut_of reader.old out.old out.new err.old e err.new reader.failed out.failed err.failed code part kept
-      stays failed is)
+      stays right)
 
--- nothing begins nothing else
-begins_nothing : (xs ys : List ℕ) → IsBeginning xs ys → ys ≡ [] → xs ≡ []
-begins_nothing [] ys b none = refl
-begins_nothing (x ∷ xs) ys (rest, whole) none = absurd (cc)
+  -- the notes of a run that might do something were cut
+  pub cut_short : ((input : Input) → (reply : Reply) × States input first reply) → (reader out err : Stream)
+      (e : Option (List ℕ)) (code : ℕ) → reader.new ≡ reader.old →
+      AppendsPart err.old e first → Keeps out.old out.new → Keeps e err.new → err.failed ≡ true → code ≡ 4
+      → Comes States reader out err code
+  cut_short some reader out err e code same part kept stays failed is =
+      cut_right reader out err e code same part kept stays
+      (λ given text begun. left_right States first code given text reader.failed out.failed err.failed begun failed
+      (let one = some (input_from given [] reader.failed) in
+      record { stated = one.0; states = one.1; cut = λ other. is; unnoted = inl is }))
 
-if_some : (old : Option (List ℕ)) (P Q : List ℕ → Type 0) → ((given : List ℕ) → P given → Q given) → IfSome old P
-    → IfSome old Q
-if_some None P Q f h = tt
-if_some (Some given) P Q f h = f given h
+  module _ {T : Type 0} (Does : T → Input → Reply → Type 0) where
+    stop_cut : (stop : Stop) (given part : List ℕ) (read_failed out_failed err_failed : Bool) (code : ℕ)
+        → Behind States (input_from given [] read_failed) first (stopped stop) → IsProperBeginning part first
+        → err_failed ≡ true → code ≡ max (code_of (status_of stop)) 4 → IsRight States given (record {
+          taken = [];
+          read_failed = read_failed;
+          out = [];
+          out_failed = out_failed;
+          err = part;
+          err_failed = err_failed;
+          status = code;
+        })
+    stop_cut stop given part read_failed out_failed err_failed code (behind_notes states) begun failed is =
+        left_right States first code given part read_failed out_failed err_failed begun failed (record {
+          stated = stopped stop;
+          states = states;
+          cut = λ other. absurd (other refl);
+          unnoted = inr (stop, refl, is);
+        })
+    stop_cut stop given part read_failed out_failed err_failed code (in_reply none states) begun failed is =
+        reply_right States first stop code given part read_failed out_failed err_failed begun failed is states
 
--- what is told first is told by the notes or the reply
-module _ (States : Input → List ℕ → Reply → Type 0) (given : List ℕ) (run : Observed) where
-  told_right : (notes : List ℕ) (stated : Reply) →
-      Behind States (input_from given run.taken run.read_failed) notes stated → Delivers notes stated run
-      → length run.taken ≤ stated.taken →
-      (run.out_failed ≡ false → run.err_failed ≡ false → run.status ≢ 5 → length run.taken ≡ stated.taken)
-      → IsRight States given run
-  told_right notes stated (behind_notes states) d within exact = record {
-    notes = notes;
-    stated = stated;
-    states = states;
-    delivers = d;
-    within = within;
-    exact = exact;
+    -- what a plan writes first was cut
+    pub plan_cut : (task : Result T Stop) → IsPlanned States first Does task → (reader out err : Stream)
+        (e : Option (List ℕ)) (code : ℕ) → reader.new ≡ reader.old →
+        AppendsPart err.old e first → Keeps out.old out.new → Keeps e err.new → err.failed ≡ true
+        → code ≡ max (code_of (met_before task)) 4 → Comes States reader out err code
+    plan_cut (Ok task) plan reader out err e code same part kept stays failed is =
+        cut_short (notes_some plan) reader out err e code same part kept stays failed is
+    plan_cut (Err stop) plan reader out err e code same part kept stays failed is =
+        cut_right reader out err e code same part kept stays
+        (λ given text begun. stop_cut stop given text reader.failed out.failed err.failed code
+        (plan (input_from given [] reader.failed)) begun failed is)
+
+    -- what is done of a plan is stated after what it writes first
+    pub plan_stated : (task : Result T Stop) → IsPlanned States first Does task → (input : Input) (reply : Reply)
+        → does_of Does task input reply → Behind States input first reply
+    plan_stated (Ok task) plan = notes_stated plan
+    plan_stated (Err stop) plan = λ input reply is. rw is (plan input)
+
+    pub plan_some : (task : Result T Stop) → IsPlanned States first Does task → (input : Input)
+        → (reply : Reply) × does_of Does task input reply
+    plan_some (Ok task) plan = plan.some
+    plan_some (Err stop) plan = λ input. (stopped stop, refl)
+
+-- a text is written on the error output, and then the run stops
+module _ (told : List ℕ) (stop : Stop) (r0 : Option (List ℕ)) (r_was r_failed : Bool) (out err : Stream)
+    (e : Option (List ℕ)) (code : ℕ) (kept : Keeps out.old out.new) where
+  abbrev Stops : Type 0
+  Stops = Comes (IsToldAnd told stop) (record { old = r0; new = r0; was = r_was; failed = r_failed }) out err code
+
+  pub told_stops : Appends err.old e told
+      → ((more : List ℕ) × Appends e err.new more × Finishes (Ok stop) out.failed err.failed more code) → Stops
+  told_stops front ends =
+      run_is_right (IsToldAnd told stop) told (λ input reply. reply ≡ stopped stop)
+      (λ input reply is. behind_notes (refl, is)) (record { old = r0; new = r0; was = r_was; failed = r_failed })
+      (record { old = out.old; new = out.old; was = false; failed = false }) out err e (Ok (Plain stop)) code
+      (stops_at_once stop r0 out.old r_was r_failed false) refl refl front kept (λ bad. absurd (cc)) ends
+
+  pub told_cut : AppendsPart err.old e told → Keeps e err.new → err.failed ≡ true → code ≡ 4 → Stops
+  told_cut front stays failed is =
+      cut_short (IsToldAnd told stop) told (λ input. (stopped stop, (refl, refl)))
+      (record { old = r0; new = r0; was = r_was; failed = r_failed }) out err e code refl front
+      kept stays failed is
+
+-- a run that is right by one statement is right by another that it implies
+module _ (S T : Input → List ℕ → Reply → Type 0)
+    (implies : (input : Input) (notes : List ℕ) (reply : Reply) → S input notes reply → T input notes reply) where
+  right_as : (given : List ℕ) (run : Observed) → IsRight S given run → IsRight T given run
+  right_as given run right = record {
+    notes = right.notes;
+    stated = right.stated;
+    states = implies _ _ _ right.states;
+    delivers = right.delivers;
+    within = right.within;
+    exact = right.exact;
   }
-  told_right notes stated (in_reply none states) d within exact =
-      let silent : run.out ≡ stated.out = begins_nothing run.out stated.out d.part none ∙ sym none in
-      record {
-        notes = [];
-        stated = told_behind notes stated;
-        states = states;
-        delivers = record {
-          part = d.part;
-          out = λ out_ok stands. silent;
-          silent = λ isnt. absurd (isnt (IsBeginning-nil run.err));
-          unread = λ isnt. absurd (isnt (IsBeginning-nil run.err));
-          told = d.told;
-          broken = λ out_bad other. absurd (other silent);
-          unflushed = d.unflushed;
-          status = d.status;
-          high = d.high;
-        };
-        within = within;
-        exact = exact;
-      }
 
-pub comes_behind : (States : Input → List ℕ → Reply → Type 0) (reader out err : Stream) (code : ℕ)
-    → Comes (Behind States) reader out err code → Comes States reader out err code
-comes_behind States reader out err code =
-    if_some reader.old _ _ (λ given (taken, wrote, told, gives, writes, tells, right). (
-      taken,
-      wrote,
-      told,
-      gives,
-      writes,
-      tells,
-      told_right States given _ right.notes right.stated right.states
-          right.delivers right.within right.exact,
-    ))
+  comes_from : (old new : Option (List ℕ)) (was failed : Bool) (out err : Stream) (code : ℕ) →
+      Comes S (record { old = old; new = new; was = was; failed = failed }) out err code →
+      Comes T (record { old = old; new = new; was = was; failed = failed }) out err code
+  comes_from None new was failed out err code is = tt
+  comes_from (Some given) new was failed out err code (taken, wrote, told, gives, writes, tells, right) =
+      (taken, wrote, told, gives, writes, tells, right_as given _ right)
+
+  pub comes_as : (reader out err : Stream) (code : ℕ) → Comes S reader out err code → Comes T reader out err code
+  comes_as reader out err code is = comes_from reader.old reader.new reader.was reader.failed out err code is
 
 -- whether a write failed
 module _ {A E : Type 0} (a b : Option (List ℕ)) (text : List ℕ) where

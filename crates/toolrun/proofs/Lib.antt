@@ -1,4 +1,5 @@
 pub mod AgreesLemmas
+pub mod DeliversLemmas
 pub mod ExplainedIfLemmas
 pub mod FinishLemmas
 pub mod IsPlanLemmas

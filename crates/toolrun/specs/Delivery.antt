@@ -1,8 +1,12 @@
 -- What a run states, and how much of it reaches writers that may fail.
-use Rattle.std.specs.Prelude.{◌≡◌, ◌≢◌, ℕ, ◌≤◌, Bool, true, false, List, [], ◌++◌, ◌⊎◌}
+use Rattle.std.specs.Prelude.{◌≡◌, ◌≢◌, ℕ, max, Bool, true, false, ◌||◌, if◌then◌else◌, List, [], ◌++◌, ◌⊎◌}
 use Rattle.ruletable.specs.Writing.{IsBeginning}
+use Rattle.toolrun.specs.Plan.{stopped}
 use Rattle.toolrun.specs.Reply.{Reply}
+use Rattle.toolrun.specs.Status.{code_of}
 use Rattle.toolrun.specs.Stop.{write_error}
+use Rattle.toolrun.specs.declared.status.Status.TheVariants.{Fault}
+use Rattle.toolrun.specs.declared.stop.Stop.{Stop}
 
 -- what a run took from its reader and gave to its writers, which of them failed, and its status
 pub record Observed : Type 0 where
@@ -18,17 +22,20 @@ pub record Observed : Type 0 where
 abbrev pub IsTold : Bool → List ℕ → List ℕ → Type 0
 IsTold err_failed err text = IsBeginning err text × (err_failed ≡ false → err ≡ text)
 
--- What the end of a run tells: a text, and behind it `write error` where the output failed. The status is the one that
--- is stated, or that of a fault or greater where a writer failed.
+-- the greatest status met: the stated one, or that of a fault where a writer failed and that is greater
+abbrev pub greatest_met : ℕ → Bool → Bool → ℕ
+greatest_met stated out_failed err_failed = if out_failed || err_failed then max stated (code_of Fault) else stated
+
+-- What the end of a run writes on the error output: a text, and after it `write error` where the output failed. The
+-- status is the greatest one met.
 pub record Reports (text : List ℕ) (stated : ℕ) (out_failed err_failed : Bool) (err : List ℕ) (code : ℕ) : Type 0 where
   pub told : out_failed ≡ false → IsTold err_failed err text
   pub fault : out_failed ≡ true → IsTold err_failed err (text ++ write_error)
-  pub status : out_failed ≡ false → err_failed ≡ false → code ≡ stated
-  pub high : (out_failed ≡ true) ⊎ (err_failed ≡ true) → 4 ≤ code
+  pub status : code ≡ greatest_met stated out_failed err_failed
 
 -- Both outputs hold what is stated, but for what a writer that failed did not take. Nothing is written on the output
--- and nothing is taken before all notes are told. Where the output failed before it held all, `write error` stands
--- right behind the notes; where its flush failed, behind all that is told.
+-- and nothing is taken before all notes are written. Where the output failed before it held all, `write error` stands
+-- right after the notes; where its flush failed, after all that is written on the error output.
 pub record Delivers (notes : List ℕ) (stated : Reply) (run : Observed) : Type 0 where
   pub part : IsBeginning run.out stated.out
   pub out : run.out_failed ≡ false → IsBeginning notes run.err → run.out ≡ stated.out
@@ -38,5 +45,11 @@ pub record Delivers (notes : List ℕ) (stated : Reply) (run : Observed) : Type 
   pub broken : run.out_failed ≡ true → run.out ≢ stated.out → IsTold run.err_failed run.err (notes ++ write_error)
   pub unflushed : run.out_failed ≡ true → run.out ≡ stated.out →
       IsTold run.err_failed run.err (notes ++ stated.err ++ write_error)
-  pub status : run.out_failed ≡ false → run.err_failed ≡ false → run.status ≡ stated.status
-  pub high : (run.out_failed ≡ true) ⊎ (run.err_failed ≡ true) → 4 ≤ run.status
+  -- where all notes and all of the output are written, the status is the greatest one met
+  pub status : IsBeginning notes run.err → run.out ≡ stated.out
+      → run.status ≡ greatest_met stated.status run.out_failed run.err_failed
+  -- where the output failed before it held all, the run ends there
+  pub cut : run.out ≢ stated.out → run.status ≡ code_of Fault
+  -- where the error output failed in the notes, the run ends there; one that stops after them has met its status before
+  pub unnoted : ¬ IsBeginning notes run.err → (run.status ≡ code_of Fault)
+      ⊎ ((stop : Stop) × (stated ≡ stopped stop) × (run.status ≡ max stated.status (code_of Fault)))

@@ -9,6 +9,8 @@ use Rattle.toolrun.specs.Status.{code_of}
 use Rattle.toolrun.specs.Stop.{message_of, status_of}
 use Rattle.toolrun.specs.declared.plan.First.{First}
 use Rattle.toolrun.specs.declared.plan.First.TheVariants.{Notes, Told, Fault}
+use Rattle.toolrun.specs.declared.status.Status.{Status}
+use Rattle.toolrun.specs.declared.status.Status.TheVariants.{Done}
 use Rattle.toolrun.specs.declared.stop.Stop.{Stop}
 
 -- a run that stops at once
@@ -19,6 +21,15 @@ stopped stop = record { out = []; err = message_of stop; status = code_of (statu
 abbrev pub does_of : {T : Type 0} → (T → Input → Reply → Type 0) → Result T Stop → Input → Reply → Type 0
 does_of Does (Ok task) input reply = Does task input reply
 does_of Does (Err stop) input reply = reply ≡ stopped stop
+
+-- this is written on the error output, and then the run stops so
+abbrev pub IsToldAnd : List ℕ → Stop → Input → List ℕ → Reply → Type 0
+IsToldAnd told stop input notes reply = (notes ≡ told) × (reply ≡ stopped stop)
+
+-- the status that a run has met before it performs this: that of a stop
+abbrev pub met_before : {T : Type 0} → Result T Stop → Status
+met_before (Ok task) = Done
+met_before (Err stop) = status_of stop
 
 -- the text of what is told before anything is read
 abbrev pub first_text : First → List ℕ
@@ -46,3 +57,10 @@ pub record IsPlan (States : Input → List ℕ → Reply → Type 0) (notes : Li
     0 where
   pub stated : (input : Input) (reply : Reply) → Does input reply → States input notes reply
   pub some : (input : Input) → (reply : Reply) × Does input reply
+
+-- What is stated after this text: what a task does; or the run stops at once, and the text is notes or stands in the
+-- reply.
+abbrev pub IsPlanned : {T : Type 0} → (Input → List ℕ → Reply → Type 0) → List ℕ → (T → Input → Reply → Type 0)
+    → Result T Stop → Type 0
+IsPlanned States first Does (Ok task) = IsPlan States first (Does task)
+IsPlanned States first Does (Err stop) = (input : Input) → Behind States input first (stopped stop)

@@ -62,8 +62,8 @@ fn status_at_end(ending: &Result<Ending, WriteFault>) -> Status
     }
 }
 
-/// Concludes a run that ended so, or whose output failed: on `err` a line, and those that explain it, and each writer
-/// that has not failed is flushed once, `out` first.
+/// Concludes a run that ended so, or whose output failed: writes a line on `err`, and those that explain it. Then it
+/// flushes each writer that has not failed, `out` first; no clause sees a flush.
 pub fn conclude<O: Sink, E: Sink>(
     ending: Result<Ending, WriteFault>,
     out: &mut O,
@@ -89,8 +89,8 @@ pub fn conclude<O: Sink, E: Sink>(
     base
 }
 
-/// Ends a run that stopped so, or whose output failed: a line on `err`, and each writer that has not failed is
-/// flushed once, `out` first.
+/// Ends a run that stopped so, or whose output failed: writes a line on `err`. Then it flushes each writer that has not
+/// failed, `out` first; no clause sees a flush.
 pub fn finish<O: Sink, E: Sink>(stop: Result<Stop, WriteFault>, out: &mut O, err: &mut E) -> Status
     requires fresh { E.failed err.old ≡ false }
     requires flag { Flags false (O.failed out.old) stop }
@@ -102,7 +102,8 @@ pub fn finish<O: Sink, E: Sink>(stop: Result<Stop, WriteFault>, out: &mut O, err
     conclude(plain_ending(stop), out, err)
 }
 
-/// Ends a run whose error output failed: nothing more is written, and the output is flushed, if it has not failed.
+/// Ends a run whose error output failed: it writes nothing more, and flushes the output if that has not failed; no
+/// clause sees a flush.
 pub fn close<O: Sink, E: Sink>(out: &mut O, err: &mut E) -> Status
     requires { E.failed err.old ≡ true }
     ensures out { Keeps (O.contents out.old) (O.contents out.new) }

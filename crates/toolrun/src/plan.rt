@@ -1,7 +1,7 @@
 //! What is to be done for a grammar's text.
 ghost use Rattle.std.specs.Prelude.{◌≡◌, ◌≢◌, Option, [], Err, IfOk, IfErr, map, option_copied, true};
 ghost use Rattle.ruletable.specs.Notes.{said_of};
-ghost use Rattle.toolrun.specs.Plan.{Behind, IsPlan, does_of, first_text};
+ghost use Rattle.toolrun.specs.Plan.{IsPlanned, first_text};
 ghost use Rattle.toolrun.specs.Stop.{unread};
 ghost use Rattle.toolrun.specs.Tasks.{checked_task, task_does};
 ghost use Rattle.toolrun.specs.ToldNotes.{AreHintedBefore, AreToldBefore};
@@ -115,8 +115,8 @@ fn plan_explained<L: Language>(
     requires fault { L.has_fault text.now fault }
     requires other { fault ≢ ReadFault.Memory }
     requires asked { settings.now.explain ≡ true }
-    ensures { IsPlan (Behind (L.states text.now settings.now)) (first_text result.first)
-        (does_of (λ t. task_does L.canonical L.runs t settings.now) result.task) }
+    ensures { IsPlanned (L.states text.now settings.now) (first_text result.first)
+        (λ t. task_does L.canonical L.runs t settings.now) result.task }
 {
     L::follows();
     match L::explain_fault(alloc, text, fault) {
@@ -142,8 +142,8 @@ fn plan_fault<L: Language>(
     fault: ReadFault,
 ) -> Plan<L::Grammar, L::Sound>
     requires { L.has_fault text.now fault }
-    ensures { IsPlan (Behind (L.states text.now settings.now)) (first_text result.first)
-        (does_of (λ t. task_does L.canonical L.runs t settings.now) result.task) }
+    ensures { IsPlanned (L.states text.now settings.now) (first_text result.first)
+        (λ t. task_does L.canonical L.runs t settings.now) result.task }
 {
     L::follows();
     if fault == ReadFault::Memory {
@@ -222,8 +222,8 @@ fn plan_checked<L: Language>(
     settings: &Settings<'_>,
 ) -> Plan<L::Grammar, L::Sound>
     requires { settings.now.mode ≢ Print }
-    ensures { IsPlan (Behind (L.states text.now settings.now)) (first_text result.first)
-        (does_of (λ t. task_does L.canonical L.runs t settings.now) result.task) }
+    ensures { IsPlanned (L.states text.now settings.now) (first_text result.first)
+        (λ t. task_does L.canonical L.runs t settings.now) result.task }
 {
     L::follows();
     match checked::<L>(alloc, text, settings.start) {
@@ -242,8 +242,8 @@ fn plan_print<L: Language>(
     settings: &Settings<'_>,
 ) -> Plan<L::Grammar, L::Sound>
     requires { settings.now.mode ≡ Print }
-    ensures { IsPlan (Behind (L.states text.now settings.now)) (first_text result.first)
-        (does_of (λ t. task_does L.canonical L.runs t settings.now) result.task) }
+    ensures { IsPlanned (L.states text.now settings.now) (first_text result.first)
+        (λ t. task_does L.canonical L.runs t settings.now) result.task }
 {
     L::follows();
     match read_again::<L>(alloc, text) {
@@ -267,8 +267,8 @@ pub fn plan_of<L: Language>(
     text: &[u8],
     settings: &Settings<'_>,
 ) -> Plan<L::Grammar, L::Sound>
-    ensures { IsPlan (Behind (L.states text.now settings.now)) (first_text result.first)
-        (does_of (λ t. task_does L.canonical L.runs t settings.now) result.task) }
+    ensures { IsPlanned (L.states text.now settings.now) (first_text result.first)
+        (λ t. task_does L.canonical L.runs t settings.now) result.task }
 {
     match settings.mode {
         Mode::Print => plan_print::<L>(alloc, text, settings),

@@ -8,7 +8,7 @@ use itoa::Buffer;
 use ruletable::{ReadFault, Sink, WriteFault, write_fault, write_pieces, write_whole};
 
 /// Why a run stopped. A place counts the bytes before it, a line from 1.
-#[derive(Clone, Copy, Debug, PartialEq, Eq)]
+#[derive(Clone, Copy, PartialEq, Eq)]
 pub enum Stop {
     /// All is said; the run has this status.
     Quiet(Status),

@@ -1,7 +1,7 @@
 //! The run of a tool.
 ghost use Rattle.std.specs.Prelude.{◌≡◌, false};
 ghost use Rattle.ruletable.specs.Writing.{Flags};
-ghost use Rattle.toolrun.specs.Plan.{does_of};
+ghost use Rattle.toolrun.specs.Plan.{does_of, met_before};
 ghost use Rattle.toolrun.specs.Right.{Comes};
 ghost use Rattle.toolrun.specs.Status.{code_of};
 ghost use Rattle.toolrun.specs.Stopped.{Fulfils, Prints};
@@ -15,7 +15,7 @@ use crate::language::Language;
 use crate::plan::{Task, plan_of};
 use crate::settings::Settings;
 use crate::status::Status;
-use crate::stop::Stop;
+use crate::stop::{Stop, status};
 use feed::Source;
 use ruletable::{Sink, WriteFault};
 use std::alloc::Global;
@@ -75,6 +75,16 @@ pub fn act<L: Language, R: Source, O: Sink>(
     }
 }
 
+/// Returns the status that a run has met before it performs this.
+fn status_before<T>(task: &Result<T, Stop>) -> Status
+    ensures { result ≡ met_before task.now }
+{
+    match task {
+        Ok(_) => Status::Done,
+        Err(stop) => status(*stop),
+    }
+}
+
 /// Runs a grammar language's tool on a grammar's text and what a reader gives.
 pub fn run_tool<L: Language, R: Source, O: Sink, E: Sink>(
     alloc: Global,
@@ -93,7 +103,8 @@ pub fn run_tool<L: Language, R: Source, O: Sink, E: Sink>(
 {
     let plan = plan_of::<L>(alloc, grammar, settings);
     if write_first(alloc, &plan.first, err).is_err() {
-        return close(out, err);
+        close(out, err);
+        return status_before(&plan.task).at_least_fault();
     }
     let ending = act::<L, R, O>(&plan.task, alloc, settings, reader, out);
     conclude(ending, out, err)

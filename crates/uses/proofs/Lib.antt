@@ -2,5 +2,4 @@ mod AreBytesLemmas
 mod ChoiceLemmas
 mod CommentLemmas
 mod CountTokensLemmas
-mod SameCellsLemmas
 mod TakenLemmas

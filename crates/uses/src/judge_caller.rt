@@ -1,4 +1,4 @@
-//! A caller of `flatgrammar` and `earley`.
+//! A caller of `flatgrammar`, `lowering` and `earley`.
 ghost use Rattle.std.specs.Prelude.{◌↔◌, IfOk, IsTrue};
 ghost use Rattle.abnfcheck.specs.Derivable.{RuleDerives};
 ghost use Rattle.abnfread.specs.AbnfViews.{rules_of};
@@ -6,8 +6,8 @@ ghost use Rattle.letters.specs.Letters.{has};
 
 use abnfcheck::SoundAbnf;
 use earley::{Chart, judge};
-use flatgrammar::lower;
 use letters::Alphabet;
+use lowering::lower;
 use ruletable::Memory;
 use std::alloc::Global;
 

@@ -10,8 +10,8 @@ use pegrun::{OpenedPeg, open_peg};
 use std::alloc::Global;
 
 /// Opens a grammar in ABNF, and returns the answers to two lines, each of at most as many bytes as the settings allow:
-/// what runs of the grammar on each line alone answer. None where the text is no grammar, the grammar is refused, or an
-/// allocation fails.
+/// what runs of the grammar on each line alone answer, without what explains it. None where the text is no grammar, the
+/// grammar is refused, or an allocation fails.
 pub fn answer_both(
     alloc: Global,
     grammar: &[u8],

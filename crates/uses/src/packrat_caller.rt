@@ -2,7 +2,7 @@
 ghost use Rattle.std.specs.Prelude.{◌≡◌, ℕ, Bool, List, IfOk};
 ghost use Rattle.std.specs.Option.{option_map};
 ghost use Rattle.matchfailure.specs.Desk as desk;
-ghost use Rattle.gramcheck.specs.Grammar.{Grammar, IsSoundGrammar};
+ghost use Rattle.gramcheck.specs.Grammar.{Grammar, HasKeys, IsSoundGrammar};
 ghost use Rattle.memo.specs.Entries.{Entry, found_at};
 ghost use Rattle.memo.specs.KeyLog.{spots_of};
 ghost use Rattle.packrat.specs.Done as packrat;
@@ -34,9 +34,10 @@ pub fn print_once(
 /// Where the packrat matcher and the plain machine have ended on a unit, the cells that the stored keys of the first
 /// imply are those of the second, pair for pair, and both have begun as many evaluations.
 pub fn same_cells()
-    ensures cells { (g : Grammar) (x : List ℕ) (more : Bool) → IsSoundGrammar g → (matched : packrat.Contents)
-        (stepped : desk.View) → packrat.IsDone g x more g.keys matched → desk.IsDone g x more stepped →
-        (cells : List Entry) → AreImplied (rules_of g.rules) g.start (shapes_of g.nodes) g.bodies x more
+    ensures cells { (g : Grammar) (x : List ℕ) (more : Bool) → IsSoundGrammar g → HasKeys g →
+        (matched : packrat.Contents) (stepped : desk.View) → packrat.IsDone g x more g.keys matched →
+        desk.IsDone g x more stepped → (cells : List Entry) →
+        AreImplied (rules_of g.rules) g.start (shapes_of g.nodes) g.bodies x more
         (node_marks g.keys) (tail_marks g.keys) (spots_of matched.stored) cells → (n p : ℕ) →
         found_at cells n p ≡ found_at stepped.cells n p }
     ensures begun { (g : Grammar) (x : List ℕ) (more : Bool) → IsSoundGrammar g → (matched : packrat.Contents)

@@ -11,25 +11,25 @@ use memoryrun::{Outputs, abnf_in_memory, peg_in_memory, run_plan};
 use std::alloc::Global;
 use toolrun::plan_of;
 
+/// Returns whether all of its input was taken in a run.
+fn is_done(outputs: &Outputs) -> bool
+    ensures { result ≡ true → code_of outputs.now.status ≡ 0 }
+{
+    outputs.status == Status::Done
+}
+
 /// Returns whether a run of a grammar of peg(1) takes all of an input. No where an allocation fails.
 pub fn is_all_taken(alloc: Global, grammar: &[u8], settings: &Settings<'_>, input: &[u8]) -> bool
     ensures { result ≡ true → IsTaken (States grammar.now settings.now) input.now }
 {
-    peg_in_memory(alloc, grammar, settings, input).status == Status::Done
+    is_done(&peg_in_memory(alloc, grammar, settings, input))
 }
 
 /// Returns whether a grammar in ABNF derives each line of an input. No where an allocation fails.
 pub fn are_all_derived(alloc: Global, grammar: &[u8], settings: &Settings<'_>, input: &[u8]) -> bool
     ensures { result ≡ true → IsTaken (AbnfStates grammar.now settings.now) input.now }
 {
-    abnf_in_memory(alloc, grammar, settings, input).status == Status::Done
-}
-
-/// Returns whether all of its input was taken in a run.
-fn is_done(outputs: &Outputs) -> bool
-    ensures { result ≡ true → code_of outputs.now.status ≡ 0 }
-{
-    outputs.status == Status::Done
+    is_done(&abnf_in_memory(alloc, grammar, settings, input))
 }
 
 /// Returns of two inputs whether runs of a grammar of peg(1) take all of them. The grammar is read and checked once. No

@@ -5,7 +5,7 @@ ghost use Rattle.abnfblocks.specs.KeptSteps.{goes_behind, next_behind};
 use crate::rfctext::line_kind::LineKind;
 
 /// What stands nearest before a line, but for blank lines.
-#[derive(Clone, Copy, PartialEq, Eq)]
+#[derive(Clone, Copy)]
 pub(crate) enum Before {
     /// Nothing, or a line that stays.
     Text,
@@ -22,8 +22,8 @@ impl Before {
     {
         match kind {
             LineKind::Feed | LineKind::Foot => true,
-            LineKind::Dated => self == Before::Mark,
-            LineKind::Blank => self != Before::Text,
+            LineKind::Dated => matches!(self, Before::Mark),
+            LineKind::Blank => !matches!(self, Before::Text),
             LineKind::Other => false,
         }
     }
@@ -35,13 +35,10 @@ impl Before {
         match kind {
             LineKind::Feed | LineKind::Foot => Before::Mark,
             LineKind::Blank => self,
-            LineKind::Dated => {
-                if self == Before::Mark {
-                    Before::Head
-                } else {
-                    Before::Text
-                }
-            }
+            LineKind::Dated => match self {
+                Before::Mark => Before::Head,
+                Before::Text | Before::Head => Before::Text,
+            },
             LineKind::Other => Before::Text,
         }
     }

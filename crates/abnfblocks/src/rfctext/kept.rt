@@ -6,7 +6,7 @@ ghost use Rattle.abnfblocks.specs.KeptSteps.{is_blank_kind, cut_blanks, after_li
 ghost use Rattle.abnfblocks.specs.TextLines.{NumberedLine, numbered, text_lines, line_parts};
 
 use crate::rfctext::before::Before;
-use crate::rfctext::text_line::{TextLine, part_size};
+use crate::rfctext::text_line::{TextLine, before_cr, part_size};
 use ruletable::Memory;
 use std::alloc::Global;
 
@@ -48,14 +48,14 @@ fn take_line<'a>(
     Ok(())
 }
 
-/// What stands before an LF, and what stands behind it.
+/// What stands before the end of a line, and what stands after it.
 #[derive(Clone, Copy)]
 struct Parts<'a> {
     first: &'a [u8],
     rest: &'a [u8],
 }
 
-// Cuts the text at its first LF.
+// Cuts the text at the end of its first line: LF, or CR LF.
 fn cut_part(text: &[u8]) -> Parts<'_>
     requires { 0 < length text.now }
     ensures parts { line_parts text.now ≡ result.first.now ∷ line_parts result.rest.now }
@@ -63,15 +63,20 @@ fn cut_part(text: &[u8]) -> Parts<'_>
 {
     let size = part_size(text);
     let (first, behind) = text.split_at(size);
-    let rest = match behind.split_first() {
-        Some((_, rest)) => rest,
-        None => behind,
-    };
-    Parts { first, rest }
+    match behind.split_first() {
+        Some((_, rest)) => Parts {
+            first: before_cr(first),
+            rest,
+        },
+        None => Parts {
+            first,
+            rest: behind,
+        },
+    }
 }
 
 /// Returns the lines of a text without page furniture, in order. LF or CR LF ends a line; the last line may lack it.
-/// Form feeds that begin a line belong to none.
+/// A CR that no LF follows belongs to its line. Form feeds that begin a line belong to none.
 ///
 /// Furniture are form feeds, the feet of pages, which end with `[Page N]`, the heads behind a form feed or a foot,
 /// which are not indented and end with a year, and the blank lines round them. A text without pages keeps all lines.

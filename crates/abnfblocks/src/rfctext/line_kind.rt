@@ -6,7 +6,7 @@ ghost use Rattle.abnfblocks.specs.LineKinds.{kind_of};
 use crate::rfctext::line_tests::{is_blank_line, is_dated, is_foot};
 
 /// What a line of a text looks like.
-#[derive(Clone, Copy, Debug, PartialEq, Eq)]
+#[derive(Clone, Copy)]
 pub enum LineKind {
     /// It holds nothing but blanks.
     Blank,

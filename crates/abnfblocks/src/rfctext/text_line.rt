@@ -1,14 +1,15 @@
 //! A line of a text.
-ghost use Rattle.std.specs.Prelude.{◌≡◌, ◌-◌, ◌≤◌, ◌==◌, not, length, take, drop};
+ghost use Rattle.std.specs.Prelude.{◌≡◌, ◌≤◌, ◌==◌, not, length, drop, codes};
 ghost use Rattle.std.specs.List.{prefix_len};
-ghost use Rattle.abnfblocks.specs.LineKinds.{is_feed};
-ghost use Rattle.abnfblocks.specs.TextLines.{numbered, line_in, without_cr};
+ghost use Rattle.std.specs.Option.{unwrap_or};
+ghost use Rattle.abnfblocks.specs.LineKinds.{is_feed, strip_end};
+ghost use Rattle.abnfblocks.specs.TextLines.{numbered, line_in};
 
 use crate::rfctext::line_kind::LineKind;
 use crate::rfctext::line_tests::count_feeds;
 
 /// A line of a text, without what ends it and without form feeds that begin it.
-#[derive(Clone, Copy, Debug)]
+#[derive(Clone, Copy)]
 pub struct TextLine<'a> {
     /// The line's number in the text, from 1.
     pub number: usize,
@@ -34,8 +35,8 @@ pub(crate) fn part_size(rest: &[u8]) -> usize
 }
 
 // The part without one CR at its end.
-fn before_cr(part: &[u8]) -> &[u8]
-    ensures { result.now ≡ without_cr part.now }
+pub(crate) fn before_cr(part: &[u8]) -> &[u8]
+    ensures { result.now ≡ unwrap_or (strip_end part.now (codes "\r")) part.now }
 {
     match part.strip_suffix(b"\r") {
         Some(bare) => bare,
@@ -44,13 +45,12 @@ fn before_cr(part: &[u8]) -> &[u8]
 }
 
 impl<'a> TextLine<'a> {
-    // The line that the bytes before an LF make.
+    // The line with these bytes and the form feeds that begin it.
     pub(crate) fn new(number: usize, part: &'a [u8]) -> TextLine<'a>
         ensures { numbered result ≡ line_in number part.now }
     {
-        let bare = before_cr(part);
-        let feeds = count_feeds(bare);
-        let bytes = &bare[feeds..];
+        let feeds = count_feeds(part);
+        let bytes = &part[feeds..];
         TextLine {
             number,
             bytes,

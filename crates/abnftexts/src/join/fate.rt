@@ -7,7 +7,7 @@ use ruletable::Memory;
 use std::alloc::Global;
 
 /// What becomes of a rule. Rules count from 0, in the order in which the texts give them.
-#[derive(Clone, Copy, Debug, PartialEq, Eq)]
+#[derive(Clone, Copy)]
 pub enum Fate {
     /// It stands.
     Stands,

@@ -5,7 +5,7 @@ ghost use Rattle.abnfread.specs.AbnfReading.{Reads};
 ghost use Rattle.abnfread.specs.AbnfSlices.{White};
 ghost use Rattle.abnfread.specs.Element.{Definition};
 ghost use Rattle.abnftexts.specs.LinkedTexts.{EndsLine, SpellsAtMargin, moved_definition};
-ghost use Rattle.lexer.specs.declared.limits.TheConstants.{MAX_GRAMMAR as MOST};
+ghost use Rattle.lexer.specs.GrammarLimits.{max_grammar};
 
 /// Says what texts of ABNF spell one behind the other, where LF ends the first one and the second one's first rule is
 /// not indented: the definitions of the first, and those of the second, whose names stand further on. Comments and
@@ -19,7 +19,7 @@ pub fn linked_reading()
         → SpellsAtMargin b definitions
         → SpellsAtMargin (a ++ b) (map (moved_definition (length a)) definitions) }
     ensures reads { (text : List ℕ) (definitions : List Definition) → SpellsAtMargin text definitions
-        → length text ≤ MOST → Reads text definitions }
+        → length text ≤ max_grammar → Reads text definitions }
     ensures spells { (b : ℕ) (bytes : List ℕ) (definitions : List Definition) → is_ascii_alphabetic b ≡ true
         → Reads (b ∷ bytes) definitions → SpellsAtMargin (b ∷ bytes) definitions }
 {}

@@ -10,7 +10,7 @@ use ruletable::Memory;
 use std::alloc::Global;
 
 /// Two definitions of one name, by their numbers: the first one, and another.
-#[derive(Clone, Copy, Debug, PartialEq, Eq)]
+#[derive(Clone, Copy)]
 pub struct Clash {
     pub first: usize,
     pub second: usize,

@@ -11,7 +11,7 @@ use ruletable::{LineRule, Memory};
 use std::alloc::Global;
 
 /// What a mention is.
-#[derive(Clone, Copy, Debug, PartialEq, Eq)]
+#[derive(Clone, Copy)]
 pub enum MentionKind {
     /// A name that is used.
     Use,

@@ -5,7 +5,7 @@ ghost use Rattle.diagnostics.specs.LinesAround.{breaks, begins_lf, line_size, by
 use ruletable::LineRule;
 
 /// The line of a place in a text, without what ends it, and where in that line the place is.
-#[derive(Clone, Copy, Debug)]
+#[derive(Clone, Copy)]
 pub struct LineAround<'a> {
     pub line: &'a [u8],
     /// How many bytes of the line stand before the place.

@@ -6,7 +6,7 @@ ghost use Rattle.diagnostics.specs.FactRows.{row_of};
 use ruletable::Memory;
 
 /// What is told of a text that begins so.
-#[derive(Clone, Copy, Debug)]
+#[derive(Clone, Copy)]
 pub struct Fact {
     pub begins: &'static [u8],
     pub told: &'static [u8],

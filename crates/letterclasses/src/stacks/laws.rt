@@ -3,7 +3,7 @@ ghost use Rattle.std.specs.Prelude.{◌≡◌, ◌↔◌, ◌++◌, ◌+◌, ◌
 ghost use Rattle.std.specs.Prelude.{slice_get};
 ghost use Rattle.flatgrammar.specs.Flat.{Flat, Place, Concat};
 ghost use Rattle.flatgrammar.specs.Holds.{Holds};
-ghost use Rattle.flatgrammar.specs.ToldBeginnings.{HasItem};
+ghost use Rattle.flatgrammar.specs.Holds.{HasItem};
 ghost use Rattle.letterclasses.specs.Stacks.{Reach, Accepts, ReadBy, TellsLast, AreUncounted, AreAlike};
 ghost use Rattle.letterclasses.specs.Stacks.{IsPlain, IsFront, IsNext, IsUnfolded, Lifted, IsReading};
 

@@ -5,7 +5,7 @@ ghost use Rattle.gramcheck.specs.Grammar.{IsSoundGrammar};
 ghost use Rattle.pegnodes.specs.Nodes.{shapes_of};
 ghost use Rattle.pegmatch.specs.KeptEvents.{SpellsSome};
 ghost use Rattle.memo.specs.Entries.{found_at};
-ghost use Rattle.matchfailure.specs.State.{HaveTaken, HaveFailed, IsUnderWay, AreCells};
+ghost use Rattle.matchfailure.specs.State.{HaveTaken, HaveFailed, IsUnderWay, AreCells, last_position};
 ghost use Rattle.matchfailure.specs.Turns.{same_turn, again_turn, opt_turn, and_turn, not_turn, star_turn, plus_turn};
 ghost use Rattle.matchfailure.specs.Turns.{IsLeafTurn, IsWalk, IsSearch, IsTurn};
 
@@ -201,6 +201,7 @@ pub(crate) fn next_turn(
     requires sound { IsSoundGrammar peg.now }
     requires spells { SpellsSome (rules_of peg.now.rules) (shapes_of peg.now.nodes) frame.node }
     requires place { frame.place ≤ length window.now }
+    requires low { frame.place ≤ last_position window.now more }
     requires some { more ≡ true → 0 < length window.now }
     requires right { AreCells (rules_of peg.now.rules) peg.now.start (shapes_of peg.now.nodes) peg.now.bodies window.now
         more cells.now }

@@ -6,7 +6,7 @@ use diagnostics::line_around;
 use ruletable::{LineRule, line_of};
 
 /// Where a byte stands in an input, whose lines end with LF.
-#[derive(Clone, Copy, PartialEq, Eq, Debug)]
+#[derive(Clone, Copy)]
 pub struct TextPlace {
     /// How many bytes stand before it.
     pub byte: usize,

@@ -3,7 +3,7 @@ ghost use Rattle.std.specs.Prelude.{◌≡◌};
 ghost use Rattle.matchfailure.specs.ToldUnit.{told_unit_of};
 
 /// One of the last two units of a run.
-#[derive(Clone, Copy, PartialEq, Eq, Debug)]
+#[derive(Clone, Copy)]
 pub enum Told {
     /// The last unit, which does not match.
     Last,

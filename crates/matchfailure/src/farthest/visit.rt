@@ -6,7 +6,7 @@ use indexmap::IndexSet;
 use ruletable::Memory;
 
 /// A node at a place.
-#[derive(Clone, Copy, PartialEq, Eq, PartialOrd, Ord, Hash, Debug)]
+#[derive(Clone, Copy, PartialEq, Eq, PartialOrd, Ord, Hash)]
 pub struct Visit {
     /// The number of the node.
     pub node: usize,

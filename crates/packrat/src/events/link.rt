@@ -7,7 +7,7 @@ use pegmatch::Kept;
 use ruletable::Memory;
 
 /// One event, or the events of a head and then those of another.
-#[derive(Clone, Copy, PartialEq, Eq, Debug)]
+#[derive(Clone, Copy)]
 pub enum Link {
     Opened(u32),
     Closed(u32),

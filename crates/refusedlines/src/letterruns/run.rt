@@ -1,7 +1,7 @@
 //! Letters one after another.
 
 /// The letters whose numbers are those from a first to a last.
-#[derive(Clone, Copy, Debug, PartialEq, Eq)]
+#[derive(Clone, Copy)]
 pub struct LetterRun {
     pub first: u32,
     pub last: u32,

@@ -9,7 +9,7 @@ use ruletable::Memory;
 use std::alloc::Global;
 
 /// What is told of letters.
-#[derive(Clone, Copy, Debug, PartialEq, Eq)]
+#[derive(Clone, Copy)]
 pub enum ToldLetters {
     /// In quotes: this letter, or if it is one of US-ASCII's A to Z, either case of it.
     Quoted(u8),

@@ -1,4 +1,4 @@
-use Rattle.std.proofs.Common.{◌++◌, ◌∙◌, [], slice_index_or}
+use Rattle.std.proofs.Common.{[], slice_index_or}
 use Rattle.ruletable.specs.Rules.{names_of}
 use Rattle.abnfexplain.proofs.ChainLinesLemmas.{appended_in_turn, line_by_ids, rest_is_whole}
 use Rattle.abnfexplain.proofs.chain_lines.push_chain.Goals as goal

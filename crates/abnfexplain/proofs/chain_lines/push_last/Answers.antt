@@ -1,4 +1,4 @@
-use Rattle.std.proofs.Common.{◌++◌, ◌∙◌, [], append_assoc, sym, slice_index_or}
+use Rattle.std.proofs.Common.{[], append_assoc, slice_index_or}
 use Rattle.ruletable.specs.Rules.{names_of}
 use Rattle.abnfexplain.proofs.ChainLinesLemmas.{last_by_ids, rest_is_whole}
 use Rattle.abnfexplain.proofs.chain_lines.push_last.Goals as goal

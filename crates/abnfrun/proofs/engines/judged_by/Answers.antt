@@ -5,7 +5,7 @@ use Rattle.abnfcheck.specs.Derivable.{RuleDerives}
 use Rattle.abnfread.specs.Element.{Rule}
 use Rattle.abnfrun.proofs.engines.judged_by.Goals as goal
 use Rattle.flatgrammar.specs.Flat.{Flat}
-use Rattle.flatgrammar.specs.Lowered.{IsLowered}
+use Rattle.lowering.specs.Lowered.{IsLowered}
 use Rattle.letters.specs.Letters.{has}
 
 derives_by : (test : ℕ → Bool) (x : List ℕ) (count : ℕ) (flat of : Flat) (told : Option Bool) → of ≡ flat

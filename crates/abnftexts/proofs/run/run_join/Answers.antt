@@ -3,12 +3,13 @@ use Rattle.std.proofs.Common.{◌≡◌, [], sym, true, false, ap, map, refl, Ok
 use Rattle.std.specs.Result.{is_err}
 use Rattle.ruletable.proofs.AppendsLemmas.{Appends-same}
 use Rattle.toolrun.specs.Status.{code_of}
-use Rattle.toolrun.specs.Stream.{passed}
+use Rattle.toolrun.specs.Stream.{no_input, passed}
 use Rattle.toolrun.specs.RunEnd.{plainly}
 use Rattle.toolrun.specs.declared.ending.Ending.TheVariants.{Plain}
 use Rattle.toolrun.specs.declared.stop.Stop.TheVariants.{NoMemory}
-use Rattle.toolrun.proofs.IsRightLemmas.{run_is_right, cut_short, stops_at_once, wrote-all, wrote-part}
-use Rattle.abnftexts.specs.JoinRun.{JoinStates, no_input}
+use Rattle.toolrun.proofs.IsRightLemmas.{cut_short, notes_some, notes_stated, run_is_right, stops_at_once}
+use Rattle.toolrun.proofs.IsRightLemmas.{wrote-all, wrote-part}
+use Rattle.abnftexts.specs.JoinRun.{JoinStates}
 use Rattle.abnftexts.specs.JoinedViews.{grammar_joined}
 use Rattle.abnftexts.specs.RulesGathered.{named_text}
 use Rattle.abnftexts.proofs.JoinRunLemmas.{DoesJoin, StopsEarly, early-planned, joined-planned}
@@ -18,8 +19,9 @@ pub returns-in-Err : goal.returns-in-Err
 returns-in-Err g c = record {
   right =
       let texts = map named_text c.args.texts.now in
-      run_is_right (JoinStates texts c.args.form) [] (StopsEarly texts c.args.form) (early-planned texts c.args.form)
-      no_input (passed g.O.Sink.contents g.O.Sink.failed c.args.out.now c.args.out.now)
+      run_is_right (JoinStates texts c.args.form) [] (StopsEarly texts c.args.form)
+      (notes_stated (early-planned texts c.args.form)) no_input
+      (passed g.O.Sink.contents g.O.Sink.failed c.args.out.now c.args.out.now)
       (passed g.O.Sink.contents g.O.Sink.failed c.args.out.now c.finish.new.out)
       (passed g.E.Sink.contents g.E.Sink.failed c.args.err.now c.finish.new.err)
       (g.E.Sink.contents c.args.err.now) (Ok (Plain NoMemory)) (code_of c.finish.result)
@@ -36,8 +38,8 @@ returns-then-is_err g c = record {
       let texts = map named_text c.args.texts.now in
       let joined = grammar_joined c.in-Ok.joined in
       let bytes = rw c.deref.ensures.value at c.write_whole.ensures.bytes in
-      cut_short (JoinStates texts c.args.form) joined.told (DoesJoin c.args.form joined)
-      (joined-planned texts c.args.form joined c.in-Ok.ensures) no_input
+      cut_short (JoinStates texts c.args.form) joined.told
+      (notes_some (joined-planned texts c.args.form joined c.in-Ok.ensures)) no_input
       (passed g.O.Sink.contents g.O.Sink.failed c.args.out.now c.close.new.out)
       (passed g.E.Sink.contents g.E.Sink.failed c.args.err.now c.close.new.err)
       _ (code_of c.close.result) refl (wrote-part _ _ _ c.write_whole.result failed bytes) c.close.ensures.out
@@ -52,7 +54,7 @@ returns g c = record {
       let joined = grammar_joined c.in-Ok.joined in
       let bytes = rw c.deref.ensures.value at c.write_whole.ensures.bytes in
       run_is_right (JoinStates texts c.args.form) joined.told (DoesJoin c.args.form joined)
-      (joined-planned texts c.args.form joined c.in-Ok.ensures) no_input
+      (notes_stated (joined-planned texts c.args.form joined c.in-Ok.ensures)) no_input
       (passed g.O.Sink.contents g.O.Sink.failed c.args.out.now c.write_joined-stop.new.out)
       (passed g.O.Sink.contents g.O.Sink.failed c.args.out.now c.finish-2.new.out)
       (passed g.E.Sink.contents g.E.Sink.failed c.args.err.now c.finish-2.new.err)

@@ -1,23 +1,26 @@
-use Rattle.std.proofs.Common.{map}
+use Rattle.std.proofs.Common.{map, refl}
 use Rattle.abnfblocks.specs.TextLines.{numbered}
 use Rattle.abnftexts.specs.RulesGathered.{rules_gathered}
+use Rattle.abnftexts.proofs.AloneRulesLemmas.{found-alone}
+use Rattle.abnftexts.proofs.ClearLinesLemmas.{kept-clear}
 use Rattle.abnftexts.proofs.RulesTakenLemmas.{found-all, lines-from, no_piece-more, piece-lines, piece-more}
 use Rattle.abnftexts.proofs.taken.take_found.Goals as goal
 use Rattle.abnftexts.proofs.taken.take_found.Goals.{in-Piece+in_ok-take_piece-in-Piece}
 use Rattle.abnftexts.proofs.taken.take_found.Goals.{in-NotAbnf+in_ok-push_not_abnf-in-NotAbnf}
 
 pub loop-it-preserved : goal.loop-it-preserved
-loop-it-preserved c = λ end more.
+loop-it-preserved c = λ text keeps are end more.
     let kept = map numbered c.args.kept.now in
+    let alone = found-alone (kept-clear text keeps) are refl in
     elim c.match-it.branch [
-      | in-Piece+in_ok-take_piece-in-Piece w ↦ c.loop-it.invariant end
+      | in-Piece+in_ok-take_piece-in-Piece w ↦ c.loop-it.invariant text keeps are end
           (piece-more c.args.name.now kept c.args.found.now c.loop-it.it-index _ w.in-Piece.first w.in-Piece.count
           w.lines_before-lines.result.now (rules_gathered c.loop-it.gathered)
           (rules_gathered w.take_piece.new.gathered) end c.loop-it-test.true w.in-Piece.is
           (piece-lines c.args.kept.now w.lines_behind.result.now w.lines_before-lines.result.now w.in-Piece.first
-          w.in-Piece.count w.lines_behind.ensures w.lines_before-lines.ensures) w.in_ok-take_piece-in-Piece.ensures
-          (rw w.gathered-is at more))
-      | in-NotAbnf+in_ok-push_not_abnf-in-NotAbnf w ↦ c.loop-it.invariant end
+          w.in-Piece.count w.lines_behind.ensures w.lines_before-lines.ensures) alone
+          w.in_ok-take_piece-in-Piece.ensures (rw w.gathered-is at more))
+      | in-NotAbnf+in_ok-push_not_abnf-in-NotAbnf w ↦ c.loop-it.invariant text keeps are end
           (no_piece-more c.args.name.now kept c.args.found.now c.loop-it.it-index _ w.in-NotAbnf.first
           w.in-NotAbnf.fault (map numbered w.lines_behind-in-NotAbnf.result.now) (rules_gathered c.loop-it.gathered)
           w.push_not_abnf.new.out.items end c.loop-it-test.true w.in-NotAbnf.is
@@ -26,6 +29,6 @@ loop-it-preserved c = λ end more.
     ]
 
 pub returns : goal.returns
-returns c = c.loop-it.invariant (rules_gathered c.loop-it.gathered)
+returns c = λ text keeps are. c.loop-it.invariant text keeps are (rules_gathered c.loop-it.gathered)
     (found-all c.args.name.now (map numbered c.args.kept.now) c.args.found.now c.loop-it.it-index
     (rules_gathered c.loop-it.gathered) c.loop-it-test.false)

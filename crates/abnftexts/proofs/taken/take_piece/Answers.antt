@@ -1,8 +1,7 @@
 use Rattle.std.proofs.Common.{subst, ℕ, map}
 use Rattle.abnfblocks.specs.TextLines.{numbered}
 use Rattle.abnftexts.specs.RulesGathered.{rules_gathered}
-use Rattle.abnftexts.specs.TakenRules.{TakesMore}
-use Rattle.abnftexts.specs.TextRules.{GivesPiece}
+use Rattle.abnftexts.specs.TakenRules.{TakesRules}
 use Rattle.abnftexts.proofs.RulesTakenLemmas.{piece-all, rest-within, rule-more}
 use Rattle.abnftexts.proofs.taken.take_piece.Goals as goal
 
@@ -20,7 +19,7 @@ loop-at-preserved c = record {
 pub returns : goal.returns
 returns c =
     let rows = map numbered c.args.lines.now in
-    subst (λ (m : ℕ). TakesMore (GivesPiece c.args.name.now m rows) (rules_gathered c.args.gathered.now)
+    subst (λ (m : ℕ). TakesRules c.args.name.now m rows (rules_gathered c.args.gathered.now)
     (rules_gathered c.loop-at.gathered)) c.margin_in-margin_size.ensures
     (c.loop-at.invariant.rest (rules_gathered c.loop-at.gathered)
     (piece-all c.args.name.now c.margin_in-margin_size.result c.args.lines.now c.loop-at.at

@@ -1,8 +1,7 @@
 use Rattle.std.proofs.Common.{◌-◌, ◌≤◌, length, map, drop}
 use Rattle.abnfblocks.specs.TextLines.{numbered}
 use Rattle.abnftexts.specs.RulesGathered.{RulesGathered, rules_gathered}
-use Rattle.abnftexts.specs.TakenRules.{TakesMore}
-use Rattle.abnftexts.specs.TextRules.{GivesPiece}
+use Rattle.abnftexts.specs.TakenRules.{TakesRules}
 use Rattle.abnftexts.proofs.taken.take_piece.Given as goal
 
 -- what the lines to come give completes what those so far gave
@@ -10,8 +9,8 @@ abbrev pub invariant-loop-at : goal.invariant-loop-at
 invariant-loop-at l = record {
   within : l.at ≤ length l.lines;
   rest : (end : RulesGathered)
-      → TakesMore (GivesPiece l.name l.margin_size (map numbered (drop l.at l.lines))) (rules_gathered l.gathered) end
-      → TakesMore (GivesPiece l.name l.margin_size (map numbered l.lines)) (rules_gathered l.fn.gathered) end;
+      → TakesRules l.name l.margin_size (map numbered (drop l.at l.lines)) (rules_gathered l.gathered) end
+      → TakesRules l.name l.margin_size (map numbered l.lines) (rules_gathered l.fn.gathered) end;
 }
 
 abbrev pub decreases-loop-at : goal.decreases-loop-at

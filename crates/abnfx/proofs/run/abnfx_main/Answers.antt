@@ -1,12 +1,14 @@
 -- The error says what is wrong with the words; where nothing is, an allocation failed.
 use Rattle.std.proofs.Common.{[], map, string_bytes, Global, refl}
 use Rattle.clap.specs.Words.{fault_of, matches_of}
+use Rattle.toolrun.specs.Plan.{IsToldAnd}
 use Rattle.toolrun.specs.Status.{code_of}
-use Rattle.toolrun.specs.Stream.{passed}
+use Rattle.toolrun.specs.Stream.{no_input, passed}
 use Rattle.toolrun.specs.declared.stop.Stop.TheVariants.{NoMemory}
-use Rattle.abnfx.specs.JoinAnswers.{IsToldAnd, JoinAnswers, no_memory}
+use Rattle.abnfx.specs.JoinAnswers.{JoinAnswers, no_memory}
 use Rattle.abnfx.specs.JoinWords.{abnfx_app}
-use Rattle.abnfx.proofs.JoinAnswersLemmas.{comes_as, no_room, stop_comes}
+use Rattle.abnfx.proofs.JoinAnswersLemmas.{no_room, stop_comes}
+use Rattle.toolrun.proofs.IsRightLemmas.{comes_as}
 use Rattle.abnfx.proofs.run.abnfx_main.Goals as goal
 
 pub returns-in-Err-clause-words : goal.returns-in-Err-clause-words
@@ -21,6 +23,6 @@ returns-in-Err-clause-right g c = λ none.
     let out = passed g.O.Sink.contents g.O.Sink.failed c.args.out.now c.end_unready.new.out in
     let err = passed g.E.Sink.contents g.E.Sink.failed c.args.err.now c.end_unready.new.err in
     comes_as (IsToldAnd [] NoMemory) (JoinAnswers (matches_of abnfx_app words))
-    (λ input notes reply is. rw (is.0, is.1) no_memory) out err (code_of c.end_unready.result)
+    (λ input notes reply is. rw (is.0, is.1) no_memory) no_input out err (code_of c.end_unready.result)
     (stop_comes NoMemory out err (code_of c.end_unready.result)
     (c.end_unready.ensures.stopped NoMemory (memory, refl)))

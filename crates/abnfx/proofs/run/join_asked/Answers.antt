@@ -1,13 +1,14 @@
 -- One form is asked for, or two, which is told.
 use Rattle.std.proofs.Common.{sym}
+use Rattle.toolrun.specs.Plan.{IsToldAnd}
 use Rattle.toolrun.specs.Status.{code_of}
-use Rattle.toolrun.specs.Stream.{passed}
+use Rattle.toolrun.specs.Stream.{no_input, passed}
 use Rattle.toolrun.specs.declared.status.Status.TheVariants as status
 use Rattle.toolrun.specs.declared.stop.Stop.TheVariants.{Quiet}
 use Rattle.clap.specs.Words.{found_of, rows_of}
-use Rattle.abnfx.specs.JoinAnswers.{FilesJoined, IsToldAnd, JoinAnswers, asks, both, both_forms}
+use Rattle.abnfx.specs.JoinAnswers.{FilesJoined, JoinAnswers, asks, both, both_forms}
 use Rattle.abnfx.specs.JoinWords.{paths_asked}
-use Rattle.abnfx.proofs.JoinAnswersLemmas.{comes_as}
+use Rattle.toolrun.proofs.IsRightLemmas.{comes_as}
 use Rattle.abnfx.proofs.run.join_asked.Goals as goal
 
 pub returns-in-Some : goal.returns-in-Some
@@ -16,7 +17,7 @@ returns-in-Some g c =
     record {
       right = comes_as (FilesJoined (paths_asked rows) c.in-Some.form) (JoinAnswers rows)
           (λ input notes reply is. asks (sym c.in-Some.ensures) is)
-          (passed g.O.Sink.contents g.O.Sink.failed c.args.out.now c.join_named.new.out)
+          no_input (passed g.O.Sink.contents g.O.Sink.failed c.args.out.now c.join_named.new.out)
           (passed g.E.Sink.contents g.E.Sink.failed c.args.err.now c.join_named.new.err) (code_of c.join_named.result)
           c.join_named.ensures.right;
     }
@@ -27,7 +28,7 @@ returns-in-None g c =
     record {
       right = comes_as (IsToldAnd both_forms (Quiet status.Refused)) (JoinAnswers rows)
           (λ input notes reply is. rw (is.0, is.1) (both (sym c.in-None.ensures)))
-          (passed g.O.Sink.contents g.O.Sink.failed c.args.out.now c.end_clash.new.out)
+          no_input (passed g.O.Sink.contents g.O.Sink.failed c.args.out.now c.end_clash.new.out)
           (passed g.E.Sink.contents g.E.Sink.failed c.args.err.now c.end_clash.new.err) (code_of c.end_clash.result)
           c.end_clash.ensures.right;
     }

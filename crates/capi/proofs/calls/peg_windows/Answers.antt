@@ -2,7 +2,7 @@
 use Rattle.pegrun.specs.Answers.{States}
 use Rattle.capi.specs.WindowsRun.{all_ran}
 use Rattle.capi.proofs.FrontTextLemmas.{front_is_behind, front_stands_first}
-use Rattle.capi.proofs.WindowRunsLemmas.{runs_told}
+use Rattle.capi.proofs.WindowRunsLemmas.{kept_told, runs_told}
 use Rattle.toolrun.specs.Plan.{first_text}
 use Rattle.capi.proofs.calls.peg_windows.Goals as goal
 
@@ -17,6 +17,6 @@ returns c =
     all_ran settings told c.run_windows-texts.result.out.items ran.0 c.in-Some.ensures
     (front_stands_first states _ (first_text plan.first) plan.task front.plan.task told c.front_of-front.ensures
     c.plan_of.ensures)
-    (runs_told _ _ c.args.input.now (front_is_behind states _ (first_text plan.first) plan.task front.plan.task told
-    c.front_of-front.ensures c.plan_of.ensures) c.args.windows.now _ _ _ ran.1)
+    (runs_told _ _ c.args.input.now (kept_told _ _ (front_is_behind states _ (first_text plan.first) plan.task
+    front.plan.task told c.front_of-front.ensures c.plan_of.ensures)) c.args.windows.now _ _ _ ran.1)
     c.hand_out.ensures.out (rw ran.2 at c.hand_out.ensures.err) c.hand_out.ensures.status

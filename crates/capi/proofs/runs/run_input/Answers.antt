@@ -1,7 +1,10 @@
--- With any settings that ask for such a run.
+-- The runner stays, and the run is one with any settings that ask for it.
 use Rattle.pegread.specs.PegViews.{rules_of}
-use Rattle.capi.proofs.RunSettingsLemmas.{planned_by_three}
+use Rattle.capi.proofs.RunSettingsLemmas.{planned_by_three, runner_stays}
 use Rattle.capi.proofs.runs.run_input.Goals as goal
+
+pub returns-clause-same : goal.returns-clause-same
+returns-clause-same c = runner_stays c.args.runner.now _ _ c.run_opened.ensures.same
 
 pub returns-clause-runs : goal.returns-clause-runs
 returns-clause-runs c = λ settings by.

@@ -1,16 +1,15 @@
 -- All of the run's texts, or a part if an allocation failed.
-use Rattle.std.proofs.Common.{ℕ, List, [], ◌++◌, refl, sym, ◌∙◌, ap}
+use Rattle.std.proofs.Common.{ℕ, List, [], ◌++◌, refl, sym, ◌∙◌, ap, inl, inr}
 use Rattle.std.proofs.lemmas.List.{append-nil}
 use Rattle.capi.specs.WindowRuns.{part, whole}
 use Rattle.capi.proofs.WindowRunsLemmas.{text_is_appended, text_is_kept}
-use Rattle.ruletable.proofs.AppendsLemmas.{IsBeginning-nil, IsBeginning-same}
 use Rattle.toolrun.specs.Status.{code_of}
 use Rattle.capi.proofs.window_texts.append_run.Goals as goal
 
 pub returns-then-is_err : goal.returns-then-is_err
 returns-then-is_err c = (
   record { out = []; err = []; code = 5 },
-  part refl (IsBeginning-nil _),
+  part refl refl (inl refl),
   text_is_kept c.args.texts.now.out.items c.as_slice-printed.result.now _ c.extend_from_slice.result
       c.extend_from_slice.ensures.items (sym c.if-is_err.ensures.value)
       ∙ sym (append-nil _),
@@ -21,7 +20,7 @@ returns-then-is_err c = (
 pub returns-then-is_err-2 : goal.returns-then-is_err-2
 returns-then-is_err-2 c = (
   record { out = c.args.ran.now.out.items; err = []; code = 5 },
-  part refl (IsBeginning-same _),
+  part refl refl (inr refl),
   text_is_appended c.args.texts.now.out.items c.as_slice-printed.result.now _ c.extend_from_slice.result
       c.extend_from_slice.ensures.items (sym c.if-is_err.ensures.value)
       ∙ ap (λ (x : List ℕ). c.args.texts.now.out.items ++ x) c.as_slice-printed.ensures.value,

@@ -2,9 +2,6 @@
 use Rattle.std.proofs.Common.{[], refl, sym}
 use Rattle.std.proofs.lemmas.List.{append-nil}
 use Rattle.capi.specs.WindowRuns.{outside, ran}
-use Rattle.capi.proofs.WindowRunsLemmas.{kept_is_planned}
-use Rattle.toolrun.specs.Plan.{does_of}
-use Rattle.toolrun.specs.Tasks.{task_does}
 use Rattle.toolrun.specs.Status.{code_of}
 use Rattle.capi.proofs.windows.run_window.Goals as goal
 
@@ -20,14 +17,15 @@ returns-in-None g c = (
 pub returns-in-Some : goal.returns-in-Some
 returns-in-Some g c = (
   c.append_run.ensures.0,
-  ran c.in-Some.ensures.1
-      (rw (sym c.in-Some.ensures.0) (kept_is_planned
-      (does_of (λ t. task_does g.L.Language.canonical g.L.Language.runs t c.args.settings.now)
-      c.args.plan.now.task) c.in-Some.bytes.now (record {
-        out = c.run_plan.result.out.items;
-        err = c.run_plan.result.err.items;
-        code = code_of c.run_plan.result.status;
-      }) c.append_run.ensures.0 c.run_plan.ensures c.append_run.ensures.1)),
+  ran c.in-Some.ensures.1 (
+    record {
+      out = c.run_plan.result.out.items;
+      err = c.run_plan.result.err.items;
+      code = code_of c.run_plan.result.status;
+    },
+    rw (sym c.in-Some.ensures.0) c.run_plan.ensures,
+    c.append_run.ensures.1,
+  ),
   c.append_run.ensures.2,
   c.append_run.ensures.3,
   c.append_run.ensures.4,

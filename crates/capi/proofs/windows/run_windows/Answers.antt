@@ -2,7 +2,7 @@
 use Rattle.std.proofs.Common.{◌≡◌, [], ap, append-nil, append_assoc, sym, refl, ◌∙◌, ◌++◌, ℕ, List}
 use Rattle.std.proofs.lemmas.List.{length-set, take_all}
 use Rattle.capi.proofs.WindowRunsLemmas.{no_window, one_more_at}
-use Rattle.capi.specs.WindowRuns.{planned}
+use Rattle.capi.specs.WindowRuns.{KeptRun, planned}
 use Rattle.toolrun.specs.Plan.{does_of}
 use Rattle.toolrun.specs.Tasks.{task_does}
 use Rattle.capi.proofs.windows.run_windows.Goals as goal
@@ -25,8 +25,8 @@ loop-n-preserved g c =
     record {
       ran = (
         told ++ run.err,
-        one_more_at (planned (does_of (λ t. task_does g.L.Language.canonical g.L.Language.runs t
-            c.args.settings.now) c.args.front.plan.task)) c.args.input.now
+        one_more_at (KeptRun (planned (does_of (λ t. task_does g.L.Language.canonical g.L.Language.runs t
+            c.args.settings.now) c.args.front.plan.task))) c.args.input.now
             c.args.windows.now c.loop-n.n _ c.loop-n.texts.out.items told
             c.run_window.new.texts.out.items (told ++ run.err) c.loop-n.results c.run_window.result
             run c.loop-n-test.true c.loop-n.invariant.count before.1

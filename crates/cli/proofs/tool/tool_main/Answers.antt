@@ -2,7 +2,6 @@
 -- was.
 use Rattle.std.proofs.Common.{rules, map, string_bytes, Global}
 use Rattle.clap.specs.Words.{fault_of, matches_of}
-use Rattle.cli.proofs.AnswersLemmas.{no_answers}
 use Rattle.cli.proofs.JobStatesLemmas.{job_comes, unready_comes}
 use Rattle.toolrun.specs.Status.{code_of}
 use Rattle.toolrun.specs.Stream.{passed}
@@ -12,9 +11,8 @@ pub returns-in-Ok : goal.returns-in-Ok
 returns-in-Ok g c =
     let job = c.in-Ok.ensures.job in
     let words = map (string_bytes {Z = Global}) c.args.words.now in
-    let kinds = fault_of job.0 words in
     record {
-      words = (job.0, job.1, no_answers kinds _ _ job.2.0);
+      words = (job.0, job.1, λ some. absurd (some job.2.0));
       right = (
         job.0,
         job.1,
@@ -32,13 +30,8 @@ returns-in-Err g c =
     let job = c.in-Err.ensures.job in
     let words = map (string_bytes {Z = Global}) c.args.words.now in
     let kinds = fault_of job.0 words in
-    let end = c.end_unready.ensures.words kinds job.2 in
     record {
-      words = (
-        job.0,
-        job.1,
-        (λ faults. let told = end.0 faults in (search rules, told.0, told.1), λ help. (search rules, end.1 help)),
-      );
+      words = (job.0, job.1, λ some. (search rules, c.end_unready.ensures.words kinds job.2 some));
       right = (
         job.0,
         job.1,

@@ -1,5 +1,6 @@
 use Rattle.std.proofs.Common.{◌≡◌, ◌∙◌, ℕ, Some, slice_get, ◌+◌, ◌≤◌, ◌++◌, ◌∷◌, [], length, map, subst, sym, arith}
 use Rattle.std.proofs.Common.{length-append, ap}
+use Rattle.std.specs.Prelude.{sum_by}
 use Rattle.earleyitems.specs.ItemHomes.{head_rows, head_rows_with, AreCallersHomed, AreReadersHomed}
 use Rattle.earleyitems.proofs.ItemHomesLemmas.{items_keep, rows_more, rows_pushed}
 use Rattle.flatgrammar.specs.Places.{AreDifferent}
@@ -15,7 +16,7 @@ use Rattle.earleyitems.proofs.ExpandLemmas.{get_views}
 use Rattle.earleyitems.proofs.ListAllLemmas.{waiting_push}
 use Rattle.earleyitems.proofs.IsBuiltLemmas.{built_exact}
 use Rattle.earleyitems.proofs.ViewsLemmas.{going_from, built_by}
-use Rattle.earleyitems.proofs.ChartSetsLemmas.{sized_push}
+use Rattle.earleyitems.proofs.ChartSetsLemmas.{counted_push, sized_push}
 use Rattle.earleyitems.proofs.chart.fill_sets.Goals as goal
 
 pub fill-requires-clause-begun : goal.fill-requires-clause-begun
@@ -66,6 +67,11 @@ loop-most-preserved g c =
           (c.in_ok-blocks.ensures.held (map g.L.Letter.number c.args.line.now) here.built.held worklist)
           c.in_ok-blocks.ensures.different c.in_ok-blocks.ensures.keeps
           c.in_ok-blocks.ensures.closed);
+      counted = subst (λ v. c.saturating_add-beside.result ≤ sum_by (λ set. length set) (views c.args.flat.now 0 v))
+          (sym pushed)
+          (counted_push c.args.flat.now c.loop-most.sets kept_set c.fill.new.items.items c.loop-most.beside
+          c.saturating_add-beside.result (kept.same_items ∙ c.list.ensures) here.counted
+          (let sum = c.saturating_add-beside.ensures in let n = c.len-in-loop-most-2.ensures in omega (arith, sum, n)));
       within = (let short : length (c.loop-most.sets ++ kept_set ∷ []) ≤ length c.args.line.now + 1 =
           omega (arith, size, test, len) in
           subst (λ v. length v ≤ length c.args.line.now + 1) (sym pushed) short);

@@ -1,4 +1,5 @@
 use Rattle.std.proofs.Common.{◌≡◌, ℕ, [], ◌+◌, ◌-◌, ◌≤◌, Some, length, map, slice_get}
+use Rattle.std.specs.Prelude.{sum_by}
 use Rattle.earleyitems.specs.Charts.{IsBuilt}
 use Rattle.earleyitems.specs.Chosen.{AreReaders}
 use Rattle.earleyitems.specs.Waiting.{AreWaitingAll}
@@ -10,6 +11,7 @@ use Rattle.earleyitems.proofs.chart.fill_sets.Given as goal
 abbrev pub invariant-loop-most : goal.invariant-loop-most
 invariant-loop-most g l = record {
   built : IsBuilt l.flat (map g.L.Letter.number l.line) (views l.flat 0 l.sets);
+  counted : l.beside ≤ sum_by (λ set. length set) (views l.flat 0 l.sets);
   within : length l.sets ≤ length l.line + 1;
   no_heads : l.kept.heads ≡ [];
   no_items : l.kept.items.items ≡ [];

@@ -20,7 +20,7 @@ loop-track-preserved g c = record {
       (c.loop-track.invariant.glides tables roots classes memo track)
       (number_at g.L.Letter.number c.args.line.now c.loop-track.track.at c.index-line-track.result
       c.value.result c.loop-track-test.true c.index-line-track.is c.value.ensures.number)
-      (c.class_of-class.ensures (flat_of tables) classes)
+      (c.class_of-class.ensures (flat_of tables) classes.low_are.classes classes.parted)
       (subst (λ v. IsTaken v (nat_eq c.len-is_bare.result 0) (c.loop-track.track.row + c.class_of-class.result)
       c.in-Some.row) c.as_slice-hops.ensures.value
       (subst (λ v. IfSome v (IsTaken c.as_slice-hops.result.now (nat_eq c.len-is_bare.result 0)

@@ -1,6 +1,6 @@
 use Rattle.std.proofs.Common.{inl, inr, sym, subst}
 use Rattle.std.specs.Prelude.{slice_get, Some, ◌≡◌}
-use Rattle.flatgrammar.proofs.FlatCutLemmas.{push_cases}
+use Rattle.flatgrammar.proofs.SliceGetLemmas.{push_cases}
 use Rattle.lazydfa.proofs.hops.add_hops.Goals as goal
 
 pub loop-preserved : goal.loop-preserved

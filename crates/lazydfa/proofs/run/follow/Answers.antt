@@ -61,7 +61,7 @@ returns-in-Dead-clause-told g c =
     (c.in_ok-t.ensures.taken (map g.L.Letter.number c.args.line.now) c.loop-stand.stand.at c.value.result
     (number_at g.L.Letter.number c.args.line.now c.loop-stand.stand.at c.index-line-stand.result c.value.result
     c.loop-stand-test.true c.index-line-stand.is c.value.ensures.number)
-    (c.class_of-class.ensures (flat_of c.args.tables.now) c.requires.classes)
+    (c.class_of-class.ensures (flat_of c.args.tables.now) c.requires.classes.low_are.classes c.requires.classes.parted)
     c.loop-stand.invariant.stands.runs))
 
 pub loop-stand-preserved : goal.loop-stand-preserved
@@ -71,7 +71,7 @@ loop-stand-preserved g c =
     (c.in_ok-t.ensures.taken (map g.L.Letter.number c.args.line.now) c.loop-stand.stand.at c.value.result
     (number_at g.L.Letter.number c.args.line.now c.loop-stand.stand.at c.index-line-stand.result c.value.result
     c.loop-stand-test.true c.index-line-stand.is c.value.ensures.number)
-    (c.class_of-class.ensures (flat_of c.args.tables.now) c.requires.classes)
+    (c.class_of-class.ensures (flat_of c.args.tables.now) c.requires.classes.low_are.classes c.requires.classes.parted)
     c.loop-stand.invariant.stands.runs) in
     record {
       memo = c.in_ok-t.ensures.memo;

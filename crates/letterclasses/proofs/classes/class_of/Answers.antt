@@ -3,11 +3,11 @@ use Rattle.std.proofs.lemmas.Option.{slice_get-get_or}
 use Rattle.letterclasses.proofs.classes.class_of.Goals as goal
 
 pub returns-in-Some : goal.returns-in-Some
-returns-in-Some c = λ flat classes.
-    classes.low_are c.args.value c.in-Some.class.now
+returns-in-Some c = λ flat classes parted.
+    classes c.args.value c.in-Some.class.now
     (slice_get-get_or c.args.low.now c.args.value c.in-Some.class.now
     (let t = c.in-Some.ensures.lookup.0 in grind (arith, t))
     ∙ ap (λ v. Some v) (sym c.in-Some.ensures.lookup.1))
 
 pub returns-in-None : goal.returns-in-None
-returns-in-None c = λ flat classes. c.class_above.ensures flat classes.parted
+returns-in-None c = λ flat classes parted. c.class_above.ensures flat parted

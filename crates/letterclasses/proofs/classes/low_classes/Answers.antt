@@ -1,3 +1,4 @@
+use Rattle.std.proofs.Common.{arith}
 use Rattle.letterclasses.proofs.AreClassesLemmas.{low_next}
 use Rattle.letterclasses.proofs.classes.low_classes.Goals as goal
 
@@ -8,4 +9,9 @@ loop-number-preserved c = λ flat parted.
     (c.loop-number.invariant flat parted)
 
 pub returns : goal.returns
-returns c = λ flat parted. (c.loop-number.invariant flat parted).low_are
+returns c = λ flat parted.
+    let all = c.loop-number.invariant flat parted in
+    let size = all.size in
+    let over = c.loop-number-test.false in
+    let most = c.loop-number.auto.number-end in
+    record { count = omega (arith, size, over, most); classes = all.low_are }

@@ -2,14 +2,14 @@ use Rattle.std.proofs.Common.{Global, Option, Some, ℕ, List, Vec, refl, sym, a
 use Rattle.std.specs.Prelude.{option_map}
 use Rattle.fixpoint.specs.StepRows.{AreStepsWithin, rows_of}
 use Rattle.ruletable.specs.Rules.{find_in}
-use Rattle.shortestpaths.specs.ShortChains.{IsRoundIfAny}
+use Rattle.fixpoint.specs.ShortChains.{IsRoundIfAny}
 use Rattle.pegexplain.specs.NullTests.{null_mark_of, nullable_by}
 use Rattle.pegexplain.proofs.LeftWithinLemmas.{found-below, rows-within}
 use Rattle.pegexplain.proofs.left_notes.push_way.Goals as goal
 
 pub left_way-requires-clause-within : goal.left_way-requires-clause-within
 left_way-requires-clause-within c =
-    let rows = (let told = c.in_ok-rows.ensures in rw c.deref.ensures.value at told) in
+    let rows = (let told = c.in_ok-rows.ensures.rows in rw c.deref.ensures.value at told) in
     subst AreStepsWithin (sym (ap rows_of c.deref-2.ensures.value ∙ rows))
     (rows-within (find_in c.args.places.now.rules) _ (found-below c.args.places.now.rules)
     (nullable_by (null_mark_of c.args.places.now.rules c.args.places.now.nulls.items)) c.args.places.now.rules.rules
@@ -17,7 +17,7 @@ left_way-requires-clause-within c =
 
 pub returns-in-Some : goal.returns-in-Some
 returns-in-Some c =
-    let rows = (let told = c.in_ok-rows.ensures in rw c.deref.ensures.value at told) in (
+    let rows = (let told = c.in_ok-rows.ensures.rows in rw c.deref.ensures.value at told) in (
       Some c.in-Some.chain.items,
       subst (λ (steps : List (List ℕ)). IsRoundIfAny steps c.args.id (Some c.in-Some.chain.items))
           (ap rows_of c.deref-2.ensures.value ∙ rows)

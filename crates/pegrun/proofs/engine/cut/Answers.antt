@@ -26,6 +26,7 @@ loop-n-init g c = record {
       none,
       Appends-same _,
       λ asked kept. front_is_first _ _ _ input c.new-past.result c.new-past.ensures.bytes,
+      omega arith,
     ),
   );
 }
@@ -107,6 +108,7 @@ loop-n-preserved g c =
                   c.pass.new.self so_far.0 items so_far.1 c.loop-n.past.next (let f = so_far.2 asked in f.next)
                   (c.pass.ensures.at asked)
                   (c.pass.ensures.bytes asked kept) le,
+              omega (arith, front.4, c.in-Ok-Takes.ensures.twice, longer.3),
             ),
       );
     }
@@ -152,11 +154,19 @@ returns-in-Ok-Stops-clause-units g c =
       λ input b.
           let a = rw same.flow at b in
           let front = so_far.4 input (agrees_earlier _ _ _ grew so_far.0 input a) in
-          let step = c.in-Ok-Stops.ensures.follows so_far.0 input so_far.1 a in
-          stops_at_place _ _ _ input _ _ _ c.loop-n.start front.0 (length (so_far.0 ++ items)) front.1 front.2
-          c.loop-n.past so_far.0 items a.more so_far.1 a.bytes step.1 front.3
-          c.in-Ok-Stops.stop c.ending_at.result (rw c.in-Ok-Stops.field-0-is at step.0) c.ending_at.ensures.plain
-          (λ asked. c.ending_at.ensures.told asked so_far.0 (so_far.2 asked)) step.1,
+          let step = c.in-Ok-Stops.ensures.follows so_far.0 input so_far.1 a in (
+            stops_at_place _ _ _ input _ _ _ c.loop-n.start front.0 (length (so_far.0 ++ items)) front.1 front.2
+                c.loop-n.past so_far.0 items a.more so_far.1 a.bytes step.1 front.3
+                c.in-Ok-Stops.stop c.ending_at.result (rw c.in-Ok-Stops.field-0-is at step.0) c.ending_at.ensures.plain
+                (λ asked. c.ending_at.ensures.told asked so_far.0 (so_far.2 asked)) step.1,
+            record {
+              place = c.loop-n.start;
+              within = omega (arith, length-append so_far.0 items, so_far.1);
+              text = front.0;
+              units = front.1;
+              few = omega (arith, front.4, c.in-Ok-Stops.ensures.twice);
+            },
+          ),
     )
 
 pub returns-in-Err-clause-units : goal.returns-in-Err-clause-units
@@ -178,7 +188,15 @@ returns-in-Err-clause-units g c =
           ),
       λ input a.
           let front = so_far.4 input (agrees_earlier _ _ _ grew so_far.0 input a) in
-          let step = c.in-Err.ensures.follows so_far.0 input so_far.1 a in
-          fails_there _ _ _ input _ _ _ c.loop-n.start front.0 (length (so_far.0 ++ items)) front.1 front.2
-          c.in-Err.fault step.0 step.1,
+          let step = c.in-Err.ensures.follows so_far.0 input so_far.1 a in (
+            fails_there _ _ _ input _ _ _ c.loop-n.start front.0 (length (so_far.0 ++ items)) front.1 front.2
+                c.in-Err.fault step.0 step.1,
+            record {
+              place = c.loop-n.start;
+              within = omega (arith, length-append so_far.0 items, so_far.1);
+              text = front.0;
+              units = front.1;
+              few = omega (arith, front.4, c.in-Err.ensures.twice);
+            },
+          ),
     )

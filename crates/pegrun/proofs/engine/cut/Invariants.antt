@@ -1,6 +1,6 @@
 -- The units so far, of every input that begins with what was seen, have been written, and the last one is kept if the
 -- run is explained.
-use Rattle.std.proofs.Common.{◌≡◌, ◌+◌, ◌-◌, ◌++◌, length, true, false, ℕ, List}
+use Rattle.std.proofs.Common.{◌≡◌, ◌+◌, ◌-◌, ◌*◌, ◌≤◌, ◌++◌, length, true, false, ℕ, List}
 use Rattle.std.specs.Io.KnownBytes.{Appends, Consumes}
 use Rattle.feed.specs.Feed.{IsTrueOfReader, SameLoan, allowance_of, bytes_of, capacity_of, flow_of, input_limit}
 use Rattle.feed.specs.Feed.{reader_of}
@@ -10,7 +10,8 @@ use Rattle.toolrun.specs.Agrees.{Agrees}
 use Rattle.toolrun.specs.Input.{Input}
 use Rattle.pegrun.specs.PastUnits.{Follows}
 use Rattle.pegrun.specs.StopsExplained.{UnitBefore}
-use Rattle.pegrun.specs.Units.{Units}
+use Rattle.pegrun.specs.MatchCalls.{calls_of}
+use Rattle.pegrun.specs.Units.{Units, unit_count}
 use Rattle.pegrun.proofs.engine.cut.Given as goal
 
 abbrev pub invariant-loop-n : goal.invariant-loop-n
@@ -25,10 +26,12 @@ invariant-loop-n g l = record {
       Consumes (g.R.Source.remaining (reader_of l.fn.feed)) (g.R.Source.remaining (reader_of l.feed))
       (before ++ bytes_of l.feed) ×
       ((input : Input) → Agrees (before ++ bytes_of l.feed) (flow_of l.feed) input →
-      (text : List ℕ) × Units (rules_of l.peg.rules) l.peg.start l.settings input l.start text ×
+      (text : List ℕ) × (units : Units (rules_of l.peg.rules) l.peg.start l.settings input l.start text) ×
       Appends (g.O.Sink.contents l.fn.out) (g.O.Sink.contents l.out) text ×
       (l.settings.explain ≡ true → l.past.lost ≡ false → UnitBefore (rules_of l.peg.rules) l.peg.start l.settings input
-      l.start (unit_before l.past.at.byte (length l.past.bytes.items))));
+      l.start (unit_before l.past.at.byte (length l.past.bytes.items))) ×
+      (calls_of l.matcher ≤ calls_of l.fn.matcher
+      + 2 * unit_count (rules_of l.peg.rules) l.peg.start l.settings input units));
 }
 
 abbrev pub decreases-loop-n : goal.decreases-loop-n

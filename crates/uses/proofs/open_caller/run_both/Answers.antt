@@ -1,5 +1,5 @@
 -- The law of open grammars, for each input.
-use Rattle.std.proofs.Common.{◌++◌, ℕ, List, Some, ap}
+use Rattle.std.proofs.Common.{ℕ, List, Some, inl, refl}
 use Rattle.gramcheck.specs.Grammar.{Grammar}
 use Rattle.uses.specs.RunsAlone.{RunsAlone}
 use Rattle.memoryrun.specs.PlannedRun.{IsPlannedRun}
@@ -11,6 +11,7 @@ use Rattle.pegrun.proofs.OpenPegLemmas.{open_peg_states}
 use Rattle.pegrun.specs.OpenPeg.{IsPegOpened}
 use Rattle.pegrun.specs.PegReply.{RunStates}
 use Rattle.ruletable.specs.Notes.{Said}
+use Rattle.toolrun.proofs.DeliversLemmas.{delivers_after}
 use Rattle.toolrun.proofs.ToldNotesLemmas.{hinted-plain}
 use Rattle.toolrun.specs.NotesText.{notes_text}
 use Rattle.toolrun.specs.Status.{code_of}
@@ -28,9 +29,11 @@ module _ (text : List ℕ) (settings : Settings) (notes : List Said) (grammar : 
       notes = notes_text notes;
       stated = ran.stated;
       states = open_peg_states text settings _ notes (notes_text notes) grammar ran.stated run is
-          (hinted-plain settings (ExplainsNote text) (ArePegHints text) plain notes) ran.does;
-      whole = λ low. let both = ran.whole low in (both.0, ap (λ err. notes_text notes ++ err) both.1, both.2);
-      part = ran.part;
+          (hinted-plain settings (ExplainsNote text) (ArePegHints text) plain notes) ran.states.1;
+      out_failed = ran.out_failed;
+      err_failed = ran.err_failed;
+      delivers = delivers_after (notes_text notes) (notes_text notes) ran.stated ran.stated _ refl refl refl (inl refl)
+          (rw ran.states.0 at ran.delivers);
     },
   )
 

@@ -1,20 +1,15 @@
 -- A name has the place at which the table finds it.
-use Rattle.std.proofs.Common.{◌∙◌, sym, arith}
+use Rattle.std.proofs.Common.{◌∙◌, None, sym, arith}
 use Rattle.ruletable.specs.Rules.{names_of}
-use Rattle.abnfcheck.proofs.NameChainLemmas.{chain_of_none, chain_of_place, found_folded, judged_below}
+use Rattle.abnfcheck.proofs.NameChainLemmas.{chain_by_rows, chain_of_none, chain_of_place, found_folded, judged_below}
 use Rattle.abnfcheck.proofs.reached_names.NameChains.chain_to.Goals as goal
 
 pub returns-in_default : goal.returns-in_default
 returns-in_default c = λ rules given are.
     let names = c.args.self.now.names in
     let place = sym (found_folded names c.args.name.now are.folds) ∙ (sym c.in_ok-id.ensures.found ∙ c.in_default.is) in
-    record {
-      names = names_of names;
-      rows = are.rows;
-      judged = are.judged;
-      graph = are.graph;
-      is_chain = chain_of_none (names_of names) are.rows are.judged _ place;
-    }
+    chain_by_rows rules given c.args.name.now (names_of names) are.rows are.judged None are.graph
+    (chain_of_none (names_of names) are.rows are.judged _ place)
 
 pub returns-in_default-chains : goal.returns-in_default-chains
 returns-in_default-chains c = λ rules given are.
@@ -29,11 +24,6 @@ pub returns : goal.returns
 returns c = λ rules given are.
     let names = c.args.self.now.names in
     let place = sym (found_folded names c.args.name.now are.folds) ∙ (sym c.in_ok-id.ensures.found ∙ c.in-Some.is) in
-    record {
-      names = names_of names;
-      rows = are.rows;
-      judged = are.judged;
-      graph = are.graph;
-      is_chain = chain_of_place (names_of names) are.rows are.judged c.in-Some.id _ c.in_ok-chain.chain place
-          (c.in_ok-chain.ensures are.rows are.judged (rw c.in-Some-chains.is at are.chains));
-    }
+    chain_by_rows rules given c.args.name.now (names_of names) are.rows are.judged _ are.graph
+    (chain_of_place (names_of names) are.rows are.judged c.in-Some.id _ c.in_ok-chain.chain place
+    (c.in_ok-chain.ensures are.rows are.judged (rw c.in-Some-chains.is at are.chains)))

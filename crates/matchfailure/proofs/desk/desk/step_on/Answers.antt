@@ -2,7 +2,7 @@ use Rattle.std.proofs.Common.{refl}
 use Rattle.std.proofs.lemmas.Bool.{both_ways}
 use Rattle.std.proofs.lemmas.List.{length-map}
 use Rattle.pegnodes.specs.Nodes.{shape_of}
-use Rattle.matchfailure.proofs.IsStepLemmas.{read_top, some_frame, is_top, fits_at_most, pushed_step, dropped_step}
+use Rattle.matchfailure.proofs.IsStepLemmas.{read_top, some_frame, is_top, begun_in_window, pushed_step, dropped_step}
 use Rattle.matchfailure.proofs.IsStepLemmas.{ended_here}
 use Rattle.matchfailure.proofs.IsStepLemmas.{ended_step}
 use Rattle.matchfailure.proofs.desk.desk.step_on.Goals as goal
@@ -17,6 +17,11 @@ next_turn-requires-clause-place c =
     (is_top _ _ _ c.start-start.ensures.sound _ _ _ c.requires.fits
     (read_top _ _ _ _ c.requires.frame.2 (c.top-top.ensures _ _ c.requires.frame.2))).high
 
+pub next_turn-requires-clause-low : goal.next_turn-requires-clause-low
+next_turn-requires-clause-low c =
+    (is_top _ _ _ c.start-start.ensures.sound _ _ _ c.requires.fits
+    (read_top _ _ _ _ c.requires.frame.2 (c.top-top.ensures _ _ c.requires.frame.2))).low
+
 pub put-requires : goal.put-requires
 put-requires c =
     (is_top _ _ _ c.start-start.ensures.sound _ _ _ c.requires.fits
@@ -24,7 +29,7 @@ put-requires c =
 
 pub one_more-requires : goal.one_more-requires
 one_more-requires c =
-    let most = fits_at_most _ _ _ c.start-start.ensures.sound _ c.requires.fits in
+    let most = begun_in_window _ _ _ c.start-start.ensures.sound _ c.requires.fits in
     rw (c.nodes.ensures.count, ← length-map c.args.peg.now.nodes shape_of) most
 
 pub returns-in_ok-advance-in-Ask : goal.returns-in_ok-advance-in-Ask

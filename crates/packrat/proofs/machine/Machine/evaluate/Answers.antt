@@ -14,7 +14,8 @@ turns-init c =
       stands = subst (λ v. Stands c.args.peg.now c.args.window.now c.args.more c.args.peg.now.keys (Pair c.args.root 0)
           (Ask (Pair c.args.root 0)) v c.args.self.now.log.stored c.clear-2.new.self 0) (sym c.clear.ensures)
           (L.stands_first c.args.peg.now c.args.window.now c.args.more c.args.peg.now.keys (Pair c.args.root 0)
-          c.args.self.now.log.stored c.clear-2.new.self ((body.0, body.2), omega arith) c.requires.empty);
+          c.args.self.now.log.stored c.clear-2.new.self (((body.0, body.2), omega arith), c.requires.some)
+          c.requires.empty);
     }
 
 pub ask-requires-clause-few : goal.ask-requires-clause-few
@@ -47,10 +48,12 @@ turns-smaller-in-Some c =
 pub returns-in-None : goal.returns-in-None
 returns-in-None c =
     let stands = L.stands_as c.args.peg.now c.args.window.now c.args.more c.args.peg.now.keys c.in-Ask.is refl refl refl
-    refl c.turns.invariant.stands in
-    subst (λ v. AreOn c.args.peg.now c.args.window.now c.args.more c.args.peg.now.keys (Pair c.args.root 0) v
-    c.ask.new.self.frames c.ask.new.self.log.stored c.ask.new.self.events c.ask.new.self.begun) c.in-None.is
-    (c.in_ok-next-in-Ask.ensures.stands (Pair c.args.root 0) stands)
+    refl c.turns.invariant.stands in (
+      subst (λ v. AreOn c.args.peg.now c.args.window.now c.args.more c.args.peg.now.keys (Pair c.args.root 0) v
+          c.ask.new.self.frames c.ask.new.self.log.stored c.ask.new.self.events c.ask.new.self.begun) c.in-None.is
+          (c.in_ok-next-in-Ask.ensures.stands (Pair c.args.root 0) stands),
+      c.clear-in-None.ensures,
+    )
 
 pub returns-in-None-pop : goal.returns-in-None-pop
 returns-in-None-pop c =

@@ -1,6 +1,6 @@
 use Rattle.std.proofs.Common.{◌≡◌, slice_get, Some, subst, ap}
 use Rattle.packrat.specs.EventLog.{kept_at}
-use Rattle.packrat.proofs.DoneLemmas.{outcome_of_match, answer_of_match, begun_bounded}
+use Rattle.packrat.proofs.DoneLemmas.{outcome_of_match, answer_of_match, match_bounded}
 use Rattle.packrat.proofs.packrat.PackratMatcher.match_unit.Goals as goal
 
 pub returns-in-Ok-clause-answer : goal.returns-in-Ok-clause-answer
@@ -32,7 +32,8 @@ returns-in-Ok-clause-outcome c =
       frames = c.evaluate-matched.new.self.frames;
       begun = c.evaluate-matched.new.self.begun;
       kept = kept_at c.evaluate-matched.new.self.events c.head_given-self-inside.result;
-    }) c.in-Ok.given c.evaluate-matched.new.self.events matched)
+    }) c.in-Ok.given c.evaluate-matched.new.self.events
+    (ap (kept_at c.evaluate-matched.new.self.events) c.head_given-self-inside.ensures) matched)
 
 pub returns-in-Ok-clause-bounded : goal.returns-in-Ok-clause-bounded
 returns-in-Ok-clause-bounded c =
@@ -40,17 +41,11 @@ returns-in-Ok-clause-bounded c =
     subst (λ v. slice_get c.args.peg.now.bodies v ≡ Some c.body_node-root.result) c.start.ensures.id
     c.body_node-root.ensures in
     let matched = rw c.in-Ok.is at c.evaluate-matched.ensures in
-    begun_bounded c.args.peg.now c.args.window.now c.start.ensures.sound c.args.more c.args.peg.now.keys
+    match_bounded c.args.peg.now c.args.window.now c.start.ensures.sound c.args.more c.args.peg.now.keys
     c.start.ensures.keys c.body_node-root.result at (record {
       stored = c.evaluate-matched.new.self.log.stored;
       frames = c.evaluate-matched.new.self.frames;
       begun = c.evaluate-matched.new.self.begun;
       kept = kept_at c.evaluate-matched.new.self.events c.head_given-self-inside.result;
-    }) _
-    (outcome_of_match c.args.peg.now c.args.window.now c.start.ensures.sound c.args.more c.args.peg.now.keys
-    c.start.ensures.keys c.body_node-root.result at (record {
-      stored = c.evaluate-matched.new.self.log.stored;
-      frames = c.evaluate-matched.new.self.frames;
-      begun = c.evaluate-matched.new.self.begun;
-      kept = kept_at c.evaluate-matched.new.self.events c.head_given-self-inside.result;
-    }) c.in-Ok.given c.evaluate-matched.new.self.events matched)
+    }) c.in-Ok.given c.evaluate-matched.new.self.events
+    (ap (kept_at c.evaluate-matched.new.self.events) c.head_given-self-inside.ensures) matched c.requires.some

@@ -1,0 +1,196 @@
+-- Nodes that are added one by one, and what they spell.
+-- Serves: lower.
+use Rattle.std.proofs.Common.{◌≡◌, ℕ, ◌+◌, ◌<◌, ◌≤◌, List, [], ◌∷◌, ◌++◌, length, take, map, get_or, refl, sym, ap}
+use Rattle.std.proofs.Common.{subst, arith, ◌∙◌, Some, add-one, append_assoc, append-nil, length-append, Bool, true}
+use Rattle.std.proofs.Common.{false, ◌&&◌, ◌||◌, ◌⊎◌, inl, inr}
+use Rattle.std.specs.Prelude.{slice_get}
+use Rattle.std.proofs.lemmas.List.{map-append, length-map}
+use Rattle.std.proofs.Math.Seq.{take-suc}
+use Rattle.abnfread.specs.Element as e
+use Rattle.abnfread.specs.Element.{Element, Elements, Rule}
+use Rattle.lowering.specs.NullElements.{Tells, TellsAll, TellsSome}
+use Rattle.lowering.proofs.TellsLemmas.{none_tell, no_alternative_tells, next_tells, next_alternative_tells}
+use Rattle.abnfread.specs.AbnfViews.{elements, elements_of, element_of}
+use Rattle.abnfread.specs.declared.elem.Elem.{Elem}
+use Rattle.flatgrammar.specs.Flat.{Node}
+use Rattle.lowering.specs.Lowered.{Spells, spells, Shows, SpellAll, spell_none, spell_more}
+use Rattle.flatgrammar.specs.Places.{width, places}
+use Rattle.lowering.specs.Sizes.{size, size_all, count}
+use Rattle.flatgrammar.specs.declared.flat_node.Node as declared
+use Rattle.flatgrammar.specs.FlatViews.{node_of, nodes_of}
+use Rattle.lowering.specs.Numbers.{Numbers, NumbersAll}
+use Rattle.flatgrammar.specs.Operands.{IsOperand, AreOrdered}
+use Rattle.lowering.specs.Numbers.{IsNodeTold, AreNodesTold}
+use Rattle.lowering.proofs.SpellAllLemmas.{still_shows, still_spells, still_spell_all, places_push}
+use Rattle.lowering.proofs.SpellAllLemmas.{operand_below}
+use Rattle.flatgrammar.proofs.SliceGetLemmas.{push_cases}
+
+pub at_end : {A : Type 0} (xs : List A) (a : A) → slice_get (xs ++ a ∷ []) (length xs) ≡ Some a
+at_end [] a = refl
+at_end (x ∷ xs) a = at_end xs a
+
+pub nodes_pushed : (nodes more : List declared.Node) (v : declared.Node) → more ≡ nodes ++ v ∷ []
+    → nodes_of more ≡ nodes_of nodes ++ node_of v ∷ []
+nodes_pushed nodes more v is = ap nodes_of is ∙ map-append node_of nodes (v ∷ [])
+
+-- one more node, whose operands are all there
+pub ordered_push : (nodes : List Node) (node : Node) → AreOrdered nodes
+    → ((m : ℕ) → IsOperand node m → m < length nodes) → AreOrdered (nodes ++ node ∷ [])
+ordered_push nodes node o below = record { before = λ s m d is h. by s m d h (push_cases nodes node s d is) }
+  where
+    by : (s m : ℕ) (d : Node) → IsOperand d m → ((slice_get nodes s ≡ Some d) ⊎ ((s ≡ length nodes) × (node ≡ d)))
+        → m < s
+    by s m d h (inl was) = o.before s m d was h
+    by s m d h (inr last) =
+        let lt = below m (subst (λ v. IsOperand v m) (sym last.1) h) in
+        subst (λ v. m < v) (sym last.0) lt
+
+-- one more node, with the mark of what it shows
+pub told_push : (rules : List Rule) (limit : ℕ) (nodes : List Node) (marks : List Bool) (node : Node) (mark : Bool)
+    (el : Element) → AreNodesTold rules limit nodes marks → Shows rules limit nodes node el → Tells rules mark el →
+    AreNodesTold rules limit (nodes ++ node ∷ []) (marks ++ mark ∷ [])
+told_push rules limit nodes marks node mark el t shown told = record {
+  long = (let one = length-append marks (mark ∷ []) in let other = length-append nodes (node ∷ []) in
+      let was = t.long in omega (arith, one, other, was));
+  each = λ s m is. by s m (push_cases marks mark s m is);
+}
+  where
+    by : (s : ℕ) (m : Bool) → ((slice_get marks s ≡ Some m) ⊎ ((s ≡ length marks) × (mark ≡ m)))
+        → IsNodeTold rules limit (nodes ++ node ∷ []) s m
+    by s m (inl was) = let h = t.each s m was in
+        record {
+          el = h.el;
+          spelled = still_spells rules limit nodes (node ∷ []) h.spelled;
+          tells = h.tells;
+        }
+    by s m (inr last) =
+        let here : length nodes ≡ s = sym (last.0 ∙ t.long) in
+        record {
+          el = el;
+          spelled = spells (subst (λ k. slice_get (nodes ++ node ∷ []) k ≡ Some node) here (at_end nodes node))
+              (still_shows rules limit nodes (node ∷ []) shown);
+          tells = subst (λ v. Tells rules v el) last.1 told;
+        }
+
+-- one more node, over what was added before it
+module _ {rules : List Rule} {limit : ℕ} (nodes : List declared.Node) {more : List declared.Node} (v : declared.Node)
+    {marks more_marks : List Bool}
+    {n : ℕ} {empty : Bool} {el : Element} (is_more : more ≡ nodes ++ v ∷ []) (is : n ≡ length nodes)
+    (is_marked : more_marks ≡ marks ++ empty ∷ []) where
+  one_more : (first added : List Node) (were : List Bool) → nodes_of nodes ≡ first ++ added
+      → (AreOrdered first → AreOrdered (nodes_of nodes))
+      → (AreNodesTold rules limit first were → AreNodesTold rules limit (nodes_of nodes) marks)
+      → places (nodes_of nodes) + width (node_of v) ≤ places first
+      + size limit el → Shows rules limit (nodes_of nodes) (node_of v) el → Tells rules empty el →
+      Numbers rules limit first (nodes_of more) were more_marks n empty el
+  one_more first added were grown ordered told_before sized shown told =
+      let number : n ≡ length (nodes_of nodes) = is ∙ sym (length-map nodes node_of) in
+      let at = at_end (nodes_of nodes) (node_of v) in
+      rw (nodes_pushed nodes more v is_more, is_marked) (record {
+        added = added ++ node_of v ∷ [];
+        grown = ap (λ w. w ++ node_of v ∷ []) grown ∙ append_assoc first added (node_of v ∷ []);
+        spelled = spells (subst (λ k. slice_get (nodes_of nodes ++ node_of v ∷ []) k ≡ Some (node_of v)) (sym number)
+            at) (still_shows rules limit (nodes_of nodes) (node_of v ∷ []) shown);
+        sized = (let all = places_push (nodes_of nodes) (node_of v) in omega (arith, all, sized));
+        tells = told;
+        ordered = λ o. ordered_push (nodes_of nodes) (node_of v) (ordered o)
+            (λ m h. operand_below rules limit (nodes_of nodes) shown m h);
+        told = λ t. told_push rules limit (nodes_of nodes) marks (node_of v) empty el (told_before t) shown told;
+      })
+
+  -- a node without operands
+  pub leaf_numbers : width (node_of v) ≡ size limit el → Shows rules limit (nodes_of nodes) (node_of v) el
+      → Tells rules empty el → Numbers rules limit (nodes_of nodes) (nodes_of more) marks more_marks n empty el
+  leaf_numbers wide shown told =
+      one_more (nodes_of nodes) [] marks (sym (append-nil (nodes_of nodes))) (λ o. o) (λ t. t) (omega (arith, wide))
+      shown told
+
+  -- a node over one operand
+  pub numbers_over : {first : List Node} {were : List Bool} {k : ℕ} {c : Bool} {d : Element}
+      → Numbers rules limit first (nodes_of nodes) were marks k c d
+      → width (node_of v) + size limit d ≤ size limit el →
+      (Tells rules c d → Spells rules limit (nodes_of nodes) k d → Shows rules limit (nodes_of nodes) (node_of v) el)
+      → (Tells rules c d → Tells rules empty el) → Numbers rules limit first (nodes_of more) were more_marks n empty el
+  numbers_over {first} {were} g wide shown told = let sized = g.sized in
+      one_more first g.added were g.grown g.ordered g.told (omega (arith, sized, wide)) (shown g.tells g.spelled)
+      (told g.tells)
+
+  -- a node over members
+  pub over_all : {first : List Node} {were : List Bool} {ks : List ℕ} {all any : Bool} {es : Elements}
+      → NumbersAll rules limit first (nodes_of nodes) were marks ks all any es
+      → (length ks ≡ count es → width (node_of v) + size_all limit es ≡ size limit el) →
+      (SpellAll rules limit (nodes_of nodes) ks es → Shows rules limit (nodes_of nodes) (node_of v) el)
+      → (TellsAll rules all es → TellsSome rules any es → Tells rules empty el)
+      → Numbers rules limit first (nodes_of more) were more_marks n empty el
+  over_all {first} {were} g wide shown told =
+      let sized = g.sized in let many = wide (counted g.spelled) in
+      one_more first g.added were g.grown g.ordered g.told (omega (arith, sized, many)) (shown g.spelled)
+      (told g.tell_all g.tell_some)
+    where
+      counted : {ks : List ℕ} {es : Elements} → SpellAll rules limit (nodes_of nodes) ks es → length ks ≡ count es
+      counted spell_none = refl
+      counted (spell_more sp all) = let rest = counted all in omega (arith, rest)
+
+-- one more member
+spell_push : (rules : List Rule) (limit : ℕ) (xs : List Node) (es : List Element) (el : Element) (n : ℕ) {ns : List ℕ}
+    → SpellAll rules limit xs ns (elements es) → Spells rules limit xs n el →
+    SpellAll rules limit xs (ns ++ n ∷ []) (elements (es ++ el ∷ []))
+spell_push rules limit xs [] el n spell_none s = spell_more s spell_none
+spell_push rules limit xs (d ∷ es) el n (spell_more sp all) s = spell_more sp (spell_push rules limit xs es el n all s)
+
+size_push : (limit : ℕ) (es : List Element) (el : Element) → size_all limit (elements (es ++ el ∷ []))
+    ≡ size_all limit (elements es) + size limit el
+size_push limit [] el = omega arith
+size_push limit (d ∷ es) el = let rest = size_push limit es el in omega (arith, rest)
+
+pub no_members : (rules : List Rule) (limit : ℕ) (xs : List Node) (marks : List Bool) (ns : List ℕ) → ns ≡ []
+    → NumbersAll rules limit xs xs marks marks ns true false e.none
+no_members rules limit xs marks ns is = rw is (record {
+  added = [];
+  grown = sym (append-nil xs);
+  spelled = spell_none;
+  sized = omega arith;
+  tell_all = none_tell rules;
+  tell_some = no_alternative_tells rules;
+  ordered = λ o. o;
+  told = λ t. t;
+})
+
+map_next : (es : List Elem) (i : ℕ) (v : Elem) → i < length es → v ≡ get_or es i v → map element_of (take (i + 1) es)
+    ≡ map element_of (take i es) ++ element_of v ∷ []
+map_next es i v lt is =
+    ap (λ k. map element_of (take k es)) (add-one i) ∙ ap (map element_of) (take-suc es i v lt)
+    ∙ map-append element_of (take i es) (get_or es i v ∷ []) ∙
+    ap (λ w. map element_of (take i es) ++ element_of w ∷ []) (sym is)
+
+-- nodes of members, and then those of one more
+append_member : {rules : List Rule} {limit : ℕ} {first mid new : List Node} {were between are : List Bool}
+    {ns : List ℕ} {n : ℕ} {all any c : Bool} (es : List Element) {el : Element} →
+    NumbersAll rules limit first mid were between ns all any (elements es)
+    → Numbers rules limit mid new between are n c el
+    → NumbersAll rules limit first new were are (ns ++ n ∷ []) (all && c) (any || c) (elements (es ++ el ∷ []))
+append_member {rules} {limit} {first} {mid} {new} {were} {between} {are} {ns} {n} {all} {any} {c} es {el} g h = record {
+  added = g.added ++ h.added;
+  grown = h.grown ∙ ap (λ w. w ++ h.added) g.grown ∙ append_assoc first g.added h.added;
+  spelled = spell_push rules limit new es el n (subst (λ w. SpellAll rules limit w ns (elements es)) (sym h.grown)
+      (still_spell_all rules limit mid h.added g.spelled)) h.spelled;
+  sized = (let one = g.sized in let other = h.sized in let both = size_push limit es el in
+      omega (arith, one, other, both));
+  tell_all = next_tells rules all c es el g.tell_all h.tells;
+  tell_some = next_alternative_tells rules any c es el g.tell_some h.tells;
+  ordered = λ o. h.ordered (g.ordered o);
+  told = λ t. h.told (g.told t);
+}
+
+pub next_member : {rules : List Rule} {limit : ℕ} {first mid new : List Node} {were between are : List Bool}
+    {ns : List ℕ} {n : ℕ} {all any c : Bool}
+    (es : List Elem) {i : ℕ} {v : Elem} → i < length es → v ≡ get_or es i v →
+    NumbersAll rules limit first mid were between ns all any (elements_of (take i es))
+    → Numbers rules limit mid new between are n c (element_of v)
+    → NumbersAll rules limit first new were are (ns ++ n ∷ []) (all && c)
+    (any || c) (elements_of (take (i + 1) es))
+next_member es {i} {v} lt is g h = rw (map_next es i v lt is) (append_member (map element_of (take i es)) g h)
+
+-- as many sets as letters
+pub as_many : {A B : Type 0} (f : A → B) (xs : List A) (ys : List B) → ys ≡ map f xs → length ys + 1 ≡ length xs + 1
+as_many f xs ys is = ap (λ k. k + 1) (ap length is ∙ length-map xs f)

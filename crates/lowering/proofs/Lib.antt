@@ -1,0 +1,15 @@
+pub mod AreNodesToldLemmas
+pub mod BeforeLemmas
+pub mod CappedMostLemmas
+pub mod FlatCutLemmas
+pub mod FlatNumbersLemmas
+pub mod IsEmptyRepeatLemmas
+pub mod LoweredLemmas
+pub mod NamesTellLemmas
+pub mod NodeRunsLemmas
+pub mod OnLineLemmas
+pub mod ReachedLemmas
+pub mod RuleDerivesLemmas
+pub mod RuleNodeLemmas
+pub mod SpellAllLemmas
+pub mod TellsLemmas

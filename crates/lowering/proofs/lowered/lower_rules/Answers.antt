@@ -1,0 +1,47 @@
+use Rattle.std.proofs.Common.{sym}
+use Rattle.std.proofs.lemmas.List.{length-map}
+use Rattle.abnfread.specs.AbnfViews.{rule_of, rules_of}
+use Rattle.lowering.proofs.LoweredLemmas as o
+use Rattle.lowering.proofs.NamesTellLemmas.{names_tell, null_alike, judged_there}
+use Rattle.lowering.proofs.lowered.lower_rules.Goals as goal
+
+pub number_bodies-requires-clause-marks : goal.number_bodies-requires-clause-marks
+number_bodies-requires-clause-marks c = rw c.deref.ensures.value
+    (names_tell _ _ _ c.in_ok-marks.ensures c.requires.alike)
+
+pub new-requires-clause-nulls : goal.new-requires-clause-nulls
+new-requires-clause-nulls c =
+    o.nulls_told (rules_of c.args.rules.now) c.args.limit c.args.grammar.now.judged _ c.index.result.now _
+    c.in_ok-whole.whole _ _ _ _ _ _ _ c.in_ok-bodies.ensures (sym (length-map c.args.rules.now.rules rule_of))
+    c.in_ok-whole.ensures.nodes c.in_ok-members.ensures c.in_ok-whole.ensures.nulls
+    (rw c.judged-judged.ensures.id at c.index.ensures)
+    (judged_there _ _ _ c.requires.alike c.judged-judged.ensures.sound.sound.judged_is_rule)
+    (null_alike _ _ _ _ c.requires.alike (rw c.judged-judged.ensures.id at c.nullable-null.ensures))
+
+pub new-requires-clause-ordered : goal.new-requires-clause-ordered
+new-requires-clause-ordered c =
+    o.are_ordered (rules_of c.args.rules.now) c.args.limit c.args.grammar.now.judged _ c.index.result.now _ _ _ _ _ _
+    c.in_ok-bodies.ensures (sym (length-map c.args.rules.now.rules rule_of))
+    c.in_ok-whole.ensures.nodes c.in_ok-members.ensures (rw c.judged-judged.ensures.id at c.index.ensures)
+    (judged_there _ _ _ c.requires.alike c.judged-judged.ensures.sound.sound.judged_is_rule)
+
+pub new-requires-clause-within : goal.new-requires-clause-within
+new-requires-clause-within c =
+    o.bodies_within _ c.args.limit _ _ _ _ _ _ c.in_ok-bodies.ensures c.in_ok-whole.ensures.nodes
+
+pub returns-clause-lowered : goal.returns-clause-lowered
+returns-clause-lowered c =
+    o.is_lowered (rules_of c.args.rules.now) c.args.limit c.args.grammar.now.judged _ _ _ c.index.result.now _ _ _ _ _ _
+    c.in_ok-bodies.ensures (sym (length-map c.args.rules.now.rules rule_of))
+    c.in_ok-whole.ensures.nodes c.in_ok-members.ensures c.in_ok-flat.ensures.nodes c.in_ok-flat.ensures.limit
+    (rw c.judged-judged.ensures.id at c.index.ensures)
+    (judged_there _ _ _ c.requires.alike c.judged-judged.ensures.sound.sound.judged_is_rule)
+    c.in_ok-whole.ensures.number
+    c.in_ok-flat.ensures.bodies c.in_ok-flat.ensures.whole
+
+pub returns-clause-places : goal.returns-clause-places
+returns-clause-places c =
+    o.places_sized (rules_of c.args.rules.now) c.args.limit c.args.grammar.now.judged _ c.in_ok-whole.whole _ 0 _ _
+    _ _ _
+    c.in_ok-flat.flat c.in_ok-bodies.ensures (sym (length-map c.args.rules.now.rules rule_of))
+    c.in_ok-whole.ensures.nodes c.in_ok-members.ensures c.in_ok-flat.ensures.nodes

@@ -1,0 +1,6 @@
+pub mod Lowered
+pub mod NullElements
+pub mod Numbers
+pub mod Sizes
+pub mod ToldBeginnings
+pub mod Verdicts

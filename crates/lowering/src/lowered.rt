@@ -1,0 +1,79 @@
+//! From a sound grammar to a flat one.
+ghost use Rattle.std.specs.Prelude.{◌≡◌, ◌↔◌, ℕ, ◌+◌, ◌≤◌, List, ◌∷◌, [], Bool, length, IfOk};
+ghost use Rattle.abnfcheck.specs.Derivable.{AreLetters, RuleDerives};
+ghost use Rattle.abnfread.specs.Element.{bodies};
+ghost use Rattle.abnfread.specs.AbnfViews.{rules_of};
+ghost use Rattle.flatgrammar.specs.Flat.{Place};
+ghost use Rattle.flatgrammar.specs.Holds.{Holds};
+ghost use Rattle.lowering.specs.Lowered.{IsLowered};
+ghost use Rattle.lowering.specs.NullElements.{AreNullAlike, AreNullRules};
+ghost use Rattle.flatgrammar.specs.Places.{places};
+ghost use Rattle.lowering.specs.Sizes.{sizes};
+
+use crate::lower_elem::{Numbered, add, number_bodies};
+use abnfcheck::SoundAbnf;
+use abnfread::Elem;
+use flatgrammar::{Flat, Node};
+use ruletable::{Memory, NameCase, RuleTable};
+use std::alloc::Global;
+
+// The one number.
+fn alone(alloc: Global, n: usize) -> Result<Vec<usize>, Memory>
+    ensures { IfOk result (λ ns. ns.items ≡ n ∷ []) }
+{
+    let mut numbers = Vec::new(alloc);
+    numbers.push(n)?;
+    Ok(numbers)
+}
+
+// Marks the rules of a grammar that derive the empty list.
+fn null_marks(alloc: Global, grammar: &SoundAbnf) -> Result<Vec<bool>, Memory>
+    ensures { IfOk result (λ marks. AreNullRules (rules_of grammar.now.rules) marks.items) }
+{
+    let mut marks = Vec::new(alloc);
+    for id in 0..grammar.rules().len() {
+        marks.push(grammar.nullable(id))?;
+    }
+    Ok(marks)
+}
+
+/// Lowers rules to numbered nodes, for lines of at most `limit` letters. There must be as many as the grammar has, and
+/// the same must derive the empty list. The rule that the grammar judges is judged. `Memory` if an allocation fails.
+pub fn lower_rules(
+    alloc: Global,
+    grammar: &SoundAbnf,
+    rules: &RuleTable<Elem>,
+    limit: usize,
+) -> Result<Flat, Memory>
+    requires folds { rules.now.names ≡ NameCase.Fold }
+    requires alike { AreNullAlike (rules_of grammar.now.rules) (rules_of rules.now) }
+    ensures limit { IfOk result (λ flat. flat.limit ≡ limit) }
+    ensures lowered { IfOk result (IsLowered (rules_of rules.now) grammar.now.judged) }
+    ensures places { IfOk result (λ flat. places flat.nodes ≤ sizes limit (bodies (rules_of rules.now)) + 2) }
+{
+    let judged = grammar.judged();
+    let marks = null_marks(alloc, grammar)?;
+    let mut numbered = Numbered::new(alloc);
+    let bodies = number_bodies(alloc, rules, &marks, limit, &mut numbered)?;
+    let members = alone(alloc, bodies[judged])?;
+    let null = grammar.nullable(judged);
+    let whole = add(&mut numbered, Node::Concat(members), null)?;
+    let flat = Flat::new(alloc, numbered.nodes, numbered.nulls, bodies, whole, limit)?;
+    Ok(flat)
+}
+
+/// Lowers a grammar to numbered nodes, for lines of at most `limit` letters. The judged rule derives a list of so many
+/// letters exactly if the set after them holds the whole's end with origin 0. `Memory` if an allocation fails.
+pub fn lower(alloc: Global, grammar: &SoundAbnf, limit: usize) -> Result<Flat, Memory>
+    ensures limit { IfOk result (λ flat. flat.limit ≡ limit) }
+    ensures lowered { IfOk result (IsLowered (rules_of grammar.now.rules) grammar.now.judged) }
+    ensures tells { IfOk result (λ flat. (has : ℕ → Bool) (x : List ℕ) → length x ≤ limit → AreLetters has x →
+        Holds flat x (length x) (Place.at flat.whole 1) 0 ↔ RuleDerives has (rules_of grammar.now.rules)
+        grammar.now.judged x) }
+    ensures places { IfOk result (λ flat. places flat.nodes ≤ sizes limit (bodies (rules_of grammar.now.rules)) + 2) }
+{
+    // The contract of `judged` says that names compare without case.
+    let _judged = grammar.judged();
+    let flat = lower_rules(alloc, grammar, grammar.rules(), limit)?;
+    Ok(flat)
+}

@@ -1,0 +1,76 @@
+-- Lists of cells that are exactly those of the visited pairs hold the same.
+-- Serves: implied_cells, same_cells
+use Rattle.std.proofs.Common.{◌≡◌, ℕ, ◌+◌, ◌≤◌, Bool, true, false, if◌then◌else◌}
+use Rattle.std.proofs.Common.{List, [], ◌∷◌, length, Option, Some, None, refl, sym, ◌∙◌, ap, subst, arith}
+use Rattle.pegread.specs.Pattern.{Rule}
+use Rattle.pegnodes.specs.Nodes.{Shape}
+use Rattle.gramcheck.specs.Sound.{IsRanked}
+use Rattle.memo.specs.Entries.{Entry, found_at, AreDifferent}
+use Rattle.memo.specs.declared.found.Found.{Found}
+use Rattle.memo.proofs.FoundAtLemmas.{is_of, is_own}
+use Rattle.pegmatch.specs.CellOutcomes.{HasCell}
+use Rattle.pegmatch.specs.Visits.{Visits}
+use Rattle.pegmatch.proofs.CodeLemmas.{In, now, on, at_most, code, cell_codes, length_cell_codes, cell_of, cells_differ}
+use Rattle.pegmatch.specs.VisitedCells.{AreVisitedCells}
+use Rattle.packrat.proofs.OneViewLemmas.{one_found}
+
+-- what one has the other has too, and back
+same_option : {A : Type 0} (a b : Option A) → ((v : A) → a ≡ Some v → b ≡ Some v) → ((v : A) → b ≡ Some v → a ≡ Some v)
+    → a ≡ b
+same_option None None there back = refl
+same_option None (Some v) there back = back v refl
+same_option (Some v) b there back = sym (there v refl)
+
+-- a pair that has a cell is among the cells
+code_among : (w : ℕ) (cells : List Entry) (n p : ℕ) → HasCell cells n p → In (code w n p) (cell_codes w cells)
+code_among w [] n p h = absurd (cc h.1)
+code_among w (c ∷ cells) n p h = by (is_of c n p) refl h.1 (code_among w cells n p)
+  where
+    by : (v : Bool) → is_of c n p ≡ v → (if v then Some c.found else found_at cells n p) ≡ Some h.0
+        → (HasCell cells n p → In (code w n p) (cell_codes w cells))
+        → In (code w n p) (code w c.node c.place ∷ cell_codes w cells)
+    by true own is rest = let at = is_own c n p own in now (rw (at.0, at.1) refl)
+    by false own is rest = on (rest (h.0, is))
+
+-- cells whose pairs have other cells are no more than those
+no_more : (cs ds : List Entry) (k : ℕ) → AreDifferent cs → ((n p : ℕ) → HasCell cs n p → p ≤ k)
+    → ((n p : ℕ) → HasCell cs n p → HasCell ds n p) → length cs ≤ length ds
+no_more cs ds k different low there =
+    let w = k + 1 in
+    let most = at_most (cell_codes w cs) (cell_codes w ds)
+    (cells_differ w cs (λ n p h. let l = low n p h in omega (arith, l)) different)
+    (λ a i. let c = cell_of w cs i in subst (λ v. In v (cell_codes w ds)) (sym c.is)
+    (code_among w ds c.node c.place (there c.node c.place c.has))) in
+    let first = length_cell_codes w cs in
+    let second = length_cell_codes w ds in
+    omega (arith, most, first, second)
+
+module _ (rules : List Rule) (start : ℕ) (nodes : List Shape) (bodies ranks x : List ℕ) (more : Bool)
+    (sound : IsRanked rules start nodes bodies ranks) where
+  found_there : (cs ds : List Entry) → AreVisitedCells rules start nodes bodies x more cs
+      → AreVisitedCells rules start nodes bodies x more ds → (n p : ℕ) (f : Found) → found_at cs n p ≡ Some f
+      → found_at ds n p ≡ Some f
+  found_there cs ds a b n p f h =
+      let has = b.whole n p (a.visited n p f h) in
+      let one = one_found rules start nodes bodies ranks x more sound n p has.0 f (b.found n p has.0 has.1)
+      (a.found n p f h) in
+      has.1 ∙ ap Some one
+
+  pub same_found : (cs ds : List Entry) → AreVisitedCells rules start nodes bodies x more cs
+      → AreVisitedCells rules start nodes bodies x more ds → (n p : ℕ) → found_at cs n p ≡ found_at ds n p
+  same_found cs ds a b n p = same_option (found_at cs n p) (found_at ds n p) (found_there cs ds a b n p)
+      (found_there ds cs b a n p)
+
+  cells_no_more : (k : ℕ) (cs ds : List Entry) → ((n p : ℕ) → Visits rules nodes bodies x start n p → p ≤ k)
+      → AreVisitedCells rules start nodes bodies x more cs → AreVisitedCells rules start nodes bodies x more ds
+      → length cs ≤ length ds
+  cells_no_more k cs ds within a b = no_more cs ds k a.different (λ n p h. within n p (a.visited n p h.0 h.1))
+      (λ n p h. b.whole n p (a.visited n p h.0 h.1))
+
+  pub same_count : (k : ℕ) (cs ds : List Entry) → ((n p : ℕ) → Visits rules nodes bodies x start n p → p ≤ k)
+      → AreVisitedCells rules start nodes bodies x more cs → AreVisitedCells rules start nodes bodies x more ds
+      → length cs ≡ length ds
+  same_count k cs ds within a b =
+      let up = cells_no_more k cs ds within a b in
+      let down = cells_no_more k ds cs within b a in
+      omega (arith, up, down)

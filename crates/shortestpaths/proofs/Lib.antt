@@ -1,5 +1,0 @@
-mod BacksLemmas
-mod DistanceLemmas
-mod FillsLemmas
-mod ShortChainsLemmas
-mod RoundsLemmas

@@ -1,6 +1,0 @@
-use Rattle.std.proofs.Common.{take}
-use Rattle.shortestpaths.specs.Fills.{SetsBacks}
-use Rattle.shortestpaths.proofs.backs.set_backs.Given as goal
-
-abbrev pub invariant-loop-m : goal.invariant-loop-m
-invariant-loop-m l = SetsBacks l.far l.n (take l.m-index l.row) l.initial.backs l.backs

@@ -1,5 +1,0 @@
-use Rattle.shortestpaths.proofs.RoundsLemmas as t
-use Rattle.shortestpaths.proofs.laws.one_way_back.Goals as goal
-
-pub returns : goal.returns
-returns c = λ rows s a b x y. t.round_is_one rows s a b x y

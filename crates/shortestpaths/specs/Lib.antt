@@ -1,3 +1,0 @@
-pub mod Distances
-pub mod Fills
-pub mod ShortChains
