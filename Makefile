@@ -51,7 +51,7 @@ examples: programs
 PREFIX ?= /usr/local
 SHARE = $(DESTDIR)$(PREFIX)/share
 install: programs put
-	@if [ -f bin/libfanquber.so.1 ]; then $(MAKE) --no-print-directory put-lib; fi
+	@if [ -f bin/libfanquber.so.2 ]; then $(MAKE) --no-print-directory put-lib; fi
 
 put:
 	install -d $(DESTDIR)$(PREFIX)/bin $(SHARE)/man/man1 $(SHARE)/doc/fanquber
@@ -68,8 +68,8 @@ put-lib:
 	install -d $(DESTDIR)$(PREFIX)/include $(DESTDIR)$(PREFIX)/lib/pkgconfig $(SHARE)/man/man3
 	install -m 644 c/fanquber.h $(DESTDIR)$(PREFIX)/include
 	install -m 644 bin/libfanquber.a $(DESTDIR)$(PREFIX)/lib
-	install -m 755 bin/libfanquber.so.1 $(DESTDIR)$(PREFIX)/lib
-	ln -sf libfanquber.so.1 $(DESTDIR)$(PREFIX)/lib/libfanquber.so
+	install -m 755 bin/libfanquber.so.2 $(DESTDIR)$(PREFIX)/lib
+	ln -sf libfanquber.so.2 $(DESTDIR)$(PREFIX)/lib/libfanquber.so
 	sed 's|^prefix=.*|prefix=$(PREFIX)|' bin/fanquber.pc > $(DESTDIR)$(PREFIX)/lib/pkgconfig/fanquber.pc
 	install -m 644 man/fanquber.3 $(SHARE)/man/man3
 

@@ -15,47 +15,51 @@
 extern "C" {
 #endif
 
-/* The version of this interface. Libraries of one major version take and give the same structs. Minor version 1 added the
-   calls of a runner. */
-#define FANQUBER_VERSION_MAJOR 1
-#define FANQUBER_VERSION_MINOR 1
+/* The version of this interface. A minor version adds calls, and fields at the end of fanquber_settings. Programs that were
+ * built with a header of the same major version and no later minor version run with the library unchanged. */
+#define FANQUBER_VERSION_MAJOR 2
+#define FANQUBER_VERSION_MINOR 0
 
-/* What is done with the grammar. */
+/* What to do with the grammar. */
 enum { FANQUBER_RUN = 0, FANQUBER_CHECK = 1, FANQUBER_PRINT = 2 };
 
 /* What the lines of fanquber_abnf are made of. */
 enum { FANQUBER_BYTES = 0, FANQUBER_UTF8 = 1 };
 
-/* What a call came to: the exit statuses of the programs, and one more. */
+/* Status codes: the exit statuses of the programs, and one more. */
 enum {
     FANQUBER_DONE = 0,        /* all input was taken, or each line is derived */
-    FANQUBER_NO_MATCH = 1,    /* a place where nothing matches, or a line that is not derived */
-    FANQUBER_REFUSED = 2,     /* the grammar is refused: the error output says why */
+    FANQUBER_NO_MATCH = 1,    /* a position where nothing matches, or a line that is not derived */
+    FANQUBER_REFUSED = 2,     /* the grammar is rejected: the error output says why */
     FANQUBER_OVERLONG = 3,    /* a unit or a line is longer than the limit */
     FANQUBER_FAULT = 4,       /* an allocation for an output failed */
     FANQUBER_NO_MEMORY = 5,   /* another allocation failed */
-    FANQUBER_BAD_SETTINGS = 6 /* the settings are out of range, the name is no UTF-8, or a judge or a runner is open that is
-                               * to be closed, or closed that is to be open: nothing was done */
+    FANQUBER_BAD_SETTINGS = 6 /* the library does not know the size of the settings, a number in them is out of its range,
+                               * the name is not UTF-8, or a judge or a runner is open that is to be closed, or closed that
+                               * is to be open: nothing was done */
 };
 
 enum { FANQUBER_DEFAULT_LIMIT = 65536, FANQUBER_MAX_LIMIT = 16777216 };
 
-/* The settings of a run. Begin with FANQUBER_SETTINGS, which are those of the programs without options. */
+/* The settings of a run. Begin with FANQUBER_SETTINGS, which are those of the programs without options. A library that
+ * knows only a smaller struct, since it is older than this header, returns FANQUBER_BAD_SETTINGS. */
 typedef struct fanquber_settings {
+    size_t size;     /* sizeof(fanquber_settings), as FANQUBER_SETTINGS sets it */
     size_t limit;    /* how many bytes a unit may look at, or a line may have: 1 to FANQUBER_MAX_LIMIT */
     uint8_t mode;    /* FANQUBER_RUN, FANQUBER_CHECK or FANQUBER_PRINT */
     uint8_t letters; /* fanquber_abnf: FANQUBER_BYTES or FANQUBER_UTF8 */
     bool named;      /* the name names the start rule, or the rule that judges lines; else it is the first rule */
     bool raw;        /* fanquber_peg: actions are printed verbatim */
-    bool viable;     /* fanquber_abnf: `no N` in place of `no`: the longest viable beginning has N letters */
+    bool viable;     /* fanquber_abnf: `no N` in place of `no`: the longest viable prefix has N letters */
     bool nul;        /* fanquber_abnf: lines end with NUL in place of LF, and may hold LF */
-    bool explain;    /* a fault of the grammar, notes, refused lines and stops are explained */
+    bool explain;    /* a fault of the grammar, notes, rejected lines and stops are explained */
 } fanquber_settings;
 
-#define FANQUBER_SETTINGS { FANQUBER_DEFAULT_LIMIT, FANQUBER_RUN, FANQUBER_BYTES, false, false, false, false, false }
+#define FANQUBER_SETTINGS { sizeof(fanquber_settings), FANQUBER_DEFAULT_LIMIT, FANQUBER_RUN, FANQUBER_BYTES, \
+                            false, false, false, false, false }
 
-/* What a call came to. The lengths are those of the whole outputs, as with snprintf: where out_len is above out_size,
- * the buffer holds the beginning, and a call with more room gives all. */
+/* The result of a call. The lengths are those of the whole outputs, as with snprintf: where out_len is above out_size, the
+ * buffer holds a prefix, and a call with more room gives all. */
 typedef struct fanquber_result {
     size_t out_len;
     size_t err_len;
@@ -83,12 +87,12 @@ typedef struct fanquber_window {
 } fanquber_window;
 
 /* Runs a grammar on each window of an input by itself, as fanquber_peg would on its bytes alone, but reads and checks the
- * grammar once. What each of these runs would tell of the grammar, its notes or the fault of its text, stands once at the
- * front of err. Behind it, and in out, stands what the runs write, one run behind the other. There is one result for each
- * window, with the status of its run and the lengths of what it wrote there, or FANQUBER_BAD_SETTINGS where the window does
- * not lie in the input. What is returned has the lengths of all, and the status FANQUBER_DONE: so err_len less those of the
- * results is the length of what is told of the grammar. Or it is FANQUBER_BAD_SETTINGS, and nothing was done, also where
- * results_len is not windows_len. */
+ * grammar once. The messages on the grammar, its notes or the fault of its text, stand once at the front of err. The other
+ * messages follow, one run after the other, and out holds the outputs in the same order. Each window has a result: the status
+ * of its run and the lengths of what the run wrote, or FANQUBER_BAD_SETTINGS where the window does not lie in the input. The
+ * returned result has the lengths of all, and the status FANQUBER_DONE: err_len less those of the results is the length of
+ * the messages on the grammar. Or the status is FANQUBER_BAD_SETTINGS, and nothing was done, also where results_len is not
+ * windows_len. */
 fanquber_result fanquber_peg_windows(const fanquber_settings *settings, const void *grammar, size_t grammar_len,
                                      const void *name, size_t name_len, const void *input, size_t input_len,
                                      const fanquber_window *windows, size_t windows_len,
@@ -107,16 +111,16 @@ typedef struct fanquber_judge {
 
 /* The answer to a line. */
 typedef struct fanquber_answer {
-    size_t reached; /* settings.viable: how many letters of a line that is not derived begin something derived; else 0 */
+    size_t reached; /* settings.viable: how many letters the longest viable prefix of a rejected line has; else 0 */
     uint8_t status; /* FANQUBER_DONE: the line is derived; FANQUBER_NO_MATCH: it is not; FANQUBER_OVERLONG: it is not
                      * judged, since it is longer than the limit; FANQUBER_NO_MEMORY; FANQUBER_BAD_SETTINGS: the judge is
                      * closed */
 } fanquber_answer;
 
-/* Opens a closed judge by a grammar in ABNF, and writes what fanquber_abnf tells of the grammar into the buffer, its notes or
- * the fault of its text. The status is FANQUBER_DONE and the judge is open, or FANQUBER_REFUSED, FANQUBER_NO_MEMORY or
- * FANQUBER_BAD_SETTINGS, and it stays closed. The mode must be valid, and has no other effect. The end of lines matters
- * for hints alone. out_len is 0. */
+/* Opens a closed judge by a grammar in ABNF, and writes the messages of fanquber_abnf on the grammar into the buffer, its
+ * notes or the fault of its text. The status is FANQUBER_DONE and the judge is open, or FANQUBER_REFUSED, FANQUBER_NO_MEMORY
+ * or FANQUBER_BAD_SETTINGS, and it stays closed. The mode must be valid, and has no other effect. The end of lines matters for
+ * hints alone. out_len is 0. */
 fanquber_result fanquber_abnf_open(const fanquber_settings *settings, const void *grammar, size_t grammar_len,
                                    const void *name, size_t name_len, fanquber_judge *judge, void *err, size_t err_size);
 
@@ -136,15 +140,15 @@ typedef struct fanquber_runner {
 
 #define FANQUBER_RUNNER { NULL, false }
 
-/* Opens a closed runner by a grammar in the syntax of peg(1), and writes what fanquber_peg tells of the grammar into the
+/* Opens a closed runner by a grammar in the syntax of peg(1), and writes the messages of fanquber_peg on the grammar into the
  * buffer, its notes or the fault of its text. The status is FANQUBER_DONE and the runner is open, or FANQUBER_REFUSED,
  * FANQUBER_NO_MEMORY or FANQUBER_BAD_SETTINGS, and it stays closed. The mode must be valid, and has no other effect.
  * out_len is 0. */
 fanquber_result fanquber_peg_open(const fanquber_settings *settings, const void *grammar, size_t grammar_len,
                                   const void *name, size_t name_len, fanquber_runner *runner, void *err, size_t err_size);
 
-/* Runs the grammar on an input, and writes what fanquber_peg would with the settings of opening, but for what that tells of
- * the grammar. The status is that of the run, or FANQUBER_BAD_SETTINGS, and nothing was done, where the runner is closed. */
+/* Runs the grammar on an input, and writes what fanquber_peg would with the settings of opening, without the messages on the
+ * grammar. The status is that of the run, or FANQUBER_BAD_SETTINGS, and nothing was done, where the runner is closed. */
 fanquber_result fanquber_peg_run(fanquber_runner *runner, const void *input, size_t input_len, void *out, size_t out_size,
                                  void *err, size_t err_size);
 

@@ -1,5 +1,5 @@
-//! `run_each` of fanquber.rs gives what `run` gives for each input, a judge tells what `run` tells of its grammar, and a
-//! runner writes what `run` does behind that.
+//! `run_each` of fanquber.rs gives what `run` gives for each input, a judge has the notes of `run` on its grammar, and a
+//! runner writes what `run` does after them.
 #[allow(dead_code)]
 mod fanquber;
 
@@ -35,7 +35,7 @@ fn main() -> Result<(), Error> {
         runner_is_a_run(words, &settings)?;
         runner_is_a_run(&format!("{words}T <- 'x'\n"), &settings)?;
         let refused = Runner::open(b"S <- )\n", &Settings::default())?;
-        assert!(matches!(refused, OpenedPeg::Refused(told) if told == b"line 1: syntax error\n"));
+        assert!(matches!(refused, OpenedPeg::Refused(notes) if notes == b"line 1: syntax error\n"));
         let two = b"a = \"x\"\nb = \"y\"\n";
         let Opened::Judge(judge) = Judge::open(two, &settings)? else { panic!("refused") };
         assert_eq!(judge.notes, run(Tool::Abnf, two, &settings, b"")?.err);

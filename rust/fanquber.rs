@@ -3,6 +3,7 @@ use std::fmt;
 
 #[repr(C)]
 struct CSettings {
+    size: usize,
     limit: usize,
     mode: u8,
     letters: u8,
@@ -157,7 +158,7 @@ pub struct Reply {
 
 #[derive(Clone, Copy, Debug, PartialEq, Eq)]
 pub enum Error {
-    /// The limit is out of its range.
+    /// The limit is out of its range, or the library is older than this file.
     Settings,
     /// An allocation failed.
     Memory,
@@ -190,6 +191,7 @@ impl CResult {
 impl Settings<'_> {
     fn for_c(&self) -> CSettings {
         CSettings {
+            size: std::mem::size_of::<CSettings>(),
             limit: self.limit,
             mode: self.mode as u8,
             letters: self.letters as u8,
@@ -289,21 +291,21 @@ pub fn run_each(grammar: &[u8], settings: &Settings, inputs: &[&[u8]]) -> Result
     }
 }
 
-/// Cuts what runs wrote into their replies. What is told of the grammar stands once, before what the runs tell.
+/// Cuts what runs wrote into their replies. The messages on the grammar stand once, before those of the runs.
 fn replies(results: &[CResult], mut out: &[u8], err: &[u8]) -> Result<Vec<Reply>, Error> {
     let of_runs: usize = results.iter().map(|it| it.err_len).sum();
     let (of_grammar, mut err) = err.split_at(err.len() - of_runs);
     let mut replies = Vec::new();
     for it in results {
         let status = it.status()?;
-        let (printed, out_behind) = out.split_at(it.out_len);
-        let (told, err_behind) = err.split_at(it.err_len);
+        let (printed, out_after) = out.split_at(it.out_len);
+        let (messages, err_after) = err.split_at(it.err_len);
         replies.push(Reply {
             out: printed.to_vec(),
-            err: [of_grammar, told].concat(),
+            err: [of_grammar, messages].concat(),
             status,
         });
-        (out, err) = (out_behind, err_behind);
+        (out, err) = (out_after, err_after);
     }
     Ok(replies)
 }
@@ -312,7 +314,7 @@ fn replies(results: &[CResult], mut out: &[u8], err: &[u8]) -> Result<Vec<Reply>
 pub enum Opened {
     /// What judges lines by it.
     Judge(Judge),
-    /// The lines that say why it is refused.
+    /// The lines that say why it is rejected.
     Refused(Vec<u8>),
 }
 
@@ -321,7 +323,7 @@ pub enum Opened {
 pub enum Answer {
     /// The rule derives it.
     Yes,
-    /// The rule does not derive it. So many of its letters begin something derived, if the settings ask for that, else 0.
+    /// The rule does not derive it. Its longest viable prefix has so many letters, if the settings ask for that, else 0.
     No(usize),
     /// It is longer than the limit.
     Overlong,
@@ -397,7 +399,7 @@ impl Drop for Judge {
 pub enum OpenedPeg {
     /// What runs it.
     Runner(Runner),
-    /// The lines that say why it is refused.
+    /// The lines that say why it is rejected.
     Refused(Vec<u8>),
 }
 

@@ -38,7 +38,7 @@ public:
     fanquber_settings &settings() { return settings_; }
 
     /// Runs the grammar on an input. Throws std::bad_alloc where an allocation fails, and std::invalid_argument where the
-    /// settings are out of range or the name is no UTF-8.
+    /// settings are out of range, the library is older than fanquber.h, or the name is not UTF-8.
     reply run(std::string_view input) const {
         std::string out(4096, '\0'), err(1024, '\0');
         for (;;) {
@@ -81,7 +81,7 @@ private:
     friend class judge;
     friend class runner;
 
-    /// Cuts what the runs wrote into their replies. What is told of the grammar stands once, before what the runs tell.
+    /// Cuts what the runs wrote into their replies. The messages on the grammar stand once, before those of the runs.
     static std::vector<reply> replies(const std::vector<fanquber_result> &results, const fanquber_result &all,
                                       const std::string &out, const std::string &err) {
         const std::size_t count = results.size() - 1;
@@ -104,8 +104,8 @@ private:
     fanquber_settings settings_ = FANQUBER_SETTINGS;
 };
 
-/// The answer to a line: whether it is derived, and how many of its letters begin something derived, if that is asked for and
-/// it is not.
+/// The answer to a line: whether it is derived, and if not, how many letters its longest viable prefix has, if that is asked
+/// for.
 struct answer {
     bool derived;
     std::size_t reached;
@@ -115,7 +115,7 @@ struct answer {
 class judge {
 public:
     /// Throws std::bad_alloc where an allocation fails, and std::invalid_argument, which says why, where the grammar is
-    /// refused, the settings are out of range or the name is no UTF-8.
+    /// rejected, the settings are out of range, the library is older than fanquber.h, or the name is not UTF-8.
     explicit judge(const grammar &of) : notes_(1024, '\0') {
         for (;;) {
             const fanquber_result got =

@@ -37,7 +37,7 @@ static text read_all(FILE *file, const char *name) {
     return all;
 }
 
-/* Takes the options into the settings, and returns the place of the first word that is none. */
+/* Takes the options into the settings, and returns the index of the first word that is none. */
 static int take_options(int count, char **words, fanquber_settings *settings, const char **name) {
     int at = 2;
     for (; at < count && words[at][0] == '-'; at++) {

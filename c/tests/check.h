@@ -12,7 +12,7 @@
 
 static int wrong;
 
-/* Tells where something is not as it must be. */
+/* Prints where something is not as it must be. */
 #define CHECK(holds) \
     do { \
         if (!(holds)) { \

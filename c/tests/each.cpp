@@ -1,5 +1,5 @@
-// each: run_each of fanquber.hpp gives what run gives for each input, a judge tells what run tells of its grammar, and a
-// runner writes what run does behind that.
+// each: run_each of fanquber.hpp gives what run gives for each input, a judge has the notes of run on its grammar, and a
+// runner writes what run does after them.
 #include "../examples/fanquber.hpp"
 
 #include <iostream>
@@ -64,6 +64,15 @@ int main() {
     }
     CHECK(is_refused);
     CHECK(fanquber::runner(of)("bcdefgh").out.size() == 7 * 901);
+    fanquber::grammar newer = of;
+    newer.settings().size += 8; // as if fanquber.h had a field more
+    bool is_bad = false;
+    try {
+        newer.run("a");
+    } catch (const std::invalid_argument &) {
+        is_bad = true;
+    }
+    CHECK(is_bad);
     fanquber::judge moved(two);
     const fanquber::judge kept = std::move(moved);
     bool threw = false;

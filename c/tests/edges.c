@@ -4,6 +4,12 @@
 
 #define LETTER_X "a = \"x\"\n"
 
+/* The library takes settings of this size alone, and their fields at these offsets. */
+enum { SIZE = 24 };
+_Static_assert(sizeof(fanquber_settings) == SIZE, "the size of the settings");
+_Static_assert(offsetof(fanquber_settings, size) == 0 && offsetof(fanquber_settings, limit) == 8, "the numbers");
+_Static_assert(offsetof(fanquber_settings, mode) == 16 && offsetof(fanquber_settings, explain) == 22, "the bytes");
+
 enum { ROOM = 64 };
 static char out[ROOM], err[ROOM];
 static fanquber_result got;
@@ -19,7 +25,7 @@ static void call(tool *run, const fanquber_settings *settings, const char *gramm
     got = run(settings, TEXT(grammar), TEXT(name), input, input_len, out, out_size, err, err_size);
 }
 
-/* Tells whether a buffer of a size holds a text's beginning, and `#` behind it. */
+/* Returns whether a buffer of a size holds a prefix of a text, and `#` after it. */
 static int holds(const char *buffer, size_t size, const char *text, size_t len) {
     size_t kept = len < size ? len : size;
     if (memcmp(buffer, text, kept) != 0) return 0;
@@ -47,11 +53,17 @@ static void bad_settings(void) {
         fanquber_settings settings;
         const char *name;
     } rows[] = {
-        { { 0, FANQUBER_RUN, FANQUBER_BYTES, false, false, false, false, false }, "" },
-        { { FANQUBER_MAX_LIMIT + 1, FANQUBER_RUN, FANQUBER_BYTES, false, false, false, false, false }, "" },
-        { { 9, 3, FANQUBER_BYTES, false, false, false, false, false }, "" },
-        { { 9, FANQUBER_RUN, 2, false, false, false, false, false }, "" },
-        { { 9, FANQUBER_RUN, FANQUBER_BYTES, true, false, false, false, false }, "\xff" },
+        { { SIZE, 0, FANQUBER_RUN, FANQUBER_BYTES, false, false, false, false, false }, "" },
+        { { SIZE, FANQUBER_MAX_LIMIT + 1, FANQUBER_RUN, FANQUBER_BYTES, false, false, false, false, false }, "" },
+        { { SIZE, 9, 3, FANQUBER_BYTES, false, false, false, false, false }, "" },
+        { { SIZE, 9, FANQUBER_RUN, 2, false, false, false, false, false }, "" },
+        { { SIZE, 9, FANQUBER_RUN, FANQUBER_BYTES, true, false, false, false, false }, "\xff" },
+        /* a size that was not set, and those of smaller and larger structs */
+        { { 0, 9, FANQUBER_RUN, FANQUBER_BYTES, false, false, false, false, false }, "" },
+        { { SIZE - 1, 9, FANQUBER_RUN, FANQUBER_BYTES, false, false, false, false, false }, "" },
+        { { SIZE + 1, 9, FANQUBER_RUN, FANQUBER_BYTES, false, false, false, false, false }, "" },
+        { { 2 * SIZE, 9, FANQUBER_RUN, FANQUBER_BYTES, false, false, false, false, false }, "" },
+        { { SIZE_MAX, 9, FANQUBER_RUN, FANQUBER_BYTES, false, false, false, false, false }, "" },
     };
     size_t out_size = ROOM, err_size = ROOM;
     for (size_t at = 0; at < sizeof rows / sizeof *rows; at++) {
@@ -131,8 +143,8 @@ static void many_windows(void) {
     ENDS(FANQUBER_BAD_SETTINGS, "", "");
 }
 
-/* What windows are told of a grammar with a note, of one that is refused, and of a text with a fault: it stands once, first,
- * also where the buffer is small, and where there is no window. */
+/* The messages on a grammar with a note, on one that is rejected, and on a text with a fault: they stand once, first, also
+ * where the buffer is small, and where there is no window. */
 static void windows_of_grammars(void) {
     const struct {
         const char *grammar, *front, *printed, *told;
@@ -205,7 +217,7 @@ static void judged_lines(void) {
     settings.mode = 7;
     judge = opened(&settings, LETTER_X, "", err_size);
     OPENS(FANQUBER_BAD_SETTINGS, "");
-    settings = (fanquber_settings){ 2, FANQUBER_RUN, FANQUBER_UTF8, true, false, true, false, false };
+    settings = (fanquber_settings){ SIZE, 2, FANQUBER_RUN, FANQUBER_UTF8, true, false, true, false, false };
     for (err_size = 0; err_size < 32; err_size++) {
         judge = opened(&settings, "a = \"x\"\nb = %xE9 \"y\"\n", "B", err_size);
         OPENS(FANQUBER_DONE, "rule 'a' defined but not used\n");
@@ -274,7 +286,7 @@ static void runs_of_runners(void) {
     settings.limit = 0;
     runner = opened_runner(&settings, words, "", err_size);
     STARTS(FANQUBER_BAD_SETTINGS, "");
-    settings = (fanquber_settings){ 3, FANQUBER_CHECK, FANQUBER_BYTES, true, true, false, false, false };
+    settings = (fanquber_settings){ SIZE, 3, FANQUBER_CHECK, FANQUBER_BYTES, true, true, false, false, false };
     for (err_size = 0; err_size < 32; err_size++) {
         out_size = ROOM;
         runner = opened_runner(&settings, "a <- 'x'\nb <- < 'y'+ > { (yytext) }\n", "b", err_size);
@@ -293,21 +305,21 @@ static void runs_of_runners(void) {
     STARTS(FANQUBER_REFUSED, "rule 'T' used but not defined\n");
 }
 
-/* A runner that explains writes what a run writes behind the notes. */
+/* A runner that explains writes what a run writes after the notes. */
 static void explained_runs(void) {
     const char *grammar = "S <- 'ab' 'c'\nT <- 'y'\n", *inputs[] = { "abc", "abx", "" };
     fanquber_settings settings = FANQUBER_SETTINGS;
     settings.explain = true;
-    static char notes[1024], whole[1024], behind[1024];
+    static char notes[1024], whole[1024], rest[1024];
     fanquber_runner runner = FANQUBER_RUNNER;
     got = fanquber_peg_open(&settings, TEXT(grammar), TEXT(""), &runner, notes, sizeof notes);
     CHECK(got.status == FANQUBER_DONE && got.err_len > 0);
     for (size_t at = 0; at < sizeof inputs / sizeof *inputs; at++) {
         const fanquber_result all = fanquber_peg(&settings, TEXT(grammar), TEXT(""), TEXT(inputs[at]), out, ROOM, whole,
                                                  sizeof whole);
-        const fanquber_result run = fanquber_peg_run(&runner, TEXT(inputs[at]), out, ROOM, behind, sizeof behind);
+        const fanquber_result run = fanquber_peg_run(&runner, TEXT(inputs[at]), out, ROOM, rest, sizeof rest);
         CHECK(run.status == all.status && run.out_len == all.out_len && run.err_len == all.err_len - got.err_len);
-        CHECK(memcmp(whole, notes, got.err_len) == 0 && memcmp(whole + got.err_len, behind, run.err_len) == 0);
+        CHECK(memcmp(whole, notes, got.err_len) == 0 && memcmp(whole + got.err_len, rest, run.err_len) == 0);
     }
     fanquber_peg_close(&runner);
 }

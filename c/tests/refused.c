@@ -1,5 +1,5 @@
 /* refused GRAMMAR: each allocation of a call is refused in turn. The status is then FANQUBER_FAULT or FANQUBER_NO_MEMORY,
- * or the reply is whole, and no memory is left behind, nor by a judge or a runner that was closed. GRAMMAR is that of RFC
+ * or the reply is whole, and no memory is leaked, nor by a judge or a runner that was closed. GRAMMAR is that of RFC
  * 3986. Link it with the static library and -Wl,--wrap=malloc,--wrap=realloc,--wrap=free. */
 #include "check.h"
 
@@ -82,7 +82,7 @@ static void sweep_judge(const char *grammar, size_t grammar_len, size_t limit) {
         int is_all = left > 0;
         left = -1;
         if (judge.is_open) {
-            const char *line = "http://a/b"; /* the judge serves on behind a refusal */
+            const char *line = "http://a/b"; /* the judge serves on after a failed allocation */
             CHECK(fanquber_abnf_judge(&judge, TEXT(line)).status == FANQUBER_DONE);
         }
         fanquber_abnf_close(&judge);
@@ -116,7 +116,7 @@ static void sweep_runner(void) {
         }
         int is_all = left > 0;
         left = -1;
-        if (runner.is_open) { /* the runner serves on behind a refusal */
+        if (runner.is_open) { /* the runner serves on after a failed allocation */
             got = fanquber_peg_run(&runner, TEXT(inputs[0]), out, sizeof out, err, sizeof err);
             CHECK(got.status == FANQUBER_DONE && got.out_len == strlen(printed[0]));
         }
@@ -130,8 +130,8 @@ static void sweep_runner(void) {
     CHECK(!"the sweep ends");
 }
 
-/* Does the same for windows, of a grammar with a note: where the note is told, all runs are those of the grammar, and else
- * each stops. */
+/* Does the same for windows, of a grammar with a note: where the note is reported, all runs are those of the grammar, and
+ * else each stops. */
 static void sweep_windows(void) {
     const fanquber_settings settings = FANQUBER_SETTINGS;
     const fanquber_window windows[] = { { 0, 1 }, { 1, 1 } };

@@ -37,4 +37,4 @@ __all__ = [
     "peg",
     "peg_each",
 ]
-__version__ = "1.1"
+__version__ = "2.0"

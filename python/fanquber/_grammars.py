@@ -53,8 +53,8 @@ class Abnf(_PerThread):
     """A grammar in ABNF (RFC 5234, RFC 7405), with the rule that judges lines: the first, if none is named.
 
     A line is bytes, or a `str`, which stands for its bytes in UTF-8. Its letters are its bytes, or its code points with
-    `Letters.UTF8`. It may hold any byte, and has at most `limit` bytes. `GrammarError` if the grammar is refused,
-    `OutOfMemory` if memory is; each call that judges lines raises `Overlong` for a line above the limit.
+    `Letters.UTF8`. It may hold any byte, and has at most `limit` bytes. `GrammarError` if the grammar is rejected,
+    `OutOfMemory` if an allocation fails; each call that judges lines raises `Overlong` for a line above the limit.
 
     Each thread reads the grammar once, and again to explain.
     """
@@ -71,7 +71,7 @@ class Abnf(_PerThread):
         self._text = as_bytes(text)
         self._rule, self._letters, self._limit = rule, letters, limit
         self.notes: List[str] = _lines(self._judge().opening.err)
-        """What is noted of the grammar, and does not refuse it."""
+        """The notes on the grammar, none of which rejects it."""
 
     def _judge(self, viable: bool = False) -> AbnfJudge:
         """Returns what judges lines on this thread: it is opened when it is first asked for."""
@@ -108,8 +108,8 @@ class Abnf(_PerThread):
         return answers.index(False) if False in answers else None
 
     def explain(self, line: Text) -> Optional[int]:
-        """Returns None for a line that the rule derives. Of any other it returns how many letters the longest beginning
-        has that begins something which the rule derives: the letter behind them cannot stand there."""
+        """Returns None for a line that the rule derives. Of any other it returns how many letters the longest viable
+        prefix has: they begin something that the rule derives, and the letter after them cannot stand there."""
         answer = self._answers([line], viable=True)[0]
         return None if answer.derived else answer.reached
 
@@ -138,7 +138,7 @@ def _peg_run(reply: Reply) -> PegRun:
 class Peg(_PerThread):
     """A grammar in the syntax of peg(1), with its start rule: the first, if none is named.
 
-    `GrammarError` if the grammar is refused, `OutOfMemory` if memory is. Each thread reads the grammar once.
+    `GrammarError` if the grammar is rejected, `OutOfMemory` if an allocation fails. Each thread reads the grammar once.
     """
 
     def __init__(
@@ -148,7 +148,7 @@ class Peg(_PerThread):
         self._text = as_bytes(text)
         self._start, self._raw, self._limit = start, raw, limit
         self.notes: List[str] = _lines(self._runner().opening.err)
-        """What is noted of the grammar, and does not refuse it."""
+        """The notes on the grammar, none of which rejects it."""
 
     def _runner(self) -> PegRunner:
         """Returns what runs the grammar on this thread: it is opened when it is first asked for."""

@@ -1,6 +1,5 @@
 """The calls of libfanquber: whole runs, and grammars that are opened once."""
 import ctypes
-import ctypes.util
 import enum
 import os
 import threading
@@ -10,12 +9,12 @@ Text = Union[bytes, str]
 
 DEFAULT_LIMIT = 65536
 MAX_LIMIT = 16777216
-_SONAME = "libfanquber.so.1"
+_SONAME = "libfanquber.so.2"
 _BAD_SETTINGS = 6
 
 
 class Mode(enum.IntEnum):
-    """What is done with the grammar."""
+    """What to do with the grammar."""
 
     RUN = 0
     CHECK = 1
@@ -53,7 +52,7 @@ class FanquberError(Exception):
 
 
 class GrammarError(FanquberError):
-    """The grammar is refused. `notes` has the lines that say why."""
+    """The grammar is rejected. `notes` has the lines that say why."""
 
     def __init__(self, notes: "list[str]") -> None:
         super().__init__("; ".join(notes))
@@ -74,6 +73,7 @@ class OutOfMemory(FanquberError, MemoryError):
 
 class _Settings(ctypes.Structure):
     _fields_ = [
+        ("size", ctypes.c_size_t),
         ("limit", ctypes.c_size_t),
         ("mode", ctypes.c_uint8),
         ("letters", ctypes.c_uint8),
@@ -105,7 +105,7 @@ class _Answer(ctypes.Structure):
 
 def _loaded() -> ctypes.CDLL:
     """Returns the shared object: the file that FANQUBER_LIBRARY names, or else the one that the system finds."""
-    library = ctypes.CDLL(os.environ.get("FANQUBER_LIBRARY") or ctypes.util.find_library("fanquber") or _SONAME)
+    library = ctypes.CDLL(os.environ.get("FANQUBER_LIBRARY") or _SONAME)
     settings, text = [ctypes.POINTER(_Settings)], [ctypes.c_char_p, ctypes.c_size_t]
     windows = [ctypes.POINTER(_Window), ctypes.c_size_t, ctypes.POINTER(_Result), ctypes.c_size_t]
     library.fanquber_peg.argtypes = library.fanquber_abnf.argtypes = settings + text * 5
@@ -132,6 +132,13 @@ def as_bytes(text: Text) -> bytes:
     return text.encode() if isinstance(text, str) else bytes(text)
 
 
+def _status(got: _Result) -> Status:
+    """Returns the status of a call that takes settings. `ValueError` where the library rejects them."""
+    if got.status == _BAD_SETTINGS:
+        raise ValueError("settings out of range, or a library that is older than this package")
+    return Status(got.status)
+
+
 def _run(
     call: Any, settings: _Settings, grammar: Text, start: Optional[str], data: Text, room: int, more: Sequence[Any] = ()
 ) -> Reply:
@@ -142,10 +149,9 @@ def _run(
     while True:
         out, err = ctypes.create_string_buffer(out_size), ctypes.create_string_buffer(err_size)
         got = call(ctypes.byref(settings), *words, *more, out, out_size, err, err_size)
-        if got.status == _BAD_SETTINGS:
-            raise ValueError(f"limit {settings.limit}: it is from 1 to {MAX_LIMIT}")
+        status = _status(got)
         if got.out_len <= out_size and got.err_len <= err_size:
-            return Reply(out.raw[: got.out_len], err.raw[: got.err_len], Status(got.status))
+            return Reply(out.raw[: got.out_len], err.raw[: got.err_len], status)
         out_size, err_size = max(out_size, got.out_len), max(err_size, got.err_len)
 
 
@@ -153,7 +159,7 @@ def _settings(limit: int, mode: Mode, start: Optional[str], **others: Any) -> _S
     # A number that C cannot hold would be cut
     if not 1 <= limit <= MAX_LIMIT:
         raise ValueError(f"limit {limit}: it is from 1 to {MAX_LIMIT}")
-    return _Settings(limit=limit, mode=mode, named=start is not None, **others)
+    return _Settings(size=ctypes.sizeof(_Settings), limit=limit, mode=mode, named=start is not None, **others)
 
 
 def peg(
@@ -190,7 +196,7 @@ def peg_each(
     settings = _settings(limit, Mode.RUN, start, raw=raw, explain=explain)
     more = (windows, len(parts), results, len(parts))
     out, err, _ = _run(_library.fanquber_peg_windows, settings, grammar, start, b"".join(parts), 65536, more)
-    # What is told of the grammar stands once, before what the runs tell
+    # The messages on the grammar stand once, before those of the runs
     replies, out_at, err_at = [], 0, len(err) - sum(it.err_len for it in results)
     of_grammar = err[:err_at]
     for it in results:
@@ -221,8 +227,8 @@ def abnf(
 
 
 class Answer(NamedTuple):
-    """The answer to a line: whether it is derived, and how many letters its longest viable beginning has, if that is
-    asked for and it is not."""
+    """The answer to a line: whether it is derived, and if not, how many letters its longest viable prefix has, if that
+    is asked for."""
 
     derived: bool
     reached: int
@@ -250,13 +256,13 @@ class _Opened:
                 break
             closes(ctypes.byref(self._place))
             room = got.err_len
-        self.opening = Reply(b"", err.raw[: got.err_len], Status(got.status))
+        self.opening = Reply(b"", err.raw[: got.err_len], _status(got))
         """What a run that checks the grammar writes."""
 
     def __del__(self) -> None:
         place = getattr(self, "_place", None)
         if place is None:
-            return  # the settings were refused
+            return  # the settings were rejected
         if threading.get_ident() == self._thread:
             self._closes(ctypes.byref(place))
         else:

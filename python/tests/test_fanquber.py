@@ -4,6 +4,7 @@ import pickle
 import shlex
 import threading
 import unittest
+import unittest.mock
 
 import fanquber
 from fanquber import Abnf, GrammarError, Letters, Mode, Overlong, Peg, Status
@@ -104,6 +105,12 @@ class PegTest(unittest.TestCase):
             Peg("a <- a")
         self.assertEqual(refused.exception.notes, ["possible infinite left recursion in rule 'a'"])
 
+    def test_older_library(self):
+        with unittest.mock.patch("ctypes.sizeof", return_value=32):
+            for call in (fanquber.peg, Peg, lambda text: fanquber.peg_each(text, ["tea"])):
+                with self.assertRaisesRegex(ValueError, "older than this package"):
+                    call(LIST)
+
     def test_long_output(self):
         numbers = Peg("a <- . { 123456789 }")
         for count in (1, 20000, 2):
@@ -144,7 +151,7 @@ class ThreadsTest(unittest.TestCase):
 
 
 class ExamplesTest(unittest.TestCase):
-    """Each folder has a command, `run.sh`, and what it must print, tell and end with."""
+    """Each folder has a command, `run.sh`, and what it must write on both outputs and end with."""
 
     def run_folder(self, folder):
         words = shlex.split((folder / "run.sh").read_text().splitlines()[-1].replace("<", " < "))

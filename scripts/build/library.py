@@ -4,7 +4,7 @@
 usage: library.py [--over-ci]
 
 It takes bin/libfanquber_c.a, which prove.py puts there, and makes of it in bin/ the static library libfanquber.a, the
-shared object libfanquber.so.1 with the link libfanquber.so, and fanquber.pc, which pkg-config reads. Both libraries
+shared object libfanquber.so.2 with the link libfanquber.so, and fanquber.pc, which pkg-config reads. Both libraries
 give out the calls of c/fanquber.h and nothing else; the script fails otherwise. It needs a C compiler and objcopy
 (Debian: binutils). CC names the compiler, `cc` if not set, and RT the command, `rt` if not set.
 
@@ -25,8 +25,8 @@ from crates import below, listed, uses
 
 TOP = pathlib.Path(__file__).resolve().parents[2]
 CRATE = "fanquber_c"
-SONAME = "libfanquber.so.1"
-VERSION = "1.1"
+SONAME = "libfanquber.so.2"
+VERSION = "2.0"
 RT = os.environ.get("RT", "rt").split()
 CC = os.environ.get("CC", "cc").split()
 

@@ -18,7 +18,7 @@ from crates import in_order, is_static
 
 TOP = pathlib.Path(__file__).resolve().parents[2]
 # The most edits that the gate has, and the fewest of a crate that has some: its first costs a proof of the crate.
-MOST_EDITS = 130
+MOST_EDITS = 110
 FEWEST_EDITS = 4
 # What a first line names where no clause of the function refuses the edit.
 OTHERS = r"ensures|invariant|loop|safe|ends|requires of [\w.]+"
@@ -69,7 +69,7 @@ EXEMPT = (
     "capi: calls.abnf", "capi: runner_calls.peg_open",
     # A crate above has such an edit.
     "abnfrun: AbnfJudge.judge", "memoryrun: whole_run.abnf_in_memory", "memoryrun: whole_run.peg_in_memory",
-    "earleyitems: Chart.spots", "toolrun: plan.plan_of", "toolrun: tool.act", "diagnostics: places.places_of",
+    "earleyitems: Chart.spots", "toolrun: plan.plan_of", "toolrun: tool.act", "diagnostics: explained.places_of",
     "abnfcheck: table_marks.sound_rules",
 )
 

@@ -24,7 +24,7 @@ PROGRAMS = ("pegi", "abnfi", "abnfx")
 # What is looked at before anything is proved, and what the programs are run by.
 BEFORE = (
     ("gate/names.py",), ("gate/doc_names.py",), ("gate/edit_index.py", "-q"), ("docs/pages.py", "--check"),
-    ("docs/private_definitions.py", "--check"), ("build/completions.py", "--check"),
+    ("gate/calls.py",), ("docs/private_definitions.py", "--check"), ("build/completions.py", "--check"),
 )
 BEHIND = (
     ("docs/run_examples.sh",), ("docs/man_examples.py",), ("gate/run_rows.py",),

@@ -29,11 +29,11 @@ kept_behind before [] = []
 kept_behind before (line ∷ lines) = cond (goes_here before line.kind (kinds_of lines))
     (kept_behind (next_behind before line.kind) lines) (line ∷ kept_behind (next_behind before line.kind) lines)
 
--- and behind those that the lines so far left
+-- and after those that the lines so far left
 abbrev pub all_kept : Before → List NumberedLine → List NumberedLine → List NumberedLine
 all_kept before kept lines = cond (at_mark (kinds_of lines)) (cut_blanks kept) kept ++ kept_behind before lines
 
--- behind furniture no blank line is left at the end
+-- after furniture no blank line is left at the end
 abbrev pub IsClean : Before → List NumberedLine → Type 0
 IsClean Text kept = Unit {0}
 IsClean Mark kept = cut_blanks kept ≡ kept

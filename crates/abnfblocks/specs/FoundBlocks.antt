@@ -32,8 +32,8 @@ pub record IsNoPiece (block : List NumberedLine) (fault : ReadFault) : Type 0 wh
   pub none : (k : ℕ) → IsCut block k → IsAbnf (piece_text block k) → ⊥
   pub fault_is : IsOutcome (piece_text block (paragraph_size block)) (Some fault)
 
--- What is found among these lines, of which the first has that number in the list, from 0. Behind a piece the next line
--- is looked at, and so it is behind a line that opens a block of which nothing reads.
+-- What is found among these lines, of which the first has that number in the list, from 0. The next line follows a
+-- piece, or a line that opens a block of which nothing reads.
 pub data AreFound : ℕ → List NumberedLine → List Found → Type 0 where
   none_left : {i : ℕ} → AreFound i [] []
   no_rule : {i : ℕ} {line : NumberedLine} {lines : List NumberedLine} {others : List Found} → opens_block line ≡ false
@@ -61,7 +61,7 @@ IsLook lines look.NoRule = opens_first lines ≡ false
 IsLook lines (look.Piece n) = (opens_first lines ≡ true) × IsPiece (block_at lines) n
 IsLook lines (look.NotAbnf fault) = (opens_first lines ≡ true) × IsNoPiece (block_at lines) fault
 
--- a paragraph of the block ends behind so many lines, and they are ABNF without that margin
+-- a paragraph of the block ends after so many lines, and they are ABNF without that margin
 abbrev pub IsAbnfCut : ℕ → List NumberedLine → ℕ → Type 0
 IsAbnfCut margin block n = (ends_paragraph block n ≡ true) × IsAbnf (block_text margin (take n block))
 

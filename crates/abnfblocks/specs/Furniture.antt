@@ -1,11 +1,11 @@
--- The furniture of pages: form feeds, heads, feet and the blank lines round them. A line is told by what it looks like,
--- and by the lines that stand nearest to it.
+-- The furniture of pages: form feeds, heads, feet and the blank lines round them. The look of a line decides, and the
+-- lines nearest to it.
 use Rattle.std.specs.Prelude.{◌≡◌, List, [], ◌∷◌, map}
 use Rattle.abnfblocks.specs.TextLines.{NumberedLine}
 use Rattle.abnfblocks.specs.declared.rfctext.line_kind.LineKind.{LineKind}
 use Rattle.abnfblocks.specs.declared.rfctext.line_kind.LineKind.TheVariants.{Blank, Feed, Foot, Dated}
 
--- with any number of blank lines before it, a line that is such a one begins the list, and `rest` stands behind it
+-- with any number of blank lines before it, a line that is such a one begins the list, and `rest` follows it
 pub data Nearest (Is : LineKind → Type 0) : List LineKind → List LineKind → Type 0 where
   first : {kind : LineKind} {rest : List LineKind} → Is kind → Nearest Is (kind ∷ rest) rest
   over_blank : {kinds rest : List LineKind} → Nearest Is kinds rest → Nearest Is (Blank ∷ kinds) rest
@@ -26,7 +26,7 @@ IsAtMark kinds = (rest : List LineKind) × Nearest IsMark kinds rest
 abbrev pub IsAtHead : List LineKind → Type 0
 IsAtHead kinds = (rest : List LineKind) × Nearest IsDated kinds rest × IsAtMark rest
 
--- A line of a kind is furniture, where these lines stand before it, the nearest first, and those behind it.
+-- A line of a kind is furniture, where these lines stand before it, the nearest first, and those after it.
 pub data IsFurniture (before behind : List LineKind) : LineKind → Type 0 where
   mark : {kind : LineKind} → IsMark kind → IsFurniture before behind kind
   head : IsAtMark before → IsFurniture before behind Dated

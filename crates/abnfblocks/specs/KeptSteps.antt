@@ -21,7 +21,7 @@ is_mark_kind Foot = true
 is_mark_kind Dated = false
 is_mark_kind Other = false
 
--- whether such a line goes, whatever stands behind it
+-- whether such a line goes, whatever follows it
 abbrev pub goes_behind : Before → LineKind → Bool
 goes_behind before Feed = true
 goes_behind before Foot = true
@@ -47,7 +47,7 @@ next_behind before Other = Text
 abbrev pub cut_blanks : List NumberedLine → List NumberedLine
 cut_blanks lines = take (length lines - suffix_len (λ line. is_blank_kind line.kind) lines) lines
 
--- what is left behind one more line
+-- what is left after one more line
 abbrev pub after_line : Before → List NumberedLine → NumberedLine → List NumberedLine
 after_line before kept line = if is_mark_kind line.kind then cut_blanks kept
     else if goes_behind before line.kind then kept else kept ++ line ∷ []

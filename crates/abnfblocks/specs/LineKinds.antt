@@ -63,7 +63,7 @@ is_dated line =
     let blanks = suffix_len is_blank (before_digits bare) in
     not (begins_blank line) && (suffix_len is_ascii_digit bare == 4) && not (blanks == 0)
 
--- a line with these bytes behind its form feeds, if it has some
+-- a line with these bytes after its form feeds, if it has some
 abbrev pub kind_of : Bool → List ℕ → LineKind
 kind_of has_feed line = if is_blank_line line then (if has_feed then Feed else Blank) else if is_foot line then Foot
     else if not (is_dated line) then Other else if has_feed then Feed else Dated

@@ -16,7 +16,7 @@ margin_of line = prefix_len is_margin line
 abbrev pub behind_margin : List ℕ → List ℕ
 behind_margin line = drop (margin_of line) line
 
--- what stands behind the bytes of a name
+-- what follows the bytes of a name
 abbrev pub behind_name : List ℕ → List ℕ
 behind_name text = drop (prefix_len continues_name text) text
 
@@ -28,11 +28,11 @@ abbrev pub begins_letter : List ℕ → Bool
 begins_letter [] = false
 begins_letter (b ∷ bytes) = is_ascii_alphabetic b
 
--- behind its margin the line is a comment
+-- after its margin the line is a comment
 abbrev pub begins_comment : List ℕ → Bool
 begins_comment line = begins_by (code ";") (behind_margin line)
 
--- behind its margin stand a rule's name and `=`, perhaps with spaces between
+-- after its margin stand a rule's name and `=`, perhaps with spaces between
 abbrev pub begins_rule_line : List ℕ → Bool
 begins_rule_line line =
     begins_letter (behind_margin line) && begins_by (code "=") (behind_margin (behind_name (behind_margin line)))

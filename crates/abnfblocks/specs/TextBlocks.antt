@@ -51,7 +51,7 @@ abbrev pub paragraph_size : List NumberedLine → ℕ
 paragraph_size [] = 0
 paragraph_size (line ∷ lines) = suc (prefix_len is_full_line lines)
 
--- whether a paragraph ends behind so many lines: no empty line stands before that place, and no full line behind it
+-- whether a paragraph ends after so many lines: no empty line stands before that position, and no full line after it
 abbrev pub ends_paragraph : List NumberedLine → ℕ → Bool
 ends_paragraph lines n =
     (suffix_len is_empty_line (take n lines) == 0) && (prefix_len is_full_line (drop n lines) == 0)

@@ -70,7 +70,7 @@ pub(crate) fn paragraph_size(lines: &[TextLine<'_>]) -> usize
     size
 }
 
-/// Returns whether a paragraph ends behind so many lines.
+/// Returns whether a paragraph ends after so many lines.
 pub(crate) fn ends_paragraph(lines: &[TextLine<'_>], size: usize) -> bool
     requires some { 0 < size }
     requires within { size ≤ length lines.now }

@@ -21,7 +21,7 @@ pub enum Found {
 
 /// Returns what is found among the lines of a text, in order.
 ///
-/// A line opens a block if it begins, behind its margin, with a rule's name and `=`. The block goes on over blank
+/// A line opens a block if it begins, after its margin, with a rule's name and `=`. The block goes on over blank
 /// lines, comments, lines indented deeper and other rules at the same margin. It is read without its margin by
 /// `read_abnf`; if it does not read, its last paragraphs are left out one by one until it does. What is left out is
 /// looked at again. If nothing reads, the line looks like a rule and is none.
@@ -41,7 +41,7 @@ pub fn find_blocks(alloc: Global, lines: &[TextLine<'_>]) -> Result<Vec<Found>, 
     Ok(found)
 }
 
-/// Says that at most one list is found among lines, from a place on.
+/// Says that at most one list is found among lines, from a position on.
 pub fn one_finding()
     ensures { (i : ℕ) (lines : List NumberedLine) (a b : List Found) → AreFound i lines a → AreFound i lines b
         → a ≡ b }

@@ -47,7 +47,7 @@ impl Look {
     }
 }
 
-// Whether a paragraph ends behind so many lines of the block, and they read as ABNF without that margin.
+// Returns whether a paragraph ends after so many lines of the block, and they read as ABNF without that margin.
 fn is_abnf_cut(
     alloc: Global,
     margin_size: usize,

@@ -53,14 +53,14 @@ fn name_size(text: &[u8]) -> usize
     size
 }
 
-// What stands behind the margin.
+// Returns what follows the margin.
 fn after_margin(line: &[u8]) -> &[u8]
     ensures { result.now ≡ behind_margin line.now }
 {
     &line[margin(line)..]
 }
 
-// What stands behind the bytes of a name.
+// Returns what follows the bytes of a name.
 fn after_name(text: &[u8]) -> &[u8]
     ensures { result.now ≡ behind_name text.now }
 {
@@ -87,14 +87,14 @@ fn begins_letter(text: &[u8]) -> bool
     }
 }
 
-// Whether the line begins with a comment, behind its margin.
+// Returns whether the line begins with a comment, after its margin.
 pub(crate) fn is_comment(line: &[u8]) -> bool
     ensures { result ≡ begins_comment line.now }
 {
     begins_by(after_margin(line), b';')
 }
 
-// Whether the line begins with a rule's name and `=`, behind its margin.
+// Returns whether the line begins with a rule's name and `=`, after its margin.
 pub(crate) fn is_rule_line(line: &[u8]) -> bool
     ensures { result ≡ begins_rule_line line.now }
 {

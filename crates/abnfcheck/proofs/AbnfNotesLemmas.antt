@@ -1,4 +1,4 @@
--- The notes on what marks choose of the rules, and what refuses a grammar.
+-- The notes on what marks choose of the rules, and what rejects a grammar.
 -- Serves: check_abnf (notes, sound), one_list_of_abnf_notes, one_statement_of_abnf
 use Rattle.std.proofs.Common.{◌≡◌, ◌↔◌, ℕ, zero, suc, ◌+◌, ◌<◌, ◌≤◌, ◌⊎◌, inl, inr, ⊎_elim, Bool, true, false, not}
 use Rattle.std.proofs.Common.{List, [], ◌∷◌, ◌++◌, length, map, take, drop, get_or, Option, Some, None, refl, sym, ◌∙◌}
@@ -152,7 +152,7 @@ module _ (rules : List Rule) (given : Option (List ℕ)) (names : List (List ℕ
           ∙ drop-append_seam (rule_names rules) (news Fold (rule_names rules)
           (option_to_list given ++ names_used rules))
 
-  -- what refuses a grammar
+  -- what rejects a grammar
   module _ (file : List Rule) (again : List ℕ) (redefined : List Bool)
       (marks : AreMarks (Contains again) (length file) redefined) where
     pub refused_again : (id : ℕ) → IsMarked redefined id → IsRefused file rules again (judged_in given rules)
@@ -203,7 +203,7 @@ module _ (rules : List Rule) (given : Option (List ℕ)) (names : List (List ℕ
           },
         )
 
--- a grammar that is not refused is sound
+-- a grammar that is not rejected is sound
 id_most : (rules : List Rule) (name : List ℕ) → id_of rules name ≤ length rules
 id_most [] name = omega arith
 id_most (rule ∷ rules) name = step (same_name Fold name rule.name) (id_of rules name) (length rules)

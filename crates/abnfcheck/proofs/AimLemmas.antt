@@ -119,7 +119,7 @@ module _ (alphabet : Alphabet) (has : ℕ → Bool) (test : has ≡ in_alphabet 
         is = subst (λ h. h c ≡ true) test letter;
       }
 
--- what the code tells of them, by the aim
+-- what the code returns for them, by the aim
 length_zero_is_empty : (t : List ℕ) → (length t == 0) ≡ true → t ≡ []
 length_zero_is_empty t e = nil_from_length t (eqb-true (length t) 0 e)
 

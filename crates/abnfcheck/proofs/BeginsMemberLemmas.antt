@@ -31,9 +31,9 @@ stands_before [] i c is = absurd cc
 stands_before (b ∷ x) zero c is = omega arith
 stands_before (b ∷ x) (suc i) c is = omega (arith, stands_before x i c is)
 
--- `more` tells the letters that may stand behind those of x
+-- `more` marks the letters that may follow those of x
 module _ (more : ℕ → Bool) (x : List ℕ) where
-  -- the letter at i leads behind it, and each letter of `more` from the end to the end
+  -- the letter at i leads to the position after it, and each letter of `more` from the end to the end
   abbrev goes : ℕ → ℕ → ℕ → Bool
   goes i c k = (is_that c (slice_get x i) && eqb (i + 1) k) || (more c && (eqb i (length x) && eqb k (length x)))
 
@@ -115,7 +115,7 @@ module _ (more : ℕ → Bool) (x : List ℕ) where
       (letters_path v all.1)
 
   module _ (has : ℕ → Bool) (rules : List Rule) (id : ℕ) where
-    -- the rule derives x with some letters of `more` behind it
+    -- the rule derives x with some letters of `more` after it
     record Longer : Type 0 where
       rest : List ℕ
       letters : AreLetters more rest

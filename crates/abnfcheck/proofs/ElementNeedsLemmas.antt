@@ -104,7 +104,7 @@ within_push xs need w below = record {
       omega (arith, lt, l);
 }
 
--- one more element: its need behind those that were there
+-- one more element: its need comes after those that were there
 module _ (has : ℕ → Bool) (rules : List Rule) (aim : Aim) (old now new : List Demand) (need : Demand) (n : ℕ)
     (el : Element) (is : new ≡ now ++ need ∷ []) (at : n ≡ length now) where
   need_numbered : (added : List Demand) → now ≡ old ++ added

@@ -5,7 +5,7 @@ use Rattle.std.specs.Prelude.{slice_get, Some}
 use Rattle.abnfcheck.specs.Derivable.{AreLetters}
 use Rattle.abnfcheck.proofs.IsPathLemmas.{IsPath, here, step}
 
--- the letter c stands at i, and k is the place behind it
+-- the letter c stands at i, and k is the position after it
 abbrev pub OnLine : List ℕ → ℕ → ℕ → ℕ → Type 0
 OnLine x i c k = (slice_get x i ≡ Some c) × (i + 1 ≡ k)
 

@@ -1,4 +1,4 @@
--- A file's rules with the core rules behind them begin with those of the file.
+-- A file's rules with the core rules after them begin with those of the file.
 -- Serves: check_abnf (notes, sound)
 use Rattle.std.proofs.Common.{◌≡◌, List, ◌++◌, map, refl, sym, ◌∙◌, ap}
 use Rattle.std.proofs.lemmas.List.{map-append}

@@ -1,4 +1,4 @@
--- The notes on a grammar in ABNF, in order, and what refuses it. Own, but for what RFC 5234, sections 2.1, 3.3 and 4,
+-- The notes on a grammar in ABNF, in order, and what rejects it. Own, but for what RFC 5234, sections 2.1, 3.3 and 4,
 -- says of rule names, `=/` and prose.
 use Rattle.std.specs.Prelude.{◌≡◌, ℕ, suc, ◌<◌, List, [], ◌∷◌, ◌++◌, map, length, Option, Some, None, option_to_list}
 use Rattle.std.specs.Prelude.{Contains, MatchOption}
@@ -59,7 +59,7 @@ module _ (file rules : List Rule) (again : List ℕ) (judged : ℕ) where
     by_name : Reachable rules judged (length rules) → IsRefused
     by_prose : {id : ℕ} → Reachable rules judged id → HoldsProse rules id → IsRefused
 
--- there is a grammar of all rules, with its judged rule, exactly where it is not refused
+-- there is a grammar of all rules, with its judged rule, exactly where it is not rejected
 abbrev pub IsSoundUnlessRefused : List Rule → table.Rules Elem → List ℕ → Option (List ℕ) → Option Grammar → Type 0
 IsSoundUnlessRefused file all again given sound =
     MatchOption sound (IsRefused file (rules_of all) again (judged_in given (rules_of all)))

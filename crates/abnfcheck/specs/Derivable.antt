@@ -26,7 +26,7 @@ abbrev pub AtMost : ℕ → Option ℕ → Type 0
 AtMost k None = Unit {0}
 AtMost k (Some most) = k ≤ most
 
--- `has` tells the letters of the alphabet
+-- `has` marks the letters of the alphabet
 module _ (has : ℕ → Bool) (rules : List Rule) where
   mutual
     pub data Derives : Element → List ℕ → Type 0 where

@@ -23,11 +23,11 @@ use std::alloc::Global;
 pub struct Checked<S> {
     /// What there is to say of it, in order.
     pub notes: Vec<Note>,
-    /// The grammar, ready to judge lines, unless a note refuses it.
+    /// The grammar, ready to judge lines, unless a note rejects it.
     pub sound: Option<S>,
 }
 
-/// Checks a grammar in ABNF: what there is to say of it, and where no note refuses it, the grammar ready to judge lines
+/// Checks a grammar in ABNF: what there is to say of it, and where no note rejects it, the grammar ready to judge lines
 /// by the rule with the name `rule`, or else by the first. Names compare without case.
 ///
 /// The notes are: rules of the file that `=` defines again; those that `=/` extends before they are defined, where no
@@ -35,11 +35,11 @@ pub struct Checked<S> {
 /// rules of the file with prose; and rules of the file that nothing names and that are not judged. Notes on rules go by
 /// the order of the file. Uses in core rules that the file leaves alone count.
 ///
-/// A redefinition refuses the grammar, and so do prose and a name without a rule if they can be reached from the judged
+/// A redefinition rejects the grammar, and so do prose and a name without a rule if they can be reached from the judged
 /// rule. The other notes never do.
 ///
 /// No text reads as a table without rules. Of such a table the first core rule is judged; if there is none either, the
-/// grammar is refused without a note.
+/// grammar is rejected without a note.
 ///
 /// # Errors
 /// `Memory` if an allocation fails; the grammar is dropped then.
@@ -67,7 +67,7 @@ pub fn check_abnf(
     })
 }
 
-// The notes on a grammar, whether it is refused, and the id of the judged rule if there is such a rule.
+// The notes on a grammar, whether it is rejected, and the id of the judged rule if there is such a rule.
 #[derive(Drop)]
 struct Found {
     notes: Vec<Note>,

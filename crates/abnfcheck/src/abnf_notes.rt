@@ -63,7 +63,8 @@ pub(crate) fn note_marks(
     })
 }
 
-/// Returns the notes on the marked rules, and on the names behind those of the rules.
+/// Returns the notes on the marked rules, and on the marked names. The marks of the names come after those of the
+/// rules.
 ///
 /// `Memory` if an allocation fails.
 pub(crate) fn notes_on(
@@ -104,7 +105,7 @@ pub(crate) fn notes_on(
     Ok(notes)
 }
 
-/// Returns whether a grammar is refused: a rule of the file is defined again, or from the judged rule a name without a
+/// Returns whether a grammar is rejected: a rule of the file is defined again, or from the judged rule a name without a
 /// rule, or prose, can be reached.
 ///
 /// `Memory` if an allocation fails.

@@ -11,7 +11,7 @@ pub fn derivation_is_decided()
         × Says (RuleDerives has rules id x) yes }
 {}
 
-/// Returns nothing. Its contract is a law: the longest viable beginning of every list of letters has one length.
+/// Returns nothing. Its contract is a law: the longest viable prefix of each line has one length.
 pub fn furthest_is_found()
     ensures found { (has : ℕ → Bool) (rules : List Rule) (id : ℕ) (x : List ℕ) → (n : ℕ) × IsFurthest has rules id x n }
     ensures one { (has : ℕ → Bool) (rules : List Rule) (id : ℕ) (x : List ℕ) (a b : ℕ) →

@@ -205,7 +205,7 @@ fn unmet(alloc: Global, count: usize) -> Result<Vec<OwnedNeed>, Memory>
     Ok(needs)
 }
 
-// Returns the needs of the rules, and behind them those of the elements in their bodies.
+// Returns the needs of the rules, and then those of the elements in their bodies.
 fn rule_needs(alloc: Global, aim: Aim, rules: &RuleTable<Elem>) -> Result<Vec<OwnedNeed>, Memory>
     requires { rules.now.names ≡ NameCase.Fold }
     ensures fits { IfOk result (λ needs. length (rules_of rules.now) ≤ length (owned_demands_of needs.items)) }
@@ -221,8 +221,8 @@ fn rule_needs(alloc: Global, aim: Aim, rules: &RuleTable<Elem>) -> Result<Vec<Ow
     Ok(needs)
 }
 
-/// Returns marks of the rules that derive what is asked for, by id; what stands behind those of the rules is of no
-/// account. The time is linear in the rules and their elements.
+/// Marks the rules that derive what is asked for, by id. Marks after those of the rules mean nothing. The time is
+/// linear in the rules and their elements.
 ///
 /// `Memory` if an allocation fails.
 pub(crate) fn rule_marks(

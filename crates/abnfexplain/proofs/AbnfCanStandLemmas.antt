@@ -1,4 +1,4 @@
--- Which tokens can stand behind tokens that the machine took.
+-- Which tokens can stand after tokens that the machine took.
 -- Serves: explain_abnf_fault, nothing_left_out_of_abnf
 use Rattle.std.proofs.Common.{◌≡◌, ℕ, ◌⊎◌, inl, inr, Bool, true, false, Option, Some, None, List, [], ◌∷◌, ◌++◌}
 use Rattle.std.proofs.Common.{length, refl, sym, ap, ◌∙◌}

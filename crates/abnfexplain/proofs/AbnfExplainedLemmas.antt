@@ -30,7 +30,7 @@ use Rattle.abnfexplain.specs.AbnfExplained.{hopeless, too_deep, too_large}
 use Rattle.abnfexplain.specs.AbnfPlaces.{place_allows}
 use Rattle.abnfexplain.specs.AbnfStands.{defines}
 
--- pieces, one behind the other
+-- pieces, one after the other
 pub three-pieces : (o a b c x y z : List ℕ) → a ≡ o ++ x → b ≡ a ++ y → c ≡ b ++ z → c ≡ o ++ (x ++ (y ++ z))
 three-pieces o a b c x y z f g h =
     let whole : c ≡ ((o ++ x) ++ y) ++ z = rw (h, g, f) refl in
@@ -99,7 +99,7 @@ module _ (place : Place) (ms : List Marked) (i : ℕ) (h : TellsForms place ms i
   by-test form true e s = e
   by-test form false e s = absurd (h.other form e s)
 
-  -- what the place tells can stand there
+  -- what the place says can stand there
   place-tells : {ws : List (List ℕ)} → AreTold (λ k. place_allows place k ≡ true) phrases ws
       → AreTold (CanStand ms i) phrases ws
   place-tells t = told-same h.stand (λ k s. by-test k (place_allows place k) refl s) t
@@ -138,7 +138,7 @@ fault-decided text faults.TooLong m l h = absurd (l refl)
 fault-decided text faults.Memory m l h = absurd (m refl)
 fault-decided text (faults.CodePredicate line) m l h = absurd h
 
--- behind nothing
+-- after nothing
 pub six-pieces : (o a b c d e x y z u v : List ℕ) → o ≡ [] → a ≡ o ++ x → b ≡ a ++ y → c ≡ b ++ z → d ≡ c ++ u
     → e ≡ d ++ v → e ≡ x ++ (y ++ (z ++ (u ++ v)))
 six-pieces o a b c d e x y z u v n f g h k l =

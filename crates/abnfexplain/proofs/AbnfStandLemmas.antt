@@ -1,4 +1,4 @@
--- The machine's steps, as far as kinds and marks tell.
+-- The machine's steps, as far as kinds and marks say.
 -- Serves: explain_fault
 use Rattle.std.proofs.Common.{◌≡◌, suc, Bool, true, false, Option, Some, None, List, [], ◌∷◌, length, refl, ap}
 use Rattle.abnfread.specs.declared.kind.AbnfKind.{AbnfKind}

@@ -1,4 +1,4 @@
--- The line of a chain, of names that are told by ids.
+-- The line of a chain, of names that are reported by ids.
 -- Serves: push_chain
 use Rattle.std.proofs.Common.{◌≡◌, ◌∙◌, ◌≤◌, ◌-◌, ℕ, List, [], ◌∷◌, ◌++◌, length, map, take, drop, get_or, arith}
 use Rattle.std.proofs.Common.{refl, append_assoc, codes}

@@ -31,7 +31,7 @@ lt-test a b h = grind (arith, nat_tests)
 ge-test : (a b : ℕ) → b ≤ a → nat_lt a b ≡ false
 ge-test a b h = grind (arith, nat_tests)
 
--- what stands behind a run of digits: nothing, or no digit
+-- what stands after a run of digits: nothing, or no digit
 abbrev EndsRun : ℕ → List ℕ → Type 0
 EndsRun base [] = Unit {0}
 EndsRun base (c ∷ r) = is_digit base c ≡ false
@@ -48,7 +48,7 @@ digit-over : (base n b : ℕ) (t : List ℕ) → is_digit base b ≡ true → ru
     ≡ (nat_lt MAX_VALUE (n * base + digit_value b) || runs_over base (n * base + digit_value b) t)
 digit-over base n b t e = rw e refl
 
--- a run of digits, and what stands behind it
+-- a run of digits, and what stands after it
 run-over : (base n : ℕ) {ds : List ℕ} (rest : List ℕ) → 2 ≤ base → n ≤ MAX_VALUE → Run (is_digit base) ds []
     → EndsRun base rest → runs_over base n (ds ++ rest) ≡ (nat_lt MAX_VALUE (digits_value_after base n ds)
     || over_rest base rest)
@@ -74,7 +74,7 @@ part-over : (base c : ℕ) (ds es : List ℕ) → 2 ≤ base → Run (is_digit b
     → runs_over base 0 (ds ++ c ∷ es) ≡ (nat_lt MAX_VALUE (digits_value base ds) || runs_over base 0 es)
 part-over base c ds es w h e = run-over base 0 (c ∷ es) w (omega arith) h e
 
--- the test tells whether it is within
+-- the test says whether it is within
 abbrev pub Tests : Bool → Type 0 → Type 0
 Tests b Within = MatchBool b (Within → ⊥) Within
 

@@ -23,9 +23,9 @@ use Rattle.abnfread.specs.AbnfWords.{Said, Word, word}
 use Rattle.abnfread.specs.MarkedTokens.{Marked, marked, marked_of, AreMarked}
 use Rattle.abnfread.proofs.AbnfFaultLemmas.{marked-one}
 use Rattle.abnfread.proofs.AbnfViabilityLemmas.{runs-begins, stops-begins}
-use Rattle.abnfread.proofs.HasTakenLemmas.{HasTaken, one-taken, there-said, within-take}
+use Rattle.abnfread.proofs.HasTakenLemmas.{HasTaken, one-taken, within-take}
 use Rattle.abnfread.proofs.OpenBracketLemmas.{step-opens, deeper-next, levels-within, opens-bracket}
-use Rattle.abnfread.proofs.SaysKindLemmas.{one-word, said-there}
+use Rattle.abnfread.proofs.SaysKindLemmas.{one-word, said-there, marked-said}
 use Rattle.abnfexplain.specs.declared.abnf_decide.Refused.{Refused}
 use Rattle.abnfexplain.specs.declared.abnf_stand.Form.{Form}
 use Rattle.abnfexplain.specs.declared.abnf_stand.Place.{Place}
@@ -97,7 +97,7 @@ large-no_bracket g f _ h = refl
 module _ {text : List ℕ} {left : List Marked → Type 0} {place : Place} {origin before : Option MarkedToken}
     {ms : List Marked} (t : IsTaken text left place origin before ms) (k : AbnfKind) (z : List ℕ) (p : Span)
     (g f : Bool)
-    (others : List Marked) (given : (t.taken).rest ≡ marked (tok k z p) g f ∷ others) where
+    (others : List Marked) (whole : AreMarked text (ms ++ marked (tok k z p) g f ∷ others)) where
   abbrev h : HasTaken text left t.config ms
   h = t.taken
 
@@ -107,16 +107,13 @@ module _ {text : List ℕ} {left : List Marked → Type 0} {place : Place} {orig
   abbrev form : Form
   form = record { kind = k; gap = g; first = f }
 
-  whole-marked : AreMarked text (ms ++ here ∷ others)
-  whole-marked = (let a = h.all in rw given at a)
-
   within-here : AreWithin ms
   within-here = record { words = h.words; say = h.say; shallow = h.shallow; small = h.small }
 
   there-is : (D : List Marked → ℕ → Type 0) → D (ms ++ here ∷ others) (length ms) → IsTokenOf text here D
   there-is D d = record {
     all = ms ++ here ∷ others;
-    are_tokens = whole-marked;
+    are_tokens = whole;
     number = length ms;
     there = get-seam ms here others;
     holds = d;
@@ -155,7 +152,7 @@ module _ {text : List ℕ} {left : List Marked → Type 0} {place : Place} {orig
 
     -- what it says
     said-here : (s : Said) × SaysKind k z p s
-    said-here = said-there k z p (there-said h k z p g f others given) no-bad
+    said-here = said-there k z p (marked-said text ms k z p g f others whole) no-bad
 
     abbrev said : Said
     said = said-here.0
@@ -211,13 +208,15 @@ module _ {text : List ℕ} {left : List Marked → Type 0} {place : Place} {orig
       )
 
       -- one token more
-      pub one-more : (onwards : List Marked → Type 0) (first last : Option MarkedToken) → onwards others
-          → ((s : Said) → SaysKind k z p s → IsSmall s) → length next.brackets.items ≤ MAX_OPEN
+      pub one-more : (onwards : List Marked → Type 0) (first last : Option MarkedToken)
+          → ((us : List Marked) → left us → (vs : List Marked) × (us ≡ here ∷ vs) × onwards vs)
+          → ((vs : List Marked) → onwards vs → left (here ∷ vs)) → ((s : Said) → SaysKind k z p s → IsSmall s)
+          → length next.brackets.items ≤ MAX_OPEN
           → option_map marked_of first ≡ first_marked (ms ++ here ∷ []) → option_map marked_of last ≡ Some here →
           IsTaken text onwards next first last (ms ++ here ∷ [])
-      one-more onwards first last are small le o b = record {
+      one-more onwards first last on back small le o b = record {
         config = step-onward.config;
-        taken = one-taken h k z p g f others given onwards step-onward.config g f said are (says said-here.1)
+        taken = one-taken h here onwards on back step-onward.config g f said (says said-here.1)
             (small said said-here.1) step-onward.steps (let e = next-levels in omega arith);
         stands = next-stands;
         origin_is = o;
@@ -226,10 +225,10 @@ module _ {text : List ℕ} {left : List Marked → Type 0} {place : Place} {orig
 
 -- no token is left
 pub none-decide : {text : List ℕ} {left : List Marked → Type 0} {place : Place} {origin before : Option MarkedToken}
-    {ms : List Marked} (t : IsTaken text left place origin before ms) → (t.taken).rest ≡ [] → NoneDecides text
+    {ms : List Marked} → IsTaken text left place origin before ms → left [] → NoneDecides text
 none-decide {text} {ms = ms} t none = λ all are i decides.
     let h = t.taken in
-    let every : AreMarked text ms = (let a = h.all in simp (none, append-nil) at a) in
+    let every : AreMarked text ms = (let a = h.before [] none in simp append-nil at a) in
     let same : all ≡ ms = marked-one text all ms are every in
     let here : IsHopeless ms i ⊎ IsOver ms i = rw same at decides in
     let within : AreWithin ms = record { words = h.words; say = h.say; shallow = h.shallow; small = h.small } in

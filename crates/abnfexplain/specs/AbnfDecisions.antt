@@ -29,7 +29,7 @@ pub record IsTokenOf (text : List ℕ) (m : Marked) (Holds : List Marked → ℕ
   pub there : slice_get all number ≡ Some m
   pub holds : Holds all number
 
--- the place tells which tokens can stand where token i does
+-- the place says which tokens can stand where token i does
 pub record TellsForms (place : Place) (ms : List Marked) (i : ℕ) : Type 0 where
   pub stand : (form : Form) → place_allows place form ≡ true → CanStand ms i form
   pub other : (form : Form) → place_allows place form ≡ false → CanStand ms i form → ⊥

@@ -1,4 +1,4 @@
--- What can stand at a place of a grammar's text, and the phrases that tell it.
+-- What can stand at a place of a grammar's text, and the phrases for it.
 use Rattle.std.specs.Prelude.{◌≡◌, ℕ, Bool, true, false, List, [], ◌∷◌, ◌++◌, map, take, codes}
 use Rattle.diagnostics.specs.ToldPhrases.{Phrase}
 use Rattle.lexer.specs.TokenLists.{Tok, kind_of}
@@ -30,7 +30,7 @@ one z k = record { words = z; kinds = either_gap k; bars = [] }
 abbrev pub inner_kinds : List AbnfKind
 inner_kinds = Name ∷ Text ∷ Num ∷ Prose ∷ LParen ∷ LBrack ∷ []
 
--- The phrases, in the order in which they are told.
+-- The phrases, in the order in which they are reported.
 abbrev pub phrases : List (Phrase Form)
 phrases =
     record {

@@ -1,4 +1,4 @@
--- What explains a fault of a grammar's text: the lines behind its message.
+-- What explains a fault of a grammar's text: the lines after its message.
 use Rattle.std.specs.Prelude.{◌≡◌, ℕ, ◌<◌, ◌≤◌, ◌&&◌, Bool, true, false, length, slice_get, take, List, [], ◌∷◌, ◌++◌}
 use Rattle.std.specs.Prelude.{Option, Some, None, codes, decimal, if◌then◌else◌}
 use Rattle.lexer.specs.TokenLists.{tok, kind_of, start_of}
@@ -19,12 +19,12 @@ use Rattle.abnfexplain.specs.AbnfDecisions.{first_marked, last_marked}
 use Rattle.abnfexplain.specs.AbnfExpected.{CanStand, phrases}
 use Rattle.abnfexplain.specs.AbnfStands.{defines}
 
--- what stands before what is told of a token: its place, but for the end
+-- what stands before what is reported of a token: its position, but for the end
 abbrev pub token_place : List ℕ → Marked → List ℕ
 token_place text (marked (tok End z p) g f) = codes "  at the end of the text: "
 token_place text (marked (tok _ z p) g f) = place_told Lf text p.start
 
--- what the first bytes of what begins no token tell
+-- what the first bytes of what begins no token show
 abbrev pub bad_rows : List Row
 bad_rows =
     record { begins = 0xEF ∷ 0xBB ∷ 0xBF ∷ []; told = codes "a byte order mark is no part of a grammar" }
@@ -49,7 +49,7 @@ bad_rows =
     ∷ record { begins = codes "+"; told = codes "repetitions are written 1*e" }
     ∷ record { begins = codes "?"; told = codes "options are written [e]" } ∷ []
 
--- what the token itself tells
+-- what the token itself shows
 abbrev pub bad_fact : Marked → List ℕ
 bad_fact (marked (tok Bad z p) g f) = first_told bad_rows z
 bad_fact (marked (tok _ z p) g f) = []
@@ -72,7 +72,7 @@ abbrev pub is_later_name : Marked → Bool
 is_later_name (marked (tok Name z p) g false) = true
 is_later_name _ = false
 
--- of `=` and `=/` behind such a name: how far rules may be indented, which the text's first token tells
+-- of `=` and `=/` after such a name: how far rules may be indented, by the text's first token
 abbrev pub name_fact : List ℕ → Option Marked → Option Marked → Marked → List ℕ
 name_fact text (Some o) (Some b) m = if is_later_name b && defines (kind_of (tok_of m))
     then codes "  the name before it does not begin a rule: rules are indented by at most " ++ (decimal (indent text o)
@@ -81,7 +81,7 @@ name_fact text (Some o) (Some b) m = if is_later_name b && defines (kind_of (tok
 name_fact text (Some o) None m = []
 name_fact text None b m = []
 
--- what is told of a token behind those that can stand there, by the text's first token and the one before it
+-- what is reported of a token after those that can stand there, by the text's first token and the one before it
 abbrev pub token_facts : List ℕ → Option Marked → Option Marked → Marked → List ℕ
 token_facts text o b m = bad_fact m ++ (line_fact text o m ++ name_fact text o b m)
 
@@ -102,7 +102,7 @@ pub data Why (text : List ℕ) : List ℕ → Type 0 where
       → slice_get all i ≡ Some m → IsOver all i → is_bracket m ≡ false →
       Why text (token_place text m ++ codes "above 4294967295\n")
 
--- the lines behind the message of a fault: none behind that of want of memory
+-- the lines after the message of a fault: none after that of a failed allocation
 abbrev pub Explains : List ℕ → ReadFault → List ℕ → Type 0
 Explains text Memory why = why ≡ []
 Explains text _ why = Why text why

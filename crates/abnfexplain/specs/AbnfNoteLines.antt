@@ -25,6 +25,6 @@ sign_of _ = signs.Other
 abbrev pub AreAbnfPlaces : List ℕ → Places → Type 0
 AreAbnfPlaces text = ArePlaces White First ends_list sign_of Lf Fold text
 
--- the lines behind a note, where that name is given for the judged rule
+-- the lines after a note, where that name is given for the judged rule
 abbrev pub ExplainsNote : List ℕ → Option (List ℕ) → Said → List ℕ → Type 0
 ExplainsNote text = IsNoteExplained White First ends_list sign_of Lf Fold text

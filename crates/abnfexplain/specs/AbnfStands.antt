@@ -1,4 +1,4 @@
--- What can stand behind tokens, as far as their kinds and marks tell: the reader's machine without what it makes.
+-- What can stand after tokens, as far as their kinds and marks say: the reader's machine without what it makes.
 use Rattle.std.specs.Prelude.{Bool, true, false, ◌&&◌, not, Option, Some, None, List, [], ◌∷◌}
 use Rattle.abnfread.specs.declared.kind.AbnfKind.{AbnfKind}
 use Rattle.abnfread.specs.declared.kind.AbnfKind.TheVariants.{Name, Is, Adds, Slash, LParen, RParen, LBrack, RBrack}
@@ -40,7 +40,7 @@ abbrev pub is_outside : Option Bracket → Bool
 is_outside None = true
 is_outside (Some b) = false
 
--- behind a repetition, where `top` is the innermost bracket that is open
+-- after a repetition, where `top` is the innermost bracket that is open
 abbrev pub allows_read : Option Bracket → AbnfKind → Bool → Bool
 allows_read top Slash gap = true
 allows_read top RParen gap = is_paren top
@@ -90,7 +90,7 @@ abbrev pub behind_marked : AbnfKind → Bool → Stand
 behind_marked k true = Named
 behind_marked k false = behind_later k
 
--- where the next token stands, behind one that can stand
+-- where the next token stands, after one that can stand
 abbrev pub behind : Form → Stand
 behind form = behind_marked form.kind form.first
 
@@ -98,7 +98,7 @@ abbrev pub without_first : List Bracket → List Bracket
 without_first [] = []
 without_first (b ∷ bs) = bs
 
--- the brackets that are open behind it, the innermost first
+-- the brackets that are open after it, the innermost first
 abbrev pub brackets_behind : AbnfKind → List Bracket → List Bracket
 brackets_behind LParen bs = Paren ∷ bs
 brackets_behind LBrack bs = Brack ∷ bs

@@ -1,9 +1,9 @@
--- The line that tells by which rules a name is reached.
+-- The line that reports by which rules a name is reached.
 use Rattle.std.specs.Prelude.{ℕ, zero, suc, ◌-◌, List, [], ◌∷◌, ◌++◌, Option, Some, None, length, drop, codes, decimal}
 use Rattle.std.specs.List.{flat_map}
 use Rattle.diagnostics.specs.ShownBytes.{cut}
 
--- a name as it is told
+-- a name as it is reported
 abbrev pub in_quotes : List ℕ → List ℕ
 in_quotes name = codes "'" ++ (cut name ++ codes "'")
 
@@ -12,7 +12,7 @@ abbrev pub left_out : ℕ → List ℕ
 left_out zero = []
 left_out (suc n) = codes " > " ++ (decimal (suc n) ++ codes " more")
 
--- names behind the first one
+-- names after the first one
 abbrev pub names_behind : List (List ℕ) → List ℕ
 names_behind names = flat_map (λ name. codes " > " ++ in_quotes name) names
 

@@ -12,11 +12,11 @@ runs_over base n (b ∷ bs) = if is_digit base b
     then (nat_lt max_number (n * base + digit_value b) || runs_over base (n * base + digit_value b) bs)
     else runs_over base 0 bs
 
--- the base that the letter tells
+-- the base that the letter gives
 abbrev pub base_told : ℕ → ℕ
 base_told c = if (c == code "b") || (c == code "B") then 2 else if (c == code "d") || (c == code "D") then 10 else 16
 
--- behind `%` and that letter
+-- after `%` and that letter
 abbrev pub over_behind : List ℕ → Bool
 over_behind [] = false
 over_behind (p ∷ []) = false

@@ -95,7 +95,7 @@ fn push_token_place(out: &mut Vec<u8>, text: &[u8], token: MarkedToken<'_>) -> R
     }
 }
 
-// Adds what the first bytes of a bad token tell.
+// Adds what the first bytes of a bad token show.
 fn push_bad_fact(out: &mut Vec<u8>, token: MarkedToken<'_>) -> Result<(), Memory>
     ensures { OnOk result (out.new.items ≡ out.old.items ++ bad_fact (marked_of token.entry)) }
 {
@@ -197,7 +197,7 @@ fn push_expected(alloc: Global, out: &mut Vec<u8>, place: &Place) -> Result<(), 
     Ok(())
 }
 
-// Adds what is told behind what can stand there.
+// Adds what is reported after what can stand there.
 fn push_token_facts(
     out: &mut Vec<u8>,
     text: &[u8],
@@ -282,7 +282,7 @@ fn explain_token(alloc: Global, text: &[u8]) -> Result<Vec<u8>, Memory>
 }
 
 /// Returns the lines that explain the fault of a grammar's text: a picture of the token that decides, its column, what
-/// can stand in its place, and what is known of it and of the tokens before. There are none for want of memory.
+/// can stand in its place, and what is known of it and of the tokens before. There are none if an allocation fails.
 ///
 /// # Errors
 /// `Memory` if an allocation fails.

@@ -1,4 +1,4 @@
-//! The phrases that tell what can stand at a place in ABNF.
+//! The phrases for what can stand at a position in ABNF.
 ghost use Rattle.std.specs.Prelude.{◌≡◌, true, map, IfOk};
 ghost use Rattle.std.specs.List.{list_all, list_any};
 ghost use Rattle.diagnostics.specs.ToldPhrases.{AreTold, tells};
@@ -329,7 +329,7 @@ fn all_phrases() -> &'static [Phrase]
     &PHRASES
 }
 
-// The words of the phrases of a table that are told.
+// The words of the phrases of a table that are reported.
 fn told_of(alloc: Global, place: &Place, table: &[Phrase]) -> Result<Vec<&'static [u8]>, Memory>
     ensures { IfOk result (λ v. AreTold (λ k. place_allows place.now k ≡ true) (map phrase_of table.now)
         (map (λ w. w.now) v.items)) }
@@ -343,7 +343,7 @@ fn told_of(alloc: Global, place: &Place, table: &[Phrase]) -> Result<Vec<&'stati
     Ok(told)
 }
 
-/// Returns the words of the phrases that tell what can stand there, in their order.
+/// Returns the words of the phrases for what can stand there, in their order.
 ///
 /// # Errors
 /// `Memory` if an allocation fails.

@@ -1,4 +1,4 @@
-//! Where a token of ABNF stands in a grammar, as far as the kinds of the tokens before it tell.
+//! Where a token of ABNF stands in a grammar, as far as the kinds of the tokens before it say.
 ghost use Rattle.std.specs.Prelude.{◌≡◌, [], OnOk};
 ghost use Rattle.abnfexplain.specs.AbnfStands.{is_item, is_inner, allows, allows_read, behind, brackets_behind};
 
@@ -97,7 +97,7 @@ pub(crate) fn allows_form(stand: Stand, top: Option<Bracket>, form: Form) -> boo
     }
 }
 
-/// Returns where the next token stands, behind one that can stand.
+/// Returns where the next token stands, after one that can stand.
 pub(crate) fn stand_behind(form: Form) -> Stand
     ensures { result ≡ behind form }
 {
@@ -140,7 +140,7 @@ impl Place {
         allows_form(self.stand, self.brackets.last().copied(), form)
     }
 
-    /// Goes on behind such a token, which can stand here.
+    /// Goes on after such a token, which can stand here.
     ///
     /// # Errors
     /// `Memory` if an allocation fails.

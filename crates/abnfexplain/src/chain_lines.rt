@@ -1,4 +1,4 @@
-//! The line that tells by which rules a name is reached.
+//! The line that reports by which rules a name is reached.
 ghost use Rattle.std.specs.Prelude.{◌≡◌, ◌++◌, [], map, slice_index_or, OnOk};
 ghost use Rattle.ruletable.specs.Rules.{names_of};
 ghost use Rattle.abnfexplain.specs.ChainLines.{chain_line, last_told, left_out, names_behind, in_quotes};
@@ -6,7 +6,7 @@ ghost use Rattle.abnfexplain.specs.ChainLines.{chain_line, last_told, left_out, 
 use diagnostics::{push_cut, push_number};
 use ruletable::{Memory, RuleTable};
 
-/// How many names behind the first one are told: the last ones.
+/// How many names after the first one are reported: the last ones.
 pub const MAX_LAST: usize = 7;
 
 // The name with that id, or none if there is no such name.
@@ -41,7 +41,7 @@ fn push_left_out(out: &mut Vec<u8>, count: usize) -> Result<(), Memory>
     Ok(())
 }
 
-// Adds the names with these ids, each behind `>`.
+// Adds the names with these ids, each after `>`.
 fn push_behind(out: &mut Vec<u8>, names: &RuleTable<()>, ids: &[usize]) -> Result<(), Memory>
     ensures { OnOk result (out.new.items ≡ out.old.items
         ++ names_behind (map (λ id. slice_index_or (names_of names.now) id []) ids.now)) }
@@ -64,8 +64,8 @@ fn push_last(out: &mut Vec<u8>, names: &RuleTable<()>, ids: &[usize]) -> Result<
     Ok(())
 }
 
-/// Adds the line that tells by which rules a name is reached: the names with these ids, in order, if there are at least
-/// two. Of more than 8 the first is told, how many are left out, and the last 7.
+/// Adds the line that reports by which rules a name is reached: the names with these ids, in order, if there are at
+/// least two. Of more than 8 the first is reported, how many are left out, and the last 7.
 ///
 /// # Errors
 /// `Memory` if an allocation fails.

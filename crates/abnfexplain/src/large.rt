@@ -22,7 +22,7 @@ fn digit(b: u8) -> u8
     }
 }
 
-// The base that the letter tells.
+// The base that the letter gives.
 fn base_of(letter: u8) -> u8
     ensures { result ≡ base_told letter }
 {
@@ -53,7 +53,7 @@ fn has_large_run(base: u8, text: &[u8]) -> bool
     false
 }
 
-// Whether a number behind `%` is over the limit.
+// Whether a number after `%` is over the limit.
 fn has_large_value(slice: &[u8]) -> bool
     ensures { result ≡ over_behind slice.now }
 {

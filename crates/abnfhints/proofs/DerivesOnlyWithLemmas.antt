@@ -40,7 +40,7 @@ module _ (has : ℕ → Bool) (letter : ℕ) (rules : List Rule) (id : ℕ) wher
         (stands_or_not letter w);
   }
 
-  -- what the mark of the rule among those without the letter tells
+  -- what the mark of the rule among those without the letter says
   pub only_told : (kept : Bool) → IsSound rules id → (w : List ℕ) × AreLetters has w × RuleDerives has rules id w
       → ((kept ≡ true) ↔ Sparing has letter rules id) → IsTrue (not kept) ↔ DerivesOnlyWith has rules letter id
   only_told true sound p tells = (

@@ -1,4 +1,4 @@
--- The first hints as they are told, of those that the code shows, and how many more there are.
+-- The first hints as they are reported, of those that the code shows, and how many more there are.
 -- Serves: abnf_hints
 use Rattle.std.proofs.Common.{◌≡◌, ℕ, ◌+◌, ◌-◌, ◌<◌, min, get_or, add-one, List, [], ◌∷◌, ◌++◌, length, take, map}
 use Rattle.std.proofs.Common.{refl, sym, ap, ◌∙◌, append_assoc, arith}
@@ -27,7 +27,7 @@ first_join view told xs k o a b is f g =
     ∙ ap (λ l. o ++ (flat_map told l ++ more_told (length xs - k))) shown
     ∙ ap (λ (n : ℕ). o ++ (flat_map told (take MAX_HINTS (map view xs)) ++ more_told n)) left
 
--- pieces, one behind the other
+-- pieces, one after the other
 pub four_pieces : (o a b c d u v w x : List ℕ) → a ≡ o ++ u → b ≡ a ++ v → c ≡ b ++ w → d ≡ c ++ x
     → d ≡ o ++ (u ++ (v ++ (w ++ x)))
 four_pieces o a b c d u v w x f g h k =

@@ -291,7 +291,7 @@ module _ (has : ℕ → Bool) (letter : ℕ) (low_letter : letter < 65) (rules l
         let a = whole_derives d k in let b = times_whole rest k in
         (one_more a.0 b.0, avoids_both letter w v a.1 b.1)
 
--- the marks of what is left tell which rules derive some list without the letter
+-- the marks of what is left say which rules derive some list without the letter
 pub record Sparing (has : ℕ → Bool) (letter : ℕ) (rules : List Rule) (id : ℕ) : Type 0 where
   pub word : List ℕ
   pub letters : AreLetters has word

@@ -28,7 +28,7 @@ use Rattle.ruletable.specs.declared.lines.LineRule.TheVariants.{Lf}
 use Rattle.ruletable.specs.declared.note.NoteKind.TheVariants.{Unused}
 use Rattle.ruletable.specs.declared.table.NameCase.TheVariants.{Fold}
 
--- `has` tells the letters of the alphabet
+-- `has` tests for the letters of the alphabet
 module _ (has : ℕ → Bool) (rules : List Rule) where
   -- The rule of that id derives no list of letters. What it reaches is all there: each name has a rule, and there is no
   -- prose.
@@ -44,7 +44,7 @@ module _ (has : ℕ → Bool) (rules : List Rule) where
     pub derives : RuleDerives has rules id word
     pub holds : (w : List ℕ) → AreLetters has w → RuleDerives has rules id w → Contains w letter
 
--- the token of a range tells a number and a smaller one behind it (RFC 5234, section 3.4), within the limit
+-- the token of a range gives a number and a smaller one after it (RFC 5234, section 3.4), within the limit
 pub record IsReversed (slice : List ℕ) : Type 0 where
   pub low : ℕ
   pub high : ℕ
@@ -60,7 +60,7 @@ pub data AreReversed : List MentionedAt → List MentionedAt → Type 0 where
   other_mention : {m : MentionedAt} {ms rs : List MentionedAt} → (m.kind ≡ Number → IsReversed m.text → ⊥)
       → AreReversed ms rs → AreReversed (m ∷ ms) rs
 
--- the first 16 as they are told, and how many more there are
+-- the first 16 as they are reported, and how many more there are
 abbrev pub told_first : {A : Type 0} → (A → List ℕ) → List A → List ℕ
 told_first told xs = flat_map told (take 16 xs) ++ more_told (length xs - 16)
 
@@ -81,7 +81,7 @@ module _ (definitions : List DefinedAt) (mentions : List MentionedAt) where
       ++ (cut (name_of_head (find (λ d. d.start == m.within) definitions)) ++ (codes "'\n  line "
       ++ (decimal m.line ++ (codes ": " ++ (cut m.text ++ codes " derives nothing\n")))))
 
--- the byte that ends a line, as it is told
+-- the byte that ends a line, as it is reported
 abbrev pub end_told : LineEnd → List ℕ
 end_told AtLf = codes "%x0A"
 end_told AtNul = codes "%x00"
@@ -91,7 +91,7 @@ abbrev pub lineless_told : LineEnd → List ℕ → List ℕ
 lineless_told end name = codes "rule '" ++ (cut name ++ (codes "' derives no line\n  all that it derives holds "
     ++ (end_told end ++ codes "\n")))
 
--- what is told of the judged rule: that it derives no line, if it derives something
+-- what is reported of the judged rule: that it derives no line, if it derives something
 pub data IsToldOfJudged (has : ℕ → Bool) (rules : List Rule) (end : LineEnd) : Option ℕ → List ℕ → Type 0 where
   no_rule : IsToldOfJudged has rules end None []
   no_line : {id : ℕ} → DerivesOnlyWith has rules (end_byte end) id

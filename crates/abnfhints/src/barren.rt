@@ -52,7 +52,7 @@ pub(crate) fn barren_names<'a>(
     Ok(names)
 }
 
-// Returns the line that tells where a rule is first defined.
+// Returns the line that reports where a rule is first defined.
 fn first_definition(alloc: Global, places: &Places, name: &[u8]) -> Result<Vec<u8>, Memory>
     requires { places.now.names ≡ NameCase.Fold }
     ensures { IfOk result (λ why. why.items ≡ lines_behind NameCase.Fold (map defined_at places.now.heads.items)
@@ -66,7 +66,7 @@ fn first_definition(alloc: Global, places: &Places, name: &[u8]) -> Result<Vec<u
     Ok(why)
 }
 
-// Adds what is told of a rule that derives nothing.
+// Adds what is reported of a rule that derives nothing.
 fn push_barren(alloc: Global, out: &mut Vec<u8>, places: &Places, name: &[u8]) -> Result<(), Memory>
     requires { places.now.names ≡ NameCase.Fold }
     ensures { OnOk result (out.new.items ≡ out.old.items ++ barren_told (map defined_at places.now.heads.items)
@@ -80,7 +80,7 @@ fn push_barren(alloc: Global, out: &mut Vec<u8>, places: &Places, name: &[u8]) -
     Ok(())
 }
 
-// Adds what is told of each of these.
+// Adds what is reported of each of these.
 fn push_each_barren(
     alloc: Global,
     out: &mut Vec<u8>,
@@ -97,7 +97,7 @@ fn push_each_barren(
     Ok(())
 }
 
-/// Adds what is told of rules that derive nothing: of the first ones, and how many more there are.
+/// Adds what is reported of rules that derive nothing: of the first ones, and how many more there are.
 ///
 /// `Memory` if an allocation fails.
 pub(crate) fn push_all_barren(

@@ -1,4 +1,4 @@
-//! What hints are told of.
+//! What hints are on.
 
 use crate::line_end::LineEnd;
 use abnfread::Elem;
@@ -6,7 +6,7 @@ use diagnostics::Places;
 use letters::Alphabet;
 use ruletable::RuleTable;
 
-/// A grammar of which hints are told.
+/// A grammar, and what its hints depend on.
 #[derive(Clone, Copy)]
 pub struct Hinted<'a> {
     /// Where its text defines its rules, and what their bodies mention.

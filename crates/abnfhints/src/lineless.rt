@@ -18,7 +18,7 @@ use diagnostics::push_cut;
 use ruletable::{Memory, NameCase};
 use std::alloc::Global;
 
-// Returns a byte that ends a line, as it is told.
+// Returns a byte that ends a line, as it is reported.
 fn told_end(end: LineEnd) -> &'static [u8]
     ensures { result.now ≡ end_told end }
 {
@@ -57,7 +57,7 @@ fn push_lineless(out: &mut Vec<u8>, end: LineEnd, name: &[u8]) -> Result<(), Mem
     Ok(())
 }
 
-/// Adds what is told of the judged rule, if there is one.
+/// Adds what is reported of the judged rule, if there is one.
 ///
 /// `Memory` if an allocation fails.
 pub(crate) fn push_judged(

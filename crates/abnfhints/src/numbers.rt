@@ -25,7 +25,7 @@ fn digit(b: u8) -> u8
     }
 }
 
-// Returns the base that a letter tells.
+// Returns the base that a letter gives.
 fn base_of(letter: u8) -> Option<u8>
     ensures { MatchOption result ((base : ℕ) → Tells letter base → ⊥)
         (λ base. Tells letter base × (2 ≤ base) × (base ≤ 36)) }
@@ -38,7 +38,7 @@ fn base_of(letter: u8) -> Option<u8>
     }
 }
 
-// Returns the base of a number, and what stands behind the letter that tells it.
+// Returns the base of a number, and what stands after the letter that gives it.
 fn after_base(text: &[u8]) -> Option<(u8, &[u8])>
     ensures { MatchOption result ((base c : ℕ) (t : List ℕ) → text.now ≡ 37 ∷ c ∷ t → Tells c base → ⊥)
         (λ r. (c : ℕ) × (text.now ≡ 37 ∷ c ∷ r.1.now) × Tells c r.0 × (2 ≤ r.0) × (r.0 ≤ 36)) }
@@ -49,7 +49,7 @@ fn after_base(text: &[u8]) -> Option<(u8, &[u8])>
     Some((base, digits))
 }
 
-// Returns what stands behind the digits with which a text begins.
+// Returns what stands after the digits with which a text begins.
 fn after_digits(base: u8, text: &[u8]) -> &[u8]
     ensures run { Run (is_digit_in base) text.now result.now }
     ensures all { Stops (is_digit_in base) result.now }
@@ -71,7 +71,7 @@ fn are_digits(base: u8, text: &[u8]) -> bool
     !text.is_empty() && after_digits(base, text).is_empty()
 }
 
-// Returns the digits before `-` and those behind it.
+// Returns the digits before `-` and those after it.
 fn ends_of(base: u8, digits: &[u8]) -> Option<(&[u8], &[u8])>
     requires { base ≤ 36 }
     ensures { MatchOption result ((ds es : List ℕ) → digits.now ≡ ds ++ 45 ∷ es → Digits base ds []
@@ -122,7 +122,7 @@ fn is_above(base: u8, low: &[u8], high: &[u8]) -> bool
     }
 }
 
-/// Returns whether the token of a number tells a reversed range.
+/// Returns whether the token of a number gives a reversed range.
 pub(crate) fn is_reversed(text: &[u8]) -> bool
     ensures { IsTrue result ↔ IsReversed text.now }
 {

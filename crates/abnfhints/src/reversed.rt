@@ -59,7 +59,7 @@ fn name_at(heads: &[Head], place: usize) -> &[u8]
     }
 }
 
-// Adds what is told of a reversed range.
+// Adds what is reported of a reversed range.
 fn push_reversed(out: &mut Vec<u8>, places: &Places, mention: &Mention) -> Result<(), Memory>
     ensures { OnOk result (out.new.items ≡ out.old.items ++ reversed_told (map defined_at places.now.heads.items)
         (map mentioned_at places.now.mentions.items) (mentioned_at mention.now)) }
@@ -74,7 +74,7 @@ fn push_reversed(out: &mut Vec<u8>, places: &Places, mention: &Mention) -> Resul
     Ok(())
 }
 
-// Adds what is told of each of these.
+// Adds what is reported of each of these.
 fn push_each_reversed(
     out: &mut Vec<u8>,
     places: &Places,
@@ -90,7 +90,7 @@ fn push_each_reversed(
     Ok(())
 }
 
-/// Adds what is told of reversed ranges: of the first ones, and how many more there are.
+/// Adds what is reported of reversed ranges: of the first ones, and how many more there are.
 ///
 /// `Memory` if an allocation fails.
 pub(crate) fn push_all_reversed(

@@ -37,7 +37,7 @@ fn values_without(alloc: Global, letter: u8, values: &[u32]) -> Result<Elem, Mem
     Ok(Elem::Values(values))
 }
 
-// Returns what is left of a range: the parts before the letter and behind it.
+// Returns what is left of a range: the parts before the letter and after it.
 fn range_without(alloc: Global, letter: u8, low: u32, high: u32) -> Result<Elem, Memory>
     ensures { IfOk result (λ left. IsWithout letter (e.Range low high) (element_of left)) }
 {

@@ -62,13 +62,8 @@ read-back source ds h le =
       words = a.words;
       say = a.say;
       grammar = g.grammar;
-      within = record {
-        words = a.words;
-        say = a.say;
-        shallow = same-shallow MAX_OPEN 0 a.same (rules-shallow false rules fit);
-        small =
-            same-small a.same (rules-small false rules fit);
-      };
+      shallow = same-shallow MAX_OPEN 0 a.same (rules-shallow false rules fit);
+      small = same-small a.same (rules-small false rules fit);
     } in
     let t = table-again ds [] g.again g.are_again in
     record {

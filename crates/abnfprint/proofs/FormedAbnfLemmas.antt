@@ -302,13 +302,11 @@ some-definitions (more_rules a h k) = tt
 pub reads-fit : {source : List ℕ} {ds : List Definition} → Reads source ds → AreFit ds
 reads-fit {source} {ds} h =
     let t = h.are_tokens in
-    let w = h.within in
-    let same : h.words ≡ w.words = lemmas.one-words Says one-word h.say w.say in
-    let say : SayAll (marks source (margin source t.tokens) 0 t.tokens) w.words =
-    subst (λ (ms : List Marked). SayAll ms w.words) t.same w.say in
-    grammar-fit (subst (λ (ws : List Word). Grammar ws ds) same h.grammar)
+    let say : SayAll (marks source (margin source t.tokens) 0 t.tokens) h.words =
+    subst (λ (ms : List Marked). SayAll ms h.words) t.same h.say in
+    grammar-fit h.grammar
     (record {
-      shallow = w.shallow;
-      small = w.small;
+      shallow = h.shallow;
+      small = h.small;
       proper = tokens-proper source (margin source t.tokens) 0 t.are_tokens say;
     })

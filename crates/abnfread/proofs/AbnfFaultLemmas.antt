@@ -133,7 +133,8 @@ none-decides text ds line D f r h =
     let all : h.all ≡ r.tokens = marked-one text h.all r.tokens h.are_tokens r.are_tokens in
     let there : D r.tokens h.number h.token = (let d = h.decides in rw all at d) in
     lemmas.none-deciding Viable AreWithin (lemmas.viable-take Says Grammar) within-take r.tokens h.number
-    (lemmas.viable-whole Says Grammar ds r.say r.grammar) r.within (f r.tokens h.number h.token there)
+    (lemmas.viable-whole Says Grammar ds r.say r.grammar)
+    (record { words = r.words; say = r.say; shallow = r.shallow; small = r.small }) (f r.tokens h.number h.token there)
 
 pub no-fault : (text : List ℕ) (ds : List Definition) (fault : ReadFault) → Reads text ds → IsFaultOf text fault
     → fault ≡ faults.Memory

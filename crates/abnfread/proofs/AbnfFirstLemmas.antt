@@ -105,7 +105,7 @@ prose-run (name h n) = cc
 prose-run (counted h n) = cc
 prose-run (prose h) = h
 
--- a mark that isn't of the class ends its bytes at one place
+-- a mark that isn't of the class ends its bytes at one position
 closed-longest : {f : ℕ → Bool} {c : ℕ} {t r s : List ℕ} → f c ≡ false → Run f t (c ∷ r) → Run f t (c ∷ s)
     → length r ≤ length s
 closed-longest p h k = let l = run-longest h p k in omega arith
@@ -127,7 +127,7 @@ no-prose e f = rw e (λ k r x. f r (prose-run x))
 either-of : (c x y : ℕ) → ((c == x) || (c == y)) ≡ true → (c ≡ x) ⊎ (c ≡ y)
 either-of c x y e = elim (or_cases (c == x) (c == y) e) [ inl h ↦ inl (eqb-true c x h) | inr h ↦ inr (eqb-true c y h) ]
 
--- a letter that tells a base tells no case
+-- a letter that names a base names no case
 pub tells-case : {c base : ℕ} → Tells c base → is_case c ≡ true → ⊥
 tells-case {c} (binary e) f = elim (either-of c 98 66 e)
     [ inl p ↦ (let g = rw p at f in cc) | inr p ↦ (let g = rw p at f in cc) ]
@@ -136,7 +136,7 @@ tells-case {c} (decimals e) f = elim (either-of c 100 68 e)
 tells-case {c} (hexadecimal e) f = elim (either-of c 120 88 e)
     [ inl p ↦ (let g = rw p at f in cc) | inr p ↦ (let g = rw p at f in cc) ]
 
--- a letter tells one base
+-- a letter names one base
 base_told : ℕ → ℕ
 base_told c = cond ((c == 98) || (c == 66)) 2 (cond ((c == 100) || (c == 68)) 10 16)
 
@@ -149,7 +149,7 @@ tells-is {c} (hexadecimal e) = elim (either-of c 120 88 e) [ inl p ↦ rw p refl
 pub tells-one : {c a b : ℕ} → Tells c a → Tells c b → a ≡ b
 tells-one h k = tells-is h ∙ sym (tells-is k)
 
--- behind `%`
+-- after `%`
 PercentCase : AbnfKind → ℕ → List ℕ → List ℕ → Type 0
 PercentCase k c bs s = ((is_case c ≡ true) × (m : List ℕ) × (bs ≡ 34 ∷ m) × Run is_quotable m (34 ∷ s))
     ⊎ ((base : ℕ) × Tells c base × Numbers base bs s)

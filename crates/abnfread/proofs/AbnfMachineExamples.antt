@@ -47,7 +47,7 @@ name-inside = refl
 name-early : run start (head a ∷ far Is ∷ head a ∷ []) ≡ None
 name-early = refl
 
--- an element behind a repeat and white space, and a repeat behind a repeat
+-- an element after a repeat and white space, and a repeat after a repeat
 repeat-far : run start (head a ∷ far Is ∷ far (Repeat 2 (Some 2)) ∷ far x ∷ []) ≡ None
 repeat-far = refl
 

@@ -73,7 +73,7 @@ fresh-begins h o bs es (once (parens y)) = refl
 fresh-begins h o bs es (once (brackets y)) = refl
 fresh-begins h o bs es (repeated n y) = refl
 
--- behind a repetition, where white space stands between
+-- after a repetition and white space
 read-begins : (h : Head) (o : List Level) (bs es : Elements) {s r : List Word} {x : Element} → HasGap s
     → Repetition s r x → run (body h o bs es read) s ≡ begins h o bs es s
 read-begins h o bs es n (once (name {g = true})) = refl
@@ -164,7 +164,7 @@ assigned-body : (ds : List Definition) (n : List ℕ) (p : Span) {w : Word} {a :
 assigned-body ds n p s defines = refl
 assigned-body ds n p s extends = refl
 
--- a rule begins behind these
+-- a rule begins after these
 abbrev Enters : List Definition → Config → Type 0
 Enters ds c = (g : Bool) (n : List ℕ) (p : Span) (s : List Word) → run c (word g true (Name n p) ∷ s)
     ≡ run (named ds n p) s

@@ -61,7 +61,7 @@ digit-kind e (counted h n) = refl
 digit-kind e (star h) = refl
 digit-kind e _ = cc
 
--- two tokens that stand at one place and end at one place are of one kind
+-- two tokens of one position and one end are of one kind
 kinds-one : {k j : AbnfKind} {t r s : List ℕ} → r ≡ s → Stands k t r → Stands j t s → k ≡ j
 kinds-one e (name h n) y = sym (letter-kind h y)
 kinds-one e x (name h n) = letter-kind h x
@@ -112,7 +112,7 @@ pub first-dark : {k : AbnfKind} {t r : List ℕ} → First k t r → (m : List �
 first-dark h = firsts.first-dark Piece Stands Bad End stands-part stands-one piece-end piece-one stands-dark
     nothing-dark h
 
--- bytes that pass, whatever stands behind them
+-- bytes that pass, whatever follows them
 record RunAnywhere (f : ℕ → Bool) (t r : List ℕ) : Type 0 where
   part : List ℕ
   cut : t ≡ part ++ r
@@ -123,7 +123,7 @@ run-anywhere none = record { part = []; cut = refl; anywhere = λ s. none }
 run-anywhere (more {b} e h) = let x = run-anywhere h in
     record { part = b ∷ x.part; cut = ap (λ (z : List ℕ). b ∷ z) x.cut; anywhere = λ s. more e (x.anywhere s) }
 
--- a beginning of what such bytes do not begin
+-- a prefix of what such bytes do not begin
 stops-front : (f : ℕ → Bool) (w r : List ℕ) {t : List ℕ} → t ≡ w ++ r → Stops f t → Stops f w
 stops-front f [] r e h = tt
 stops-front f (b ∷ w) r e h = rw e at h

@@ -28,7 +28,7 @@ pub data Tail (bs es : Elements) : List Word → List Word → Elements → Type
       → Alternatives m r ys → Tail bs es s r (append bs (more (concatenation xs) ys))
 
 module _ (K : Element → List Word → Type 0) where
-  -- the rest of the alternation behind a repetition, and then K
+  -- the rest of the alternation after a repetition, and then K
   abbrev pub Going : Elements → Elements → List Word → Type 0
   Going bs es s = (r : List Word) × (ys : Elements) × Tail bs es s r ys × K (alternation ys) r
 
@@ -40,7 +40,7 @@ module _ (K : Element → List Word → Type 0) where
   abbrev pub Entered : Elements → Elements → Times → List Word → Type 0
   Entered bs es t s = (m : List Word) × (x : Element) × OneElement s m x × Going bs (snoc es (apply t x)) m
 
--- behind the definitions ds: the end, or further ones
+-- after the definitions ds: the end, or further ones
 abbrev pub Finished : List Definition → List Definition → List Word → Type 0
 Finished g ds s = ((k : Bool) × (s ≡ word k false End ∷ []) × (g ≡ ds))
     ⊎ ((rules : List Definition) × Grammar s rules × (g ≡ ds ++ rules))
@@ -49,7 +49,7 @@ abbrev pub closer : Bracket → Said
 closer paren = RParen
 closer brack = RBrack
 
--- behind an alternation that all these levels stand round
+-- after an alternation within all these levels
 abbrev pub Close : List Definition → Head → List Level → Element → List Word → Type 0
 Close g h [] x s = Finished g (ended h x) s
 Close g h (level b f t k ∷ o) x s = (r : List Word) × (i : Bool) × (s ≡ word i false (closer k) ∷ r)
@@ -97,7 +97,7 @@ module _ (K : Element → List Word → Type 0) (bs es : Elements) where
       let t : Tail bs es s r (append bs (more (concatenation (append es (more x xs))) cs)) =
       goes (parts n (further y k ys)) z in rw same t
 
-  -- behind a repetition another one begins, with white space between
+  -- after a repetition and white space another one begins
   going-joined : {s : List Word} → HasGap s → Begun K bs es s → Going K bs es s
   going-joined n (m, x, y, (r, ys, tail, k)) = (r, ys, join-tail n y tail, k)
 

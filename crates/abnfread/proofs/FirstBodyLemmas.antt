@@ -37,7 +37,7 @@ one-less : (k n : ℕ) (b : Bool) → nat_lt k n ≡ b → nat_lt (1 + k) (suc n
 one-less k n true h = grind (arith, nat_tests)
 one-less k n false h = grind (arith, nat_tests)
 
--- the body of the first rule that passes a test is the one at that rule's place
+-- the body of the first rule that passes a test is the one at that rule's position
 module _ (p : Rule → Bool) (found : List Rule → Option Element) (none : found [] ≡ None)
     (step : (rule : Rule) (rules : List Rule) → found (rule ∷ rules) ≡ cond (p rule) (Some rule.body) (found rules))
   where

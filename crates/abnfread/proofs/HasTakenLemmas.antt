@@ -1,7 +1,7 @@
--- What the reader's loop has come to, and what it says where it stops.
+-- The invariant of the reader's loop, and the fault where it stops.
 -- Serves: read_abnf
 use Rattle.std.proofs.Common.{◌≡◌, ℕ, ◌<◌, ◌≤◌, ◌==◌, not, Bool, true, false, Option, Some, None, List, [], ◌∷◌, ◌++◌}
-use Rattle.std.proofs.Common.{length, take, drop, slice_get, refl, sym, ap, ◌∙◌, append_assoc, append-nil}
+use Rattle.std.proofs.Common.{length, take, drop, slice_get, refl, sym, ap, ◌∙◌, subst, append_assoc, append-nil}
 use Rattle.std.proofs.Common.{length-append, arith, Result, Ok, Err}
 use Rattle.std.proofs.Math.Seq.{get_or-append_seam}
 use Rattle.std.proofs.lemmas.List.{take-append-drop}
@@ -34,19 +34,20 @@ use Rattle.abnfread.specs.AbnfSpelling.{Grammar}
 use Rattle.abnfread.specs.AbnfWords as words
 use Rattle.abnfread.specs.AbnfWords.{Said, Word, word}
 use Rattle.abnfread.specs.Element.{Definition}
-use Rattle.abnfread.specs.MarkedTokens.{Marked, marked, tok_of, is_first, marks, margin, AreMarked}
+use Rattle.abnfread.specs.MarkedTokens.{Marked, marked, tok_of, is_first, marks, margin, AreTokens, AreMarked}
 use Rattle.abnfread.proofs.AbnfSpellingLemmas.{runs-grammar}
 use Rattle.abnfread.proofs.AbnfViabilityLemmas.{runs-begins, stops-begins}
 use Rattle.abnfread.proofs.NumberStepLemmas.{number-like, there-some, there-none}
 use Rattle.abnfread.proofs.OpenBracketLemmas.{step-opens, shallow-next, deeper-next, shallow-front, levels-within}
 use Rattle.abnfread.proofs.OpenBracketLemmas.{opens-bracket}
-use Rattle.abnfread.proofs.SaysKindLemmas.{one-word, marked-said, large-number}
+use Rattle.abnfread.proofs.SaysKindLemmas.{one-word, large-number}
 
--- the tokens so far and those that are left are the text's, and the machine took what those so far say
+-- The tokens so far lead from the text to those that are left, and the machine took what those so far say.
 pub record HasTaken (text : List ℕ) (left : List Marked → Type 0) (c : Config) (ms : List Marked) : Type 0 where
-  pub rest : List Marked
-  pub are_left : left rest
-  pub all : AreMarked text (ms ++ rest)
+  -- whatever is left, the text has the tokens so far before it
+  pub before : (rest : List Marked) → left rest → AreMarked text (ms ++ rest)
+  -- a list of the text's tokens is those so far and one that is left
+  pub after : (all : List Marked) → AreMarked text all → (rest : List Marked) × left rest × (all ≡ ms ++ rest)
   pub words : List Word
   pub say : SayAll ms words
   pub reached : run start words ≡ Some c
@@ -79,12 +80,12 @@ pub within-take : (i : ℕ) (ms : List Marked) → AreWithin ms → AreWithin (t
 within-take i ms h = within-front (take i ms) (drop i ms) (rw (take-append-drop i ms) h)
 
 -- before the first token
-pub none-taken : (text : List ℕ) (left : List Marked → Type 0) (c : Config) (all : List Marked) → left all
-    → AreMarked text all → c ≡ start → HasTaken text left c []
-none-taken text left c all are h e = record {
-  rest = all;
-  are_left = are;
-  all = h;
+pub none-taken : (text : List ℕ) (left : List Marked → Type 0) (c : Config)
+    → ((ts : List (Tok AbnfKind)) → AreTokens text ts → left (marks text (margin text ts) 0 ts))
+    → ((ms : List Marked) → left ms → AreMarked text ms) → c ≡ start → HasTaken text left c []
+none-taken text left c are all e = record {
+  before = all;
+  after = λ ms h. (ms, subst left (sym h.same) (are h.tokens h.are_tokens), refl);
   words = [];
   say = say_none;
   reached = ap Some (sym e);
@@ -104,32 +105,45 @@ number-no_bracket g f says_lparen h = absurd (h tt)
 number-no_bracket g f says_lbrack h = absurd (h tt)
 number-no_bracket g f _ h = refl
 
+-- one token is taken from those that are left
 module _ {text : List ℕ} {left : List Marked → Type 0} {c : Config} {ms : List Marked} (h : HasTaken text left c ms)
-    (k : AbnfKind) (z : List ℕ) (p : Span) (g f : Bool) (others : List Marked)
-    (given : h.rest ≡ marked (tok k z p) g f ∷ others) where
-  abbrev here : Marked
-  here = marked (tok k z p) g f
+    (here : Marked) (next : List Marked → Type 0)
+    (first : (us : List Marked) → left us → (others : List Marked) × (us ≡ here ∷ others) × next others) where
+  after-one : (all : List Marked) → AreMarked text all → (others : List Marked) × next others
+      × (all ≡ ms ++ here ∷ others)
+  after-one all are =
+      let l = h.after all are in
+      let o = first l.0 l.1 in
+      (o.0, o.2, l.2 ∙ ap (λ (us : List Marked). ms ++ us) o.1)
 
-  whole-marked : AreMarked text (ms ++ here ∷ others)
-  whole-marked = (let a = h.all in rw given at a)
+  -- where the text has tokens, it is one of them
+  pub one-there : (ts : List (Tok AbnfKind)) × AreTokens text ts → (others : List Marked)
+      × AreMarked text (ms ++ here ∷ others)
+  one-there ts =
+      let all = marks text (margin text ts.0) 0 ts.0 in
+      let are : AreMarked text all = record { tokens = ts.0; are_tokens = ts.1; same = refl } in
+      let o = after-one all are in
+      (o.0, subst (AreMarked text) o.2 are)
 
-  pub there-said : IsSaid k z p
-  there-said = marked-said text ms k z p g f others whole-marked
-
-  -- one token more
-  pub one-taken : (next : List Marked → Type 0) (d : Config) (a b : Bool) (s : Said) → next others
+  pub one-taken : ((others : List Marked) → next others → left (here ∷ others)) → (d : Config) (a b : Bool) (s : Said)
       → Says here (word a b s) → IsSmall s → step c (word a b s) ≡ Some d → levels_in d ≤ MAX_OPEN
       → HasTaken text next d (ms ++ here ∷ [])
-  one-taken next d a b s are say small steps le = record {
-    rest = others;
-    are_left = are;
-    all = rw (append_assoc ms (here ∷ []) others) whole-marked;
+  one-taken back d a b s say small steps le = record {
+    before = λ others are. rw (append_assoc ms (here ∷ []) others) (h.before (here ∷ others) (back others are));
+    after = λ all are. let o = after-one all are in (o.0, o.1, o.2 ∙ sym (append_assoc ms (here ∷ []) o.0));
     words = h.words ++ word a b s ∷ [];
     say = say-snoc Says h.say say;
     reached = run-snoc step h.words (word a b s) start c h.reached ∙ steps;
     shallow = shallow-next h.words (word a b s) c d h.reached steps MAX_OPEN h.shallow le;
     small = small-snoc h.words a b s h.small small;
   }
+
+-- a token of the text that was not taken
+module _ {text : List ℕ} {left : List Marked → Type 0} {c : Config} {ms : List Marked} (h : HasTaken text left c ms)
+    (k : AbnfKind) (z : List ℕ) (p : Span) (g f : Bool) (others : List Marked)
+    (whole : AreMarked text (ms ++ marked (tok k z p) g f ∷ others)) where
+  abbrev here : Marked
+  here = marked (tok k z p) g f
 
   within-here : AreWithin ms
   within-here = record { words = h.words; say = h.say; shallow = h.shallow; small = h.small }
@@ -144,7 +158,7 @@ module _ {text : List ℕ} {left : List Marked → Type 0} {c : Config} {ms : Li
     is_decided D d = record {
       size = size;
       all = ms ++ here ∷ others;
-      are_tokens = whole-marked;
+      are_tokens = whole;
       number = length ms;
       token = here;
       there = get-seam ms here others;
@@ -245,9 +259,9 @@ only-end (say_more (says says_end) say_none) = refl
 
 -- no token is left
 module _ {text : List ℕ} {left : List Marked → Type 0} {c : Config} {ms : List Marked} (h : HasTaken text left c ms)
-    (none : h.rest ≡ []) where
+    (none : left []) where
   every-marked : AreMarked text ms
-  every-marked = (let a = h.all in simp (none, append-nil) at a)
+  every-marked = (let a = h.before [] none in simp append-nil at a)
 
   pub all-done : (ds : List Definition) × (c ≡ done ds)
   all-done =
@@ -270,7 +284,8 @@ module _ {text : List ℕ} {left : List Marked → Type 0} {c : Config} {ms : Li
     words = h.words;
     say = h.say;
     grammar = runs-grammar ds h.words (h.reached ∙ ap Some e);
-    within = record { words = h.words; say = h.say; shallow = h.shallow; small = h.small };
+    shallow = h.shallow;
+    small = h.small;
   }
 
 -- what the reader does with the one thing that a token says
@@ -299,7 +314,7 @@ module _ (c : Config) (k : AbnfKind) (z : List ℕ) (p : Span) (g f : Bool) (s :
   large-hopeless e = λ v y. ap (step c) (one-word (marked (tok k z p) g f) v (word g f s) y (says h))
       ∙ there-none (step c (word g f s)) (number-like c g f (large-number h large) ∙ e)
 
--- a token whose word was told is not bad
+-- a token that says a word is not bad
 pub some-not_bad : {k b : AbnfKind} {r : Result (Option CodeSaid) NumberFault} {w : CodeSaid} → (k ≡ b → r ≡ Ok None)
     → r ≡ Ok (Some w) → k ≡ b → ⊥
 some-not_bad f e q = let n = sym e ∙ f q in cc

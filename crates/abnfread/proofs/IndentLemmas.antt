@@ -51,7 +51,7 @@ module _ (whole t front : List ℕ) (b m : ℕ) (e : t ≡ front ++ b ∷ [])
   at-space p q = h ∙ ap (plus m) (indent-last t front b (Some 0) e ∙ indented-space (indent_from (Some 0) front) b p q)
       ∙ plus-one m (indent_from (Some 0) front)
 
--- the margin is the indentation behind the white space that begins the text
+-- the margin is the indentation after the white space that begins the text
 margin-at : (text a : List ℕ) (x : Tok AbnfKind) (r : List ℕ) → Next White First (length text) text x r → White text a
     → NoPiece Piece a → indent_at text (start_of x) ≡ indent_at text (length text - length a)
 margin-at text a x r h w d =

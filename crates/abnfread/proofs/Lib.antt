@@ -15,6 +15,7 @@ pub mod HasTakenLemmas
 pub mod IndentLemmas
 pub mod JoinedTableLemmas
 pub mod MarkExamples
+pub mod MarkedIterationLemmas
 pub mod NumberStepLemmas
 pub mod NumeralLemmas
 pub mod OpenBracketLemmas

@@ -28,7 +28,7 @@ run-front {f} {t} {r} h =
     let e : length (p.0 ++ r) - length r ≡ length p.0 = omega (arith, length-append p.0 r) in
     rw (p.1, e, take_at p.0 r) p.2
 
--- and whatever stands behind it
+-- and whatever follows it
 pub run-before : {f : ℕ → Bool} {ds : List ℕ} (r : List ℕ) → Run f ds [] → Run f (ds ++ r) r
 run-before r none = none
 run-before r (more e h) = more e (run-before r h)

@@ -84,7 +84,7 @@ pub step-opens : (c d : Config) (g f : Bool) (s : Said) → step c (word g f s) 
 step-opens c d g f s h = let l = step-levels c g f s in let k : LevelsOf (Some d) (open_behind s (levels_in c)) =
     rw h at l in k
 
--- the brackets that are open behind a list, of those that were before
+-- the brackets that are open after a list, of those that were open before it
 abbrev pub open_count : ℕ → List Word → ℕ
 open_count d [] = d
 open_count d (word g f s ∷ ws) = open_count (open_behind s d) ws
@@ -105,7 +105,7 @@ shallow-within : (m d : ℕ) (ws : List Word) → IsShallow m d ws → open_coun
 shallow-within m d [] h = h
 shallow-within m d (word g f s ∷ ws) h = shallow-within m (open_behind s d) ws h.1
 
--- a shorter beginning
+-- a shorter prefix
 pub shallow-front : (m d : ℕ) (ws us : List Word) → IsShallow m d (ws ++ us) → IsShallow m d ws
 shallow-front m d [] [] h = h
 shallow-front m d [] (word g f s ∷ us) h = h.0

@@ -80,7 +80,7 @@ record Own (k : AbnfKind) (t r : List ℕ) (p : Span) : Type 0 where
   said : Said
   says : SaysKind k own p said
 
--- what stands between a byte before and one behind
+-- what stands between two bytes
 closed-cut : (c : ℕ) (bs ts r : List ℕ) → bs ≡ ts ++ c ∷ r → bs ≡ (ts ++ c ∷ []) ++ r
 closed-cut c bs ts r e = e ∙ sym (append_assoc ts (c ∷ []) r)
 
@@ -207,8 +207,9 @@ pub said-there : (k : AbnfKind) (z : List ℕ) (p : Span) → IsSaid k z p → (
 said-there kinds.Bad z p h f = absurd (f refl)
 said-there _ z p h f = h
 
-next-said : {total : ℕ} {t r : List ℕ} (k : AbnfKind) (z : List ℕ) (p : Span) → Next White First total t (tok k z p) r
-    → IsSaid k z p
+-- a token that was cut says something unless it is bad
+pub next-said : {total : ℕ} {t r : List ℕ} (k : AbnfKind) (z : List ℕ) (p : Span)
+    → Next White First total t (tok k z p) r → IsSaid k z p
 next-said k z p n = is-said k z p (λ f. first-said z p n.first n.cut f)
 
 abbrev AreSaid : List (Tok AbnfKind) → Type 0

@@ -17,7 +17,7 @@ tells-most (binary e) = omega arith
 tells-most (decimals e) = omega arith
 tells-most (hexadecimal e) = omega arith
 
--- the letter of a number, and what stands behind it
+-- the letter of a number, and what follows it
 pub letter-told : {z behind tail text : List ℕ} {c d base other : ℕ} → z ≡ 37 ∷ behind → behind ≡ c ∷ tail
     → Tells c base → z ≡ 37 ∷ d ∷ text → Tells d other → (base ≡ other) × (tail ≡ text)
 letter-told {z} {behind} {tail} {text} {c} {d} e f t g u =
@@ -41,7 +41,7 @@ num-by : {z : List ℕ} {s : Said} → SaysNum z s → NumCase z s
 num-by (says_values tells k) = values_case refl tells k
 num-by (says_range tells e d f) = range_case _ refl tells e d
 
--- front are the first digits of a number, and rest stands behind them
+-- front are the first digits of a number, and rest follows them
 module _ (base : ℕ) (z digits front rest : List ℕ) (told : (b c : ℕ) (text : List ℕ) → z ≡ 37 ∷ c ∷ text → Tells c b
     → (base ≡ b) × (digits ≡ text)) (w : base ≤ 36)
     (cut : digits ≡ front ++ rest) (run : Run (is_digit base) front []) (stop : Stops (is_digit base) rest) where

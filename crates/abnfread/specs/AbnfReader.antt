@@ -95,7 +95,7 @@ config_at r ats.Done = done (definitions_from r.definitions.items)
 abbrev pub config_of : Reader → Config
 config_of r = config_at r r.at
 
--- the reader stopped where the machine has no step, or for want of memory
+-- the reader stopped where the machine has no step, or because an allocation failed
 abbrev pub StopsAt : Option Config → Stop → Type 0
 StopsAt x stops.Hopeless = x ≡ None
 StopsAt x stops.TooLarge = ⊥
@@ -106,7 +106,7 @@ abbrev pub Steps : {A : Type 0} → Option Config → Result A Stop → Reader �
 Steps x (Ok u) r = x ≡ Some (config_of r)
 Steps x (Err s) r = StopsAt x s
 
--- what the token says was told, or that its numbers are too large, unless memory ran out
+-- the result is what the token says, or that its numbers are too large, unless memory ran out
 abbrev pub Gives : Said → Result (Option CodeSaid) NumberFault → Type 0
 Gives s (Ok None) = ⊥
 Gives s (Ok (Some w)) = (said_of w ≡ s) × IsSmall s

@@ -5,9 +5,9 @@ use Rattle.ruletable.specs.declared.lines.LineRule.TheVariants.{Lf}
 use Rattle.ruletable.specs.declared.fault.ReadFault.{ReadFault}
 use Rattle.ruletable.specs.declared.fault.ReadFault.TheVariants as faults
 use Rattle.lexer.specs.TokenLists.{tok, start_of}
-use Rattle.lexer.specs.GrammarLimits.{max_grammar}
+use Rattle.lexer.specs.GrammarLimits.{max_grammar, max_open}
 use Rattle.abnfread.specs.declared.kind.AbnfKind.TheVariants.{LParen, LBrack}
-use Rattle.abnfread.specs.AbnfSays.{SayAll, AreWithin, IsHopeless, IsOver}
+use Rattle.abnfread.specs.AbnfSays.{SayAll, AreSmall, IsShallow, IsHopeless, IsOver}
 use Rattle.abnfread.specs.AbnfSpelling.{Grammar}
 use Rattle.abnfread.specs.AbnfWords.{Word}
 use Rattle.abnfread.specs.Element.{Definition}
@@ -21,7 +21,8 @@ pub record Reads (text : List ℕ) (definitions : List Definition) : Type 0 wher
   pub words : List Word
   pub say : SayAll tokens words
   pub grammar : Grammar words definitions
-  pub within : AreWithin tokens
+  pub shallow : IsShallow max_open 0 words
+  pub small : AreSmall words
 
 -- a token of the text decides, and stands on that line
 pub record IsDecidedAt (text : List ℕ) (line : ℕ) (Decides : List Marked → ℕ → Marked → Type 0) : Type 0 where
@@ -50,8 +51,8 @@ IsTooDeep ms i m = IsOver ms i × (is_bracket m ≡ true)
 abbrev pub IsTooLarge : List Marked → ℕ → Marked → Type 0
 IsTooLarge ms i m = IsOver ms i × (is_bracket m ≡ false)
 
--- The text is refused for that fault. Its length is looked at first, then the first token that is hopeless or over a
--- limit decides. Any allocation may fail, but a text that is too long is refused for its length alone.
+-- The text is rejected for that fault. Its length counts first. Then the first token decides that is hopeless or over a
+-- limit. Any allocation may fail, but a text that is too long is rejected for its length alone.
 abbrev pub IsFaultOf : List ℕ → ReadFault → Type 0
 IsFaultOf text (faults.Syntax line) = IsDecidedAt text line IsSyntax
 IsFaultOf text (faults.Depth line) = IsDecidedAt text line IsTooDeep

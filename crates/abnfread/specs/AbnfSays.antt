@@ -26,7 +26,7 @@ pub data SaysKind : AbnfKind → List ℕ → Span → Said → Type 0 where
   says_rbrack : {z : List ℕ} {p : Span} → SaysKind kinds.RBrack z p RBrack
   says_repeat : {z : List ℕ} {p : Span} {a : ℕ} {b : Option ℕ} → SaysRepeat z a b
       → SaysKind kinds.Repeat z p (Repeat a b)
-  -- what stands in quotes; letters stand for either case, but for a text behind `%s`
+  -- what stands in quotes; letters stand for either case, but for a text after `%s`
   says_text : {z t : List ℕ} {p : Span} → z ≡ code "\"" ∷ (t ++ code "\"" ∷ []) → SaysKind kinds.Text z p (Text true t)
   says_cased : {z t : List ℕ} {p : Span} {c : ℕ} → is_case c ≡ true
       → z ≡ code "%" ∷ c ∷ code "\"" ∷ (t ++ code "\"" ∷ [])
@@ -60,7 +60,7 @@ abbrev pub AreSmall : List Word → Type 0
 AreSmall [] = Unit {0}
 AreSmall (word g f s ∷ ws) = IsSmall s × AreSmall ws
 
--- the brackets that are open behind a word, of those that were before
+-- the brackets that are open after a word, of those that were open before it
 abbrev pub open_behind : Said → ℕ → ℕ
 open_behind LParen d = suc d
 open_behind LBrack d = suc d

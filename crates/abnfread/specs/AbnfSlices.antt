@@ -1,5 +1,5 @@
--- Where a token of a kind ends (RFC 5234, section 4; RFC 7405): each relation holds of a text and of what stands behind
--- the part that begins it.
+-- Where a token of a kind ends (RFC 5234, section 4; RFC 7405): each relation holds of a text and of what follows the
+-- part that begins it.
 use Prim.Native.Char.{code}
 use Rattle.std.specs.Prelude.{◌≡◌, ℕ, ◌||◌, ◌&&◌, ◌==◌, nat_le, not, Bool, true, false, List, [], ◌∷◌}
 use Rattle.std.specs.Char.{is_ascii_alphabetic, is_ascii_alphanumeric}
@@ -70,7 +70,7 @@ pub data Piece : List ℕ → List ℕ → Type 0 where
 abbrev pub White : List ℕ → List ℕ → Type 0
 White = cuts.White Piece
 
--- A token of the kind begins the text, and r is what stands behind it.
+-- A token of the kind begins the text, and r is what follows it.
 pub data Stands : AbnfKind → List ℕ → List ℕ → Type 0 where
   name : {b : ℕ} {bs r : List ℕ} → is_ascii_alphabetic b ≡ true → Run continues_name bs r → Stands Name (b ∷ bs) r
   is : {r : List ℕ} → Stands Is (code "=" ∷ r) r
@@ -80,7 +80,7 @@ pub data Stands : AbnfKind → List ℕ → List ℕ → Type 0 where
   rparen : {r : List ℕ} → Stands RParen (code ")" ∷ r) r
   lbrack : {r : List ℕ} → Stands LBrack (code "[" ∷ r) r
   rbrack : {r : List ℕ} → Stands RBrack (code "]" ∷ r) r
-  -- a number alone; a star with a number before it, behind it, both or neither
+  -- a number alone; a star with a number before it, after it, both or neither
   counted : {b : ℕ} {bs r : List ℕ} → is_digit 10 b ≡ true → Count bs r → Stands Repeat (b ∷ bs) r
   star : {bs r : List ℕ} → Run (is_digit 10) bs r → Stands Repeat (code "*" ∷ bs) r
   text : {bs r : List ℕ} → Run is_quotable bs (code "\"" ∷ r) → Stands Text (code "\"" ∷ bs) r

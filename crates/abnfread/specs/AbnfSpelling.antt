@@ -1,5 +1,5 @@
--- Which words spell which rules (RFC 5234, section 4). A relation on two lists holds of a list and of what stands
--- behind the part that is spelled.
+-- Which words spell which rules (RFC 5234, section 4). A relation on two lists holds of a list and of what follows the
+-- part that is spelled.
 use Rattle.std.specs.Prelude.{◌≡◌, ℕ, Bool, true, false, List, [], ◌∷◌, Option}
 use Rattle.lexer.specs.Viability as taking
 use Rattle.ruletable.specs.declared.span.Span.{Span}

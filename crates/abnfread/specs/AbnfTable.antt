@@ -20,7 +20,7 @@ alternatives_of x = more x none
 abbrev pub with_alternatives : Element → Element → Element
 with_alternatives x y = alternation (append (alternatives_of x) (alternatives_of y))
 
--- the place of the definition's name among these
+-- the position of the definition's name among these
 abbrev pub id_in : List (List ℕ) → Definition → Option ℕ
 id_in known d = position (same_name Fold d.name) known
 
@@ -33,7 +33,7 @@ abbrev pub extended : Element → List Element → Element
 extended x [] = x
 extended x (y ∷ ys) = extended (with_alternatives x y) ys
 
--- what the first definition of a name begins with: its body, behind that of a core rule which it extends
+-- what the first definition of a name begins with: its body, after that of a core rule which it extends
 abbrev pub first_body : (List ℕ → Option Element) → Definition → Element
 first_body core d = cond d.adds (elim (core d.name) [ None ↦ d.body | Some c ↦ with_alternatives c d.body ]) d.body
 
@@ -72,7 +72,7 @@ earlies core n known (d ∷ ds) = elim (id_in known d) [
   | Some id ↦ earlies core n known ds
 ]
 
--- The file's rules are those that the definitions make, with the core rules behind them. The ids are those of the rules
+-- The file's rules are those that the definitions make, with the core rules after them. The ids are those of the rules
 -- that are defined again, and of those that are extended before they are defined.
 pub record IsTableOf (definitions : List Definition) (rules : table.Rules Elem) (redefined early : List ℕ) : Type
     0 where

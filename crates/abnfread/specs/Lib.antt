@@ -9,6 +9,7 @@ pub mod AbnfTable
 pub mod AbnfWords
 pub mod BaseDigits
 pub mod ByteClasses
+pub mod CoreParts
 pub mod CoreRules
 pub mod Element
 pub mod MarkedIteration

@@ -21,7 +21,7 @@ abbrev pub indent_from : Option ℕ → List ℕ → Option ℕ
 indent_from n [] = n
 indent_from n (b ∷ bs) = indent_from (indented n b) bs
 
--- how many spaces and tabs stand before the place on its line, if nothing else does
+-- how many spaces and tabs stand before the position on its line, if nothing else does
 abbrev pub indent_at : List ℕ → ℕ → Option ℕ
 indent_at text place = indent_from (Some 0) (take place text)
 
@@ -46,7 +46,7 @@ tok_of (marked x g f) = x
 abbrev pub is_first : List ℕ → Option ℕ → Tok AbnfKind → Bool
 is_first text m x = not (ends_list (kind_of x)) && begins_rule m (indent_at text (start_of x))
 
--- the tokens behind the place n, with their marks
+-- the tokens from the position n on, with their marks
 abbrev pub marks : List ℕ → Option ℕ → ℕ → List (Tok AbnfKind) → List Marked
 marks text m n [] = []
 marks text m n (x ∷ xs) = marked x (not (start_of x == n)) (is_first text m x) ∷ marks text m (end_of x) xs

@@ -6,7 +6,7 @@ use Rattle.abnfread.specs.BaseDigits.{is_digit, Tells}
 use Rattle.abnfread.specs.AbnfSlices.{Run, Digits}
 use Rattle.abnfread.specs.AbnfWords.{Said, Values, Range}
 
--- the number behind a star, if there is one
+-- the number after a star, if there is one
 abbrev pub most : List ℕ → Option ℕ
 most [] = None
 most (b ∷ bs) = Some (digits_value 10 (b ∷ bs))

@@ -1,15 +1,24 @@
 //! The core rules (RFC 5234, appendix B.1).
-ghost use Rattle.std.specs.Prelude.{◌≡◌, ◌<◌, slice_get, Some, IfOk};
+ghost use Rattle.std.specs.Prelude.{◌≡◌, ◌<◌, map, slice_get, Some, IfOk};
 ghost use Rattle.ruletable.specs.declared.table.NameCase.TheVariants.{Fold};
-ghost use Rattle.abnfread.specs.AbnfMachine.{snoc};
-ghost use Rattle.abnfread.specs.CoreRules.{pair as pair_of, plain, value as value_of, hexdig as hexdig_of};
-ghost use Rattle.abnfread.specs.CoreRules.{lwsp as lwsp_of, core_list, core_names, core_bodies};
-ghost use Rattle.abnfread.specs.Element.{Range, Concat, Alt, Name};
-ghost use Rattle.abnfread.specs.AbnfViews.{element_of, elements_of, rules_of};
+ghost use Rattle.abnfread.specs.CoreParts.{part_element};
+ghost use Rattle.abnfread.specs.CoreRules.{pair as pair_of, lwsp as lwsp_of, core_list, core_names, core_bodies};
+ghost use Rattle.abnfread.specs.Element.{Concat, Alt, Name};
+ghost use Rattle.abnfread.specs.AbnfViews.{element_of, elements, rules_of};
 
 use crate::elem::Elem;
 use ruletable::{Memory, NameCase, RuleTable, Span};
 use std::alloc::Global;
+
+/// An element of a body in the appendix: a text, a value, a range, a name, or the concatenation of two names.
+#[derive(Clone, Copy)]
+enum Part {
+    Text(&'static [u8]),
+    Value(u32),
+    Range(u32, u32),
+    Name(&'static [u8]),
+    Names(&'static [u8], &'static [u8]),
+}
 
 /// Returns the sixteen core rules, whose names compare without case. Their spans are empty, at 0.
 ///
@@ -27,7 +36,7 @@ pub fn core_rules(alloc: Global) -> Result<RuleTable<Elem>, Memory>
     Ok(rules)
 }
 
-// The name of the core rule with that id.
+// Returns the name of the core rule with that id.
 fn core_name(id: usize) -> &'static [u8]
     requires { id < 16 }
     ensures { slice_get core_names id ≡ Some result.now }
@@ -58,36 +67,34 @@ pub(crate) fn core_body(alloc: Global, id: usize) -> Result<Elem, Memory>
     ensures { IfOk result (λ e. slice_get core_bodies id ≡ Some (element_of e)) }
 {
     match id {
-        0 => either(alloc, range(65, 90), range(97, 122)),
-        1 => either(alloc, text(alloc, b"0")?, text(alloc, b"1")?),
-        2 => Ok(range(1, 127)),
-        3 => value(alloc, 13),
-        4 => both(alloc, name(alloc, b"CR")?, name(alloc, b"LF")?),
-        5 => either(alloc, range(0, 31), value(alloc, 127)?),
-        6 => Ok(range(48, 57)),
-        7 => value(alloc, 34),
-        8 => hexdig(alloc),
-        9 => value(alloc, 9),
-        10 => value(alloc, 10),
+        0 => one_of(alloc, &[Part::Range(65, 90), Part::Range(97, 122)]),
+        1 => one_of(alloc, &[Part::Text(b"0"), Part::Text(b"1")]),
+        2 => element(alloc, Part::Range(1, 127)),
+        3 => element(alloc, Part::Value(13)),
+        4 => element(alloc, Part::Names(b"CR", b"LF")),
+        5 => one_of(alloc, &[Part::Range(0, 31), Part::Value(127)]),
+        6 => element(alloc, Part::Range(48, 57)),
+        7 => element(alloc, Part::Value(34)),
+        8 => one_of(
+            alloc,
+            &[
+                Part::Name(b"DIGIT"),
+                Part::Text(b"A"),
+                Part::Text(b"B"),
+                Part::Text(b"C"),
+                Part::Text(b"D"),
+                Part::Text(b"E"),
+                Part::Text(b"F"),
+            ],
+        ),
+        9 => element(alloc, Part::Value(9)),
+        10 => element(alloc, Part::Value(10)),
         11 => lwsp(alloc),
-        12 => Ok(range(0, 255)),
-        13 => value(alloc, 32),
-        14 => Ok(range(33, 126)),
-        _ => either(alloc, name(alloc, b"SP")?, name(alloc, b"HTAB")?),
+        12 => element(alloc, Part::Range(0, 255)),
+        13 => element(alloc, Part::Value(32)),
+        14 => element(alloc, Part::Range(33, 126)),
+        _ => one_of(alloc, &[Part::Name(b"SP"), Part::Name(b"HTAB")]),
     }
-}
-
-fn range(low: u32, high: u32) -> Elem
-    ensures { element_of result ≡ Range low high }
-{
-    Elem::Range { low, high }
-}
-
-fn text(alloc: Global, text: &[u8]) -> Result<Elem, Memory>
-    ensures { IfOk result (λ e. element_of e ≡ plain text.now) }
-{
-    let text = Vec::from_slice(alloc, text)?;
-    Ok(Elem::Text { folds: true, text })
 }
 
 fn name(alloc: Global, name: &[u8]) -> Result<Elem, Memory>
@@ -96,64 +103,49 @@ fn name(alloc: Global, name: &[u8]) -> Result<Elem, Memory>
     Ok(Elem::Name(Vec::from_slice(alloc, name)?))
 }
 
-fn value(alloc: Global, value: u32) -> Result<Elem, Memory>
-    ensures { IfOk result (λ e. element_of e ≡ value_of value) }
+// Returns the concatenation of two names.
+fn two_names(alloc: Global, first: &[u8], second: &[u8]) -> Result<Elem, Memory>
+    ensures { IfOk result (λ e. element_of e ≡ Concat (pair_of (Name first.now) (Name second.now))) }
 {
-    let mut values = Vec::new(alloc);
-    values.push(value)?;
-    Ok(Elem::Values(values))
+    let mut names = Vec::new(alloc);
+    names.push(name(alloc, first)?)?;
+    names.push(name(alloc, second)?)?;
+    Ok(Elem::Concat(names))
 }
 
-fn pair(alloc: Global, first: Elem, second: Elem) -> Result<Vec<Elem>, Memory>
-    ensures { IfOk result (λ es. elements_of es.items ≡ pair_of (element_of first) (element_of second)) }
+// Returns an element of a body.
+fn element(alloc: Global, part: Part) -> Result<Elem, Memory>
+    ensures { IfOk result (λ e. element_of e ≡ part_element part) }
 {
-    let mut both = Vec::new(alloc);
-    both.push(first)?;
-    both.push(second)?;
-    Ok(both)
+    match part {
+        Part::Text(text) => {
+            let text = Vec::from_slice(alloc, text)?;
+            Ok(Elem::Text { folds: true, text })
+        }
+        Part::Value(value) => Ok(Elem::Values(Vec::from_slice(alloc, &[value])?)),
+        Part::Range(low, high) => Ok(Elem::Range { low, high }),
+        Part::Name(text) => name(alloc, text),
+        Part::Names(first, second) => two_names(alloc, first, second),
+    }
 }
 
-fn either(alloc: Global, first: Elem, second: Elem) -> Result<Elem, Memory>
-    ensures { IfOk result (λ e. element_of e ≡ Alt (pair_of (element_of first) (element_of second))) }
+// Returns the alternation of these elements.
+fn one_of(alloc: Global, parts: &[Part]) -> Result<Elem, Memory>
+    ensures { IfOk result (λ e. element_of e ≡ Alt (elements (map part_element parts.now))) }
 {
-    Ok(Elem::Alt(pair(alloc, first, second)?))
+    let mut all = Vec::new(alloc);
+    for it in parts {
+        all.push(element(alloc, *it)?)?;
+    }
+    Ok(Elem::Alt(all))
 }
 
-fn both(alloc: Global, first: Elem, second: Elem) -> Result<Elem, Memory>
-    ensures { IfOk result (λ e. element_of e ≡ Concat (pair_of (element_of first) (element_of second))) }
-{
-    Ok(Elem::Concat(pair(alloc, first, second)?))
-}
-
-// One element more.
-fn with(mut elements: Vec<Elem>, e: Elem) -> Result<Vec<Elem>, Memory>
-    ensures { IfOk result (λ es. elements_of es.items ≡ snoc (elements_of elements.items) (element_of e)) }
-{
-    elements.push(e)?;
-    Ok(elements)
-}
-
-// DIGIT, and A to F.
-fn hexdig(alloc: Global) -> Result<Elem, Memory>
-    ensures { IfOk result (λ e. element_of e ≡ Alt hexdig_of) }
-{
-    let digit = name(alloc, b"DIGIT")?;
-    let digits = pair(alloc, digit, text(alloc, b"A")?)?;
-    let digits = with(digits, text(alloc, b"B")?)?;
-    let digits = with(digits, text(alloc, b"C")?)?;
-    let digits = with(digits, text(alloc, b"D")?)?;
-    let digits = with(digits, text(alloc, b"E")?)?;
-    let digits = with(digits, text(alloc, b"F")?)?;
-    Ok(Elem::Alt(digits))
-}
-
-// White space, with line ends before further white space.
+// Returns white space, with line ends before further white space.
 fn lwsp(alloc: Global) -> Result<Elem, Memory>
     ensures { IfOk result (λ e. element_of e ≡ lwsp_of) }
 {
-    let space = name(alloc, b"WSP")?;
-    let line = both(alloc, name(alloc, b"CRLF")?, name(alloc, b"WSP")?)?;
-    let operand = Box::new(alloc, either(alloc, space, line)?)?;
+    let space = one_of(alloc, &[Part::Name(b"WSP"), Part::Names(b"CRLF", b"WSP")])?;
+    let operand = Box::new(alloc, space)?;
     Ok(Elem::Rep {
         least: 0,
         most: None,

@@ -8,7 +8,7 @@ fn is_space(b: u8) -> bool
     b == b' ' || b == b'\t'
 }
 
-// How many spaces and tabs stand before the place on its line, if nothing else does.
+// Returns how many spaces and tabs stand before the position on its line, if nothing else does.
 pub(crate) fn indent_at(text: &[u8], place: usize) -> Option<usize>
     requires { place ≤ length text.now }
     ensures { result ≡ indent_of text.now place }

@@ -7,7 +7,7 @@ ghost use Rattle.abnfread.specs.AbnfKinds.{is_repeat as repeats};
 pub enum AbnfKind {
     /// A letter, then letters, digits and `-`.
     Name,
-    /// `=` with no `/` behind it.
+    /// `=` with no `/` after it.
     Is,
     /// `=/`.
     Adds,
@@ -21,7 +21,7 @@ pub enum AbnfKind {
     LBrack,
     /// `]`.
     RBrack,
-    /// Digits, or `*` with digits before and behind it, or none.
+    /// Digits, or `*` with digits before and after it, or none.
     Repeat,
     /// What stands in quotes, with `%s` or `%i` before it, or neither.
     Text,

@@ -2,7 +2,7 @@
 ghost use Rattle.std.specs.Prelude.{List};
 ghost use Rattle.lexer.specs.TokenLists.{Tok};
 ghost use Rattle.abnfread.specs.MarkedIteration.{AreLeft};
-ghost use Rattle.abnfread.specs.MarkedTokens.{AreTokens, marks, margin};
+ghost use Rattle.abnfread.specs.MarkedTokens.{AreTokens, Marked, AreMarked, marks, margin};
 
 use crate::indent::indent_at;
 use crate::kind::AbnfKind;
@@ -13,8 +13,9 @@ use lexer::{Kind, tokens};
 ///
 /// It takes no memory, and what the tokens lend is the text's.
 pub fn abnf_tokens(text: &[u8]) -> AbnfTokenIter<'_>
-    ensures { (ts : List (Tok AbnfKind)) → AreTokens text.now ts
+    ensures left { (ts : List (Tok AbnfKind)) → AreTokens text.now ts
         → AreLeft result (marks text.now (margin text.now ts) 0 ts) }
+    ensures all { (ms : List Marked) → AreLeft result ms → AreMarked text.now ms }
 {
     AbnfKind::are_cut();
     let start = text.len() - AbnfKind::after_white(text).len();

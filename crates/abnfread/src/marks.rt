@@ -44,12 +44,12 @@ impl<'a> AbnfTokenIter<'a> {
 }
 
 impl<'a> Iterator for AbnfTokenIter<'a> {
-    ghost use Rattle.abnfread.specs.MarkedIteration.{TakesFirst};
+    ghost use Rattle.abnfread.specs.MarkedIteration.{GivesFirst};
     ghost use Rattle.lexer.specs.TokenLists.{tokens_bound};
 
     type Item = MarkedToken<'a>;
 
-    ghost next_gives = { TakesFirst };
+    ghost next_gives = { GivesFirst };
 
     ghost remaining = { λ s. tokens_bound s.inner };
 

@@ -63,7 +63,7 @@ pub(crate) fn number_in(base: u8, limit: u32, digits: &[u8]) -> Option<u32>
     Some(number as u32)
 }
 
-// The digits that begin a text, and what stands behind them.
+// Returns the digits that begin a text, and what follows them.
 pub(crate) fn split_digits(base: u8, text: &[u8]) -> (&[u8], &[u8])
     ensures cut { text.now ≡ result.0.now ++ result.1.now }
     ensures digits { Run (is_digit_in base) result.0.now [] }

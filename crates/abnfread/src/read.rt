@@ -8,9 +8,9 @@ ghost use Rattle.abnfread.specs.AbnfSpelling.{Grammar};
 ghost use Rattle.abnfread.specs.AbnfTable.{IsTableOf, IsCoreTable};
 ghost use Rattle.abnfread.specs.AbnfWords.{Said, Word};
 ghost use Rattle.abnfread.specs.Element.{Definition as Read};
-ghost use Rattle.abnfread.specs.MarkedTokens.{Marked, marked_of};
+ghost use Rattle.abnfread.specs.MarkedTokens.{AreTokens, Marked, marked_of};
 ghost use Rattle.lexer.specs.GrammarLimits.{max_grammar};
-ghost use Rattle.lexer.specs.TokenLists.{Next, tok};
+ghost use Rattle.lexer.specs.TokenLists.{Next, Tok, tok};
 ghost use Rattle.ruletable.specs.Lines.{line_at};
 ghost use Rattle.ruletable.specs.declared.span.Span.{Span};
 
@@ -31,7 +31,6 @@ fn read_definitions(alloc: Global, text: &[u8]) -> Result<Vec<Definition<'_>>, R
     ensures found { IfOk result (λ ds. Reads text.now (definitions_from ds.items)) }
     ensures fault { IfErr result (λ f. IsFaultOf text.now f) }
 {
-    have_tokens::<AbnfKind>(text);
     let mut reader = Reader::new(alloc);
     for token in abnf_tokens(text) {
         let at = token.token.span.start;
@@ -62,10 +61,13 @@ fn read_definitions(alloc: Global, text: &[u8]) -> Result<Vec<Definition<'_>>, R
     }
 }
 
-// The line of the byte at a place, where lines end with LF.
+// Returns the line of a position of a text that is no grammar, where lines end with LF. It goes over the text's tokens,
+// which says that there is a list of them.
 fn line_in(text: &[u8], at: usize) -> usize
-    ensures { result ≡ line_at LineRule.Lf text.now at }
+    ensures line { result ≡ line_at LineRule.Lf text.now at }
+    ensures tokens { (ts : List (Tok AbnfKind)) × AreTokens text.now ts }
 {
+    have_tokens::<AbnfKind>(text);
     line_of(text, at, LineRule::Lf)
 }
 
@@ -100,8 +102,8 @@ fn take_token<'a>(
 ///
 /// # Errors
 /// - `TooLong`, before all else and whatever memory does, for a text of more than `MAX_GRAMMAR` bytes.
-/// - Else the first token decides with which the text is no beginning of a grammar any more (`Syntax`), or which opens
-///   one bracket more than `MAX_OPEN` at once (`Depth`), or which is a number over its limit (`NumberTooLarge`):
+/// - Else the first token decides with which the text is no prefix of a grammar any more (`Syntax`), or which opens one
+///   bracket more than `MAX_OPEN` at once (`Depth`), or which is a number over its limit (`NumberTooLarge`):
 ///   `MAX_REPEAT` in a repeat, `MAX_VALUE` in a terminal. The line is that of the token's first byte, where lines end
 ///   with LF.
 /// - `Memory` if an allocation fails.
@@ -135,8 +137,8 @@ pub fn one_tree()
     ensures tree { (ws : List Word) → (a b : List Read) → Grammar ws a → Grammar ws b → a ≡ b }
 {}
 
-/// Says that a text spells at most one list of definitions or has at most one fault, and never both; but memory may be
-/// refused in reading it.
+/// Says that a text spells at most one list of definitions or has at most one fault, and never both. Reading it may
+/// also fail because an allocation fails.
 pub fn one_reading()
     ensures definitions { (text : List ℕ) (a b : List Read) → Reads text a → Reads text b → a ≡ b }
     ensures no_fault { (text : List ℕ) (definitions : List Read) (fault : ReadFault) → IsFaultOf text fault

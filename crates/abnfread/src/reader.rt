@@ -84,17 +84,17 @@ pub(crate) struct Level {
 /// What the reader has come to.
 #[derive(Clone, Copy)]
 pub(crate) enum At {
-    /// The beginning of the text.
+    /// Before the first word.
     Start,
-    /// Behind the name of a definition.
+    /// After the name of a definition.
     Named,
     /// Where a repetition must begin.
     Fresh,
-    /// Behind a repeat, where its element must follow.
+    /// After a repeat, where its element must follow.
     Awaits(u32, Option<u32>),
-    /// Behind a repetition.
+    /// After a repetition.
     Read,
-    /// Behind the end.
+    /// After the end.
     Done,
 }
 
@@ -307,7 +307,7 @@ impl<'a> Reader<'a> {
         Ok(())
     }
 
-    // Takes a word behind a repetition.
+    // Takes a word after a repetition.
     fn take_behind(&mut self, gap: bool, said: Said<'a>) -> Result<(), Stop>
         ensures { Steps (read_step (head_of self.old) (outer_of self.old) (ended_of self.old) (parts_of self.old) gap
             (said_of said.entry)) result self.new }
@@ -345,7 +345,7 @@ impl<'a> Reader<'a> {
         self.at = At::Fresh;
     }
 
-    // Takes a word behind the name of a definition.
+    // Takes a word after the name of a definition.
     fn take_assignment(&mut self, said: Said<'a>) -> Result<(), Stop>
         ensures { Steps (named_step (definitions_from self.old.definitions.items) self.old.name.now self.old.span
             (said_of said.entry)) result self.new }
@@ -363,7 +363,7 @@ impl<'a> Reader<'a> {
         }
     }
 
-    // Takes the first word of a line that begins a rule, behind these definitions.
+    // Takes the first word of a line that begins a rule, after these definitions.
     fn take_rule(&mut self, said: Said<'a>) -> Result<(), Stop>
         ensures { Steps (rule_step [] (definitions_from self.old.definitions.items) (said_of said.entry)) result
             self.new }
@@ -453,7 +453,7 @@ impl<'a> Reader<'a> {
         }
     }
 
-    /// Returns the definitions behind the end, and `None` before it.
+    /// Returns the definitions after the end, and `None` before it.
     pub(crate) fn into_definitions(self) -> Option<Vec<Definition<'a>>>
         ensures done { (ds : List D) → config_of self.entry ≡ machine.done ds
             → MatchOption result ⊥ (λ v. definitions_from v.items ≡ ds) }

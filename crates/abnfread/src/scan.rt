@@ -52,7 +52,7 @@ pub(crate) fn is_in(class: Class, b: u8) -> bool
     }
 }
 
-// What stands behind the bytes of a class.
+// Returns what follows the bytes of a class.
 pub(crate) fn after_run(class: Class, text: &[u8]) -> &[u8]
     ensures run { Run (test_of class) text.now result.now }
     ensures all { Stops (test_of class) result.now }
@@ -67,7 +67,7 @@ pub(crate) fn after_run(class: Class, text: &[u8]) -> &[u8]
     rest
 }
 
-// What stands behind bytes of a class and a mark of another.
+// Returns what follows bytes of a class and a mark of another.
 fn after_closed(class: Class, mark: u8, text: &[u8]) -> Option<&[u8]>
     requires { test_of class mark ≡ false }
     ensures { MatchOption result ((r : List ℕ) → Run (test_of class) text.now (mark ∷ r) → ⊥)
@@ -80,7 +80,7 @@ fn after_closed(class: Class, mark: u8, text: &[u8]) -> Option<&[u8]>
     }
 }
 
-// What stands behind the digits.
+// Returns what follows the digits.
 fn after_digits(base: u8, text: &[u8]) -> Option<&[u8]>
     ensures { MatchOption result ((r : List ℕ) → Digits base text.now r → ⊥)
         (λ rest. Digits base text.now rest.now × Stops (is_digit_in base) rest.now) }
@@ -93,7 +93,7 @@ fn after_digits(base: u8, text: &[u8]) -> Option<&[u8]>
     }
 }
 
-// What stands behind dots and digits.
+// Returns what follows dots and digits.
 fn after_dotted(base: u8, text: &[u8]) -> &[u8]
     requires { base ≤ 36 }
     ensures dotted { Dotted base text.now result.now }
@@ -109,7 +109,7 @@ fn after_dotted(base: u8, text: &[u8]) -> &[u8]
     rest
 }
 
-// What stands behind numbers of a base.
+// Returns what follows numbers of a base.
 fn after_numbers(base: u8, text: &[u8]) -> Option<&[u8]>
     requires { base ≤ 36 }
     ensures { MatchOption result ((r : List ℕ) → Numbers base text.now r → ⊥)
@@ -126,7 +126,7 @@ fn after_numbers(base: u8, text: &[u8]) -> Option<&[u8]>
     }
 }
 
-// What stands behind the rest of a number, and of a star and a number.
+// Returns what follows the rest of a number, and of a star and a number.
 fn after_count(text: &[u8]) -> &[u8]
     ensures count { Count text.now result.now }
     ensures longest { (s : List ℕ) → Count text.now s → length result.now ≤ length s }
@@ -144,7 +144,7 @@ fn is_white(b: u8) -> bool
     b == b' ' || b == b'\t' || b == b'\n'
 }
 
-// What stands behind one piece of white space.
+// Returns what follows one piece of white space.
 fn after_piece(text: &[u8]) -> Option<&[u8]>
     ensures { MatchOption result (NoPiece Piece text.now)
         (λ rest. Piece text.now rest.now × (length rest.now < length text.now)) }
@@ -164,7 +164,7 @@ fn after_piece(text: &[u8]) -> Option<&[u8]>
     }
 }
 
-// What stands behind the white space.
+// Returns what follows the white space.
 pub(crate) fn after_blanks(text: &[u8]) -> &[u8]
     ensures white { White text.now result.now }
     ensures all { NoPiece Piece result.now }
@@ -176,7 +176,7 @@ pub(crate) fn after_blanks(text: &[u8]) -> &[u8]
     rest
 }
 
-// The base that a letter tells.
+// Returns the base that a letter names.
 pub(crate) fn base_of(c: u8) -> Option<u8>
     ensures { MatchOption result ((base : ℕ) → Tells c base → ⊥) (λ base. Tells c base × (2 ≤ base) × (base ≤ 36)) }
 {
@@ -194,7 +194,7 @@ fn is_case(c: u8) -> bool
     c == b's' || c == b'S' || c == b'i' || c == b'I'
 }
 
-// The token that a `=` begins: its kind, and what stands behind it.
+// Returns the token that a `=` begins: its kind, and what follows it.
 fn equals_token(tail: &[u8]) -> (AbnfKind, &[u8])
     ensures { Longest Stands result.0 (61 ∷ tail.now) result.1.now }
 {
@@ -204,7 +204,7 @@ fn equals_token(tail: &[u8]) -> (AbnfKind, &[u8])
     }
 }
 
-// A text behind `%s` or `%i`.
+// Returns the token of a text after `%s` or `%i`.
 fn cased_token(c: u8, tail: &[u8]) -> Option<(AbnfKind, &[u8])>
     requires { is_case_letter c ≡ true }
     ensures { MatchOption result (NoToken Stands (37 ∷ c ∷ tail.now))
@@ -215,7 +215,7 @@ fn cased_token(c: u8, tail: &[u8]) -> Option<(AbnfKind, &[u8])>
     Some((AbnfKind::Text, rest))
 }
 
-// Numbers behind `%` and a letter.
+// Returns the token of numbers after `%` and a letter.
 fn based_token(c: u8, tail: &[u8]) -> Option<(AbnfKind, &[u8])>
     requires { is_case_letter c ≡ false }
     ensures { MatchOption result (NoToken Stands (37 ∷ c ∷ tail.now))
@@ -275,7 +275,7 @@ fn token_at(first: u8, tail: &[u8]) -> Option<(AbnfKind, &[u8])>
     }
 }
 
-// The first token of a text that no white space begins: its kind, and what stands behind it.
+// Returns the first token of a text that no white space begins: its kind, and what follows it.
 pub(crate) fn first_of(text: &[u8]) -> (AbnfKind, &[u8])
     requires { NoPiece Piece text.now }
     ensures { First result.0 text.now result.1.now }

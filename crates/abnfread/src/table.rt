@@ -75,8 +75,8 @@ fn extend(alloc: Global, rules: &mut RuleTable<Elem>, id: usize, body: Elem) -> 
     Ok(())
 }
 
-// The body with which a definition begins a rule, behind that of the core rule which it extends, and whether it extends
-// what no core rule defines.
+// Returns the body with which a definition begins a rule, after that of the core rule which it extends, and whether it
+// extends what no core rule defines.
 fn first_body(
     alloc: Global,
     core: &RuleTable<Elem>,

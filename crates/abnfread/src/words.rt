@@ -89,7 +89,7 @@ fn quoted(slice: &[u8]) -> (bool, &[u8])
     }
 }
 
-// The base of a number, and what stands behind the letter that tells it.
+// Returns the base of a number, and what follows the letter that names it.
 fn split_base(slice: &[u8]) -> (u8, &[u8])
     ensures told { (base c : ℕ) (text : List ℕ) → slice.now ≡ 37 ∷ c ∷ text → Tells c base → (result.0 ≡ base)
         × (result.1.now ≡ text) }

@@ -1,21 +1,20 @@
--- The answer to a list of letters: that there is one, and that it is what the judge of letters tells.
+-- The answer to a list of symbols: that there is one, and that it is the answer of the flat grammar.
 -- Serves: run_abnf (right)
-use Rattle.std.proofs.Common.{◌≡◌, ◌↔◌, ℕ, Bool, true, false, List, [], length, take, refl, sym, ◌∙◌, subst, arith, inl}
-use Rattle.std.proofs.Common.{inr}
+use Rattle.std.proofs.Common.{◌≡◌, ◌↔◌, ℕ, ◌≤◌, Bool, true, false, List, length, refl, subst, arith, inl, inr}
 use Rattle.std.specs.Prelude.{IsTrue}
 use Rattle.std.proofs.lemmas.Bool.{both_ways, cases_lt}
-use Rattle.std.proofs.lemmas.List.{append-nil, take_all}
 use mathlib.Core.HLevel.{⊥_prop}
 use mathlib.Core.Logic.{∥∥₁_elim}
 use Rattle.abnfread.specs.Element.{Rule}
 use Rattle.abnfcheck.specs.Beginnings.{IsFurthest}
 use Rattle.abnfcheck.specs.Decided.{Says}
-use Rattle.abnfcheck.specs.Derivable.{RuleDerives}
+use Rattle.abnfcheck.specs.Derivable.{AreLetters, RuleDerives}
 use Rattle.abnfrun.specs.LetterAnswers.{IsAnswerOn}
 use Rattle.lowering.specs.Verdicts.{IsVerdict}
-use Rattle.lowering.specs.declared.verdict.Verdict.{Verdict}
-use Rattle.lowering.specs.declared.verdict.Verdict.TheVariants as verdict
+use Rattle.flatgrammar.specs.declared.verdict.Verdict.{Verdict}
+use Rattle.flatgrammar.specs.declared.verdict.Verdict.TheVariants as verdict
 use Rattle.flatgrammar.specs.Flat.{Flat}
+use Rattle.flatgrammar.specs.FlatVerdicts.{DerivesLine, IsFlatVerdict}
 use Rattle.lowering.specs.Lowered.{IsLowered}
 use Rattle.lowering.specs.ToldBeginnings.{TellsBeginnings}
 use Rattle.linejudge.specs.declared.answers.Answer.{Answer}
@@ -33,25 +32,23 @@ abbrev pub FurthestIsOne : Type 0
 FurthestIsOne = (has : ℕ → Bool) (rules : List Rule) (id : ℕ) (x : List ℕ) (a b : ℕ) → IsFurthest has rules id x a
     → IsFurthest has rules id x b → a ≡ b
 
+-- the laws of flat grammars and rules
+abbrev pub FlatDerives : Type 0
+FlatDerives = (has : ℕ → Bool) (rules : List Rule) (judged : ℕ) (flat : Flat) (x : List ℕ)
+    → IsLowered rules judged flat → length x ≤ flat.limit → AreLetters has x
+    → DerivesLine flat x ↔ RuleDerives has rules judged x
+
+abbrev pub FlatJudges : Type 0
+FlatJudges = (has : ℕ → Bool) (rules : List Rule) (judged : ℕ) (flat : Flat) (x : List ℕ) (said : Verdict)
+    → TellsBeginnings has rules judged flat → length x ≤ flat.limit → AreLetters has x → IsFlatVerdict flat x said
+    → IsVerdict has rules judged x said
+
 module _ (has : ℕ → Bool) (rules : List Rule) (judged : ℕ) (x : List ℕ) where
   abbrev Derived : Type 0
   Derived = RuleDerives has rules judged x
 
   abbrev FurthestAt : ℕ → Type 0
   FurthestAt n = IsFurthest has rules judged x n
-
-  -- what is derived is its own longest viable beginning
-  pub whole_is_furthest : Derived → FurthestAt (length x)
-  whole_is_furthest p = record {
-    within = omega arith;
-    begins = λ some. record {
-      rest = [];
-      letters = tt;
-      derives = subst (λ (v : List ℕ). RuleDerives has rules judged v)
-          (sym (append-nil (take (length x) x) ∙ take_all (length x) x (omega arith))) p;
-    };
-    last = λ m past le b. absurd (omega (arith, past, le));
-  }
 
   -- what follows of a grammar that is only known to be there
   told_yes : (Known : Type 0) → ∥ Known ∥₁ → (Known → Derived) → (said : Bool) × Says Derived said → Derived
@@ -73,23 +70,25 @@ module _ (has : ℕ → Bool) (rules : List Rule) (judged : ℕ) (x : List ℕ) 
     ]
   ]
 
-  -- what is told by the chart of a whole grammar, and by that of its productive parts
-  pub judge_says : DerivationIsDecided → (flat : Flat) (told : Bool) → ∥ IsLowered rules judged flat ∥₁
-      → (IsLowered rules judged flat → IsTrue told ↔ Derived) → Says Derived told
-  judge_says law flat true lowered tells = told_yes (IsLowered rules judged flat) lowered (λ l. (tells l).0 refl)
-      (law has rules judged x)
-  judge_says law flat false lowered tells = told_no (IsLowered rules judged flat) lowered
-      (λ l p. both_ways false refl ((tells l).1 p))
+  -- the answers of flat grammars
+  module _ (flat : Flat) (short : length x ≤ flat.limit) (letters : AreLetters has x) where
+    pub judge_says : DerivationIsDecided → FlatDerives → (said : Bool) → ∥ IsLowered rules judged flat ∥₁
+        → (IsTrue said ↔ DerivesLine flat x) → Says Derived said
+    judge_says law items true lowered answer = told_yes (IsLowered rules judged flat) lowered
+        (λ l. (items has rules judged flat x l short letters).0 (answer.0 refl)) (law has rules judged x)
+    judge_says law items false lowered answer = told_no (IsLowered rules judged flat) lowered
+        (λ l p. both_ways false refl (answer.1 ((items has rules judged flat x l short letters).1 p)))
 
-  pub verdict_says : DerivationIsDecided → FurthestIsFound → FurthestIsOne → (flat : Flat) (told : Verdict)
-      → ∥ TellsBeginnings has rules judged flat ∥₁ →
-      (TellsBeginnings has rules judged flat → IsVerdict has rules judged x told) → IsVerdict has rules judged x told
-  verdict_says law found one flat verdict.Yes pruned tells = told_yes (TellsBeginnings has rules judged flat) pruned
-      tells (law has rules judged x)
-  verdict_says law found one flat (verdict.No n) pruned tells = (
-    told_no (TellsBeginnings has rules judged flat) pruned (λ t. (tells t).0),
-    told_furthest one (TellsBeginnings has rules judged flat) pruned n (λ t. (tells t).1) (found has rules judged x),
-  )
+    pub verdict_says : DerivationIsDecided → FurthestIsFound → FurthestIsOne → FlatJudges → (said : Verdict)
+        → ∥ TellsBeginnings has rules judged flat ∥₁ → IsFlatVerdict flat x said → IsVerdict has rules judged x said
+    verdict_says law found one items verdict.Yes pruned is = told_yes (TellsBeginnings has rules judged flat) pruned
+        (λ t. items has rules judged flat x verdict.Yes t short letters is) (law has rules judged x)
+    verdict_says law found one items (verdict.No n) pruned is = (
+      told_no (TellsBeginnings has rules judged flat) pruned
+          (λ t. (items has rules judged flat x (verdict.No n) t short letters is).0),
+      told_furthest one (TellsBeginnings has rules judged flat) pruned n
+          (λ t. (items has rules judged flat x (verdict.No n) t short letters is).1) (found has rules judged x),
+    )
 
 -- each list of letters has an answer
 pub letters_answered : DerivationIsDecided → FurthestIsFound → (has : ℕ → Bool) (viable : Bool) (rules : List Rule)

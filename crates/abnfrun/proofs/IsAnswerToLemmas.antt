@@ -10,10 +10,10 @@ use Rattle.abnfcheck.specs.Derivable.{RuleDerives}
 use Rattle.abnfrun.specs.AbnfReply.{AreLettersOf, IsAnswerTo, IsMember, Reaches}
 use Rattle.abnfrun.specs.LetterAnswers.{IsAnswerOn, torn}
 use Rattle.abnfrun.proofs.IsAnswerOnLemmas.{DerivationIsDecided, FurthestIsFound, FurthestIsOne, letters_answered}
-use Rattle.abnfrun.proofs.IsAnswerOnLemmas.{whole_is_furthest}
 use Rattle.letters.specs.Letters.{has}
 use Rattle.letters.specs.Utf8Text.{IsLongestText, IsText, Spells, end}
 use Rattle.letters.specs.declared.alphabet.Alphabet.{Alphabet}
+use Rattle.refusedlines.proofs.CanFollowLemmas.{derived_is_furthest}
 use Rattle.letters.specs.declared.alphabet.Alphabet.TheVariants.{Bytes, Utf8}
 use Rattle.linejudge.specs.declared.answers.Answer.{Answer}
 use Rattle.linejudge.specs.declared.answers.Answer.TheVariants.{Yes, No, NoAfter}
@@ -127,7 +127,7 @@ module _ (viable : Bool) (rules : List Rule) (judged : ℕ) (line : List ℕ) wh
     record {
       of_line = points;
       are = (k, longest, spelled);
-      furthest = whole_is_furthest (has Utf8) rules judged points p;
+      furthest = derived_is_furthest (has Utf8) rules judged points p;
     },
   )
   torn_answer bad asked k points longest spelled No h = absurd (false≢true (sym h.0 ∙ asked))

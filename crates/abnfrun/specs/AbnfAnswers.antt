@@ -18,22 +18,22 @@ use Rattle.toolrun.specs.ToldNotes.{CutNotes, HintedNotes, ToldNotes}
 use Rattle.toolrun.specs.declared.settings.Mode.TheVariants.{Run, Check, Print}
 use Rattle.toolrun.specs.declared.settings.Settings.{Settings}
 
--- what is stated for a grammar's text and an input: the notes, each explained and with hints behind them if that is
+-- what is stated for a grammar's text and an input: the notes, each explained and with hints after them if that is
 -- asked, and what follows them
 pub data AbnfStates (text : List ℕ) (settings : Settings) (input : Input) : List ℕ → Reply → Type 0 where
-  -- the text has a fault, which is told, and explained if that is asked
+  -- the text has a fault, which is reported, and explained if that is asked
   refused : (fault : ReadFault) (why : List ℕ) → IsFaultOf text fault → fault ≢ Memory
       → Explained settings (Explains text fault) why → AbnfStates text settings input [] (refusal fault why)
-  -- its fault is told, and an allocation failed in explaining it
+  -- its fault is reported, and an allocation failed in explaining it
   unexplained : (fault : ReadFault) → IsFaultOf text fault → fault ≢ Memory → settings.explain ≡ true
       → AbnfStates text settings input [] (unexplained_fault fault)
-  -- the text is a grammar that is refused
+  -- the text is a grammar that notes reject
   noted : (definitions : List Definition) (notes : List Said) (told : List ℕ) → Reads text definitions
       → AreNotesOn definitions (rule_given settings) notes
       → HintedNotes settings (ExplainsAbnfNote text) (AreTextHints text settings) notes told →
       IsRefusedFor definitions (rule_given settings) → settings.mode ≢ Print
       → AbnfStates text settings input told (notes_alone 2)
-  -- it is a grammar that is not refused, and no more is asked
+  -- it is a grammar that no note rejects, and no more is asked
   checked : (definitions : List Definition) (notes : List Said) (told : List ℕ) → Reads text definitions
       → AreNotesOn definitions (rule_given settings) notes
       → HintedNotes settings (ExplainsAbnfNote text) (AreTextHints text settings) notes told →
@@ -46,7 +46,7 @@ pub data AbnfStates (text : List ℕ) (settings : Settings) (input : Input) : Li
       (IsRefusedFor definitions (rule_given settings) → ⊥) → settings.mode ≡ Run →
       JudgeReply (all_rules definitions) (judged_of definitions (rule_given settings)) settings input stated
       → AbnfStates text settings input told stated
-  -- an allocation failed in explaining its notes: the first of them are told
+  -- an allocation failed in explaining its notes: the first of them are written
   cut_notes : (definitions : List Definition) (notes : List Said) (told : List ℕ) → Reads text definitions
       → AreNotesOn definitions (rule_given settings) notes → CutNotes settings (ExplainsAbnfNote text) notes told
       → settings.mode ≢ Print → AbnfStates text settings input told (without_memory [] 0)

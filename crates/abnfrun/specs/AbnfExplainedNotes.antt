@@ -24,7 +24,7 @@ pub record IsReachLine (text : List ℕ) (start : Option (List ℕ)) (name line 
   pub is_chain : IsNameChain (all_rules definitions) start name chain
   pub is : line ≡ chain_told chain
 
--- it stands behind notes on names that no rule has, and on rules that hold prose
+-- it follows notes on names that no rule has, and on rules that hold prose
 abbrev pub IsReachBehind : List ℕ → Option (List ℕ) → NoteKind → List ℕ → List ℕ → Type 0
 IsReachBehind text start Undefined name line = IsReachLine text start name line
 IsReachBehind text start Prose name line = IsReachLine text start name line
@@ -38,7 +38,7 @@ pub record ExplainsAbnfNote (text : List ℕ) (start : Option (List ℕ)) (note 
   pub behind : IsReachBehind text start note.kind note.name line
   pub is : why ≡ lines ++ line
 
--- the code's rules are those of a text, so many, and behind them the core rules that it leaves alone
+-- the code's rules are those of a text, so many, and then the core rules that it leaves alone
 pub record AreAllRules (text : List ℕ) (rules : table.Rules Elem) (count : ℕ) : Type 0 where
   pub definitions : List Definition
   pub reads : Reads text definitions

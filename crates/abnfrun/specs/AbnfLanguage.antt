@@ -18,7 +18,7 @@ IsReadAs text rules core redefined early =
     ((definitions : List Definition) × Reads text definitions × IsTableOf definitions rules redefined early)
     × IsCoreTable core
 
--- the text's grammar with its notes, ready to judge lines where it is not refused
+-- the text's grammar with its notes, ready to judge lines where no note rejects it
 pub record IsChecked (text : List ℕ) (given : Option (List ℕ)) (notes : List Said) (sound : Option Grammar) : Type
     0 where
   pub definitions : List Definition

@@ -29,7 +29,7 @@ AreNotesOn definitions given notes =
     AreNotes (file_rules definitions) (all_rules definitions) (again_in definitions)
     (earlies (body_of core_list) 0 [] definitions) given notes
 
--- the grammar of these definitions is refused
+-- notes reject the grammar of these definitions
 abbrev pub IsRefusedFor : List Definition → Option (List ℕ) → Type 0
 IsRefusedFor definitions given = IsRefused (file_rules definitions) (all_rules definitions) (again_in definitions)
     (judged_of definitions given)

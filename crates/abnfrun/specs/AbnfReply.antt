@@ -28,20 +28,20 @@ abbrev pub IsMember : Alphabet → List Rule → ℕ → List ℕ → Type 0
 IsMember Bytes rules judged line = RuleDerives (has Bytes) rules judged line
 IsMember Utf8 rules judged line = (points : List ℕ) × Spells points line × RuleDerives (has Utf8) rules judged points
 
--- The letters of a line: its bytes, or the code points of its longest beginning that is UTF-8, which is the whole line
--- if the line is UTF-8.
+-- The letters of a line: its bytes, or the code points of its longest prefix that is UTF-8, which is the whole line if
+-- the line is UTF-8.
 abbrev pub AreLettersOf : Alphabet → List ℕ → List ℕ → Type 0
 AreLettersOf Bytes line x = x ≡ line
 AreLettersOf Utf8 line x = (k : ℕ) × IsLongestText line k × Spells x (take k line)
 
--- the longest viable beginning of a line's letters has n letters
+-- the longest viable prefix of a line's letters has n letters
 pub record Reaches (letters : Alphabet) (rules : List Rule) (judged : ℕ) (line : List ℕ) (n : ℕ) : Type 0 where
   pub of_line : List ℕ
   pub are : AreLettersOf letters line of_line
   pub furthest : IsFurthest (has letters) rules judged of_line n
 
--- The answer to a line: yes exactly if the judged rule derives it. If viable beginnings are asked for, a no tells the
--- length of the longest one.
+-- The answer to a line: yes exactly if the judged rule derives it. If the longest viable prefix is asked for, a no has
+-- its length.
 abbrev pub IsAnswerTo : Alphabet → Bool → List Rule → ℕ → List ℕ → Answer → Type 0
 IsAnswerTo letters viable rules judged line Yes = IsMember letters rules judged line
 IsAnswerTo letters viable rules judged line No = (viable ≡ false) × (IsMember letters rules judged line → ⊥)
@@ -56,11 +56,11 @@ AnswersFor rules judged settings = IsAnswerTo settings.letters settings.viable r
 abbrev pub form_of : Settings → LineForm
 form_of settings = record { limit = settings.limit; end = cond settings.nul 0 (code "\n") }
 
--- what explains a refused line of that number
+-- what explains a rejected line of that number
 abbrev pub RefusalFor : List Rule → ℕ → Settings → List ℕ → ℕ → List ℕ → Type 0
 RefusalFor rules judged settings = IsRefusalTold settings.letters rules judged
 
--- each line of the input is judged by that rule, and the first refused ones are explained if that is asked; no
+-- each line of the input is judged by that rule, and the first rejected ones are explained if that is asked; no
 -- allocation fails
 abbrev pub JudgeReplies : List Rule → ℕ → Settings → Input → Reply → Type 0
 JudgeReplies rules judged settings input reply = LinesReply (AnswersFor rules judged settings) settings.explain

@@ -6,7 +6,7 @@ use Rattle.abnfcheck.specs.Derivable.{RuleDerives}
 use Rattle.linejudge.specs.declared.answers.Answer.{Answer}
 use Rattle.linejudge.specs.declared.answers.Answer.TheVariants.{Yes, No, NoAfter}
 
--- yes: the rule derives them; no: it does not, and n is told if viable beginnings are asked for
+-- yes: the rule derives them; no: it does not, and n is given if the longest viable prefix is asked for
 abbrev pub IsAnswerOn : (ℕ → Bool) → Bool → List Rule → ℕ → List ℕ → Answer → Type 0
 IsAnswerOn has viable rules judged x Yes = RuleDerives has rules judged x
 IsAnswerOn has viable rules judged x No = (viable ≡ false) × (RuleDerives has rules judged x → ⊥)

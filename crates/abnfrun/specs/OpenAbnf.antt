@@ -16,7 +16,7 @@ use Rattle.toolrun.specs.Reply.{Reply}
 use Rattle.toolrun.specs.Status.{code_of}
 use Rattle.toolrun.specs.declared.settings.Settings.{Settings}
 
--- lines are judged by the rules of these definitions, the core rules behind them, as settings ask
+-- lines are judged by the rules of these definitions, the core rules after them, as settings ask
 pub record IsJudgeOf (definitions : List Definition) (settings : Settings) (judge : OpenJudge) : Type 0 where
   pub rules : rules_of judge.grammar.rules ≡ all_rules definitions
   pub judged : judge.grammar.judged ≡ judged_of definitions (rule_given settings)
@@ -24,7 +24,7 @@ pub record IsJudgeOf (definitions : List Definition) (settings : Settings) (judg
   pub viable : judge.viable ≡ settings.viable
   pub limit : judge.limit ≡ settings.limit
 
--- The text is a grammar with these notes, which is refused; or lines are judged by it.
+-- The text is a grammar with these notes, which reject it; or lines are judged by it.
 pub record IsOpened (text : List ℕ) (settings : Settings) (notes : List Said) (judge : Option OpenJudge) : Type 0 where
   pub definitions : List Definition
   pub reads : Reads text definitions
@@ -36,13 +36,13 @@ pub record IsOpened (text : List ℕ) (settings : Settings) (notes : List Said) 
 abbrev pub line_alone : Settings → List ℕ → Input
 line_alone settings line = record { bytes = line ++ (form_of settings).end ∷ []; fault = false }
 
--- what is told of the line with that answer, if it is refused and explanations are asked for
+-- the explanation of the line with that answer, if it is rejected and explanations are asked for
 abbrev pub TellsAlone : OpenJudge → Settings → List ℕ → Answer → List ℕ → Type 0
 TellsAlone judge settings = TellsLine
     (IsAnswerTo judge.letters judge.viable (rules_of judge.grammar.rules) judge.grammar.judged) settings.explain
     (IsRefusalTold judge.letters (rules_of judge.grammar.rules) judge.grammar.judged) at_front
 
--- the reply to the input that is one line: its answer, and what is told of it
+-- the reply to the input that is one line: its answer, and its explanation
 abbrev pub answer_alone : Settings → List ℕ → Answer → List ℕ → Reply
 answer_alone settings line said told = record {
   out = answer_text said;

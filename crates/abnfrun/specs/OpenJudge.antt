@@ -9,22 +9,23 @@ use Rattle.lowering.specs.ToldBeginnings.{TellsBeginnings}
 use Rattle.letters.specs.Letters.{has}
 use Rattle.letters.specs.declared.alphabet.Alphabet.{Alphabet}
 
--- a grammar, what the letters of a line are, whether viable beginnings are told, and how many bytes a line may have
+-- a grammar, what the letters of a line are, whether the longest viable prefix is asked for, and how many bytes a line
+-- may have
 pub record OpenJudge : Type 0 where
   pub grammar : Grammar
   pub letters : Alphabet
   pub viable : Bool
   pub limit : ℕ
 
--- The flat grammar is that of the grammar, for what is told of lines; the automaton, if there is one, is of it.
+-- The flat grammar is that of the grammar, for what is asked of lines; the automaton, if there is one, is of it.
 pub record IsReadyFor (grammar : Grammar) (letters : Alphabet) (viable : Bool) (flat : Flat) (automaton : Option Flat)
     : Type 0 where
   pub lowered : viable ≡ false → IsLowered (rules_of grammar.rules) grammar.judged flat
   pub tells : viable ≡ true → TellsBeginnings (has letters) (rules_of grammar.rules) grammar.judged flat
   pub same : IfSome automaton (λ a. a ≡ flat)
 
--- The flat grammar tells viable beginnings of lines of one letter more than so many. Refused lines of so many are
--- explained by it.
+-- The flat grammar answers for the viable prefixes of lines of one letter more than so many. It explains rejected lines
+-- of so many.
 pub record ExplainsLines (rules : List Rule) (judged : ℕ) (letters : Alphabet) (limit : ℕ) (more : Flat) : Type 0 where
   pub longer : more.limit ≡ limit + 1
   pub tells : TellsBeginnings (has letters) rules judged more

@@ -14,7 +14,7 @@ pub struct AbnfPlaces {
     pub places: Places,
     /// The chains of names from the judged rule.
     pub chains: NameChains,
-    /// The rules of the text, and behind them the core rules that it leaves alone.
+    /// The rules of the text, and then the core rules that it leaves alone.
     pub rules: RuleTable<Elem>,
     /// How many rules the text has.
     pub count: usize,

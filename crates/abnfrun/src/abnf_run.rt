@@ -12,40 +12,42 @@ use std::alloc::Global;
 use toolrun::{Settings, Status, run_tool};
 
 /// Judges the lines that a reader gives by a grammar: writes the answer to each on `out`, and why it stopped on `err`.
-/// None of the three may have failed before, and the reader may not have told its end.
+/// All three must be fresh, and the reader must not have given its end.
 ///
-/// - The grammar is in ABNF (RFC 5234, RFC 7405). One that has a fault is told by that fault's line, status `Refused`,
-///   and nothing is read. If the settings ask for explanations, behind that line stand those that explain it: a picture
-///   of the token that decides, its column, exactly the kinds of tokens that could stand there, and a usual mistake.
+/// - The grammar is in ABNF (RFC 5234, RFC 7405). If it has a fault, `err` gets the line of that fault, status
+///   `Refused`, and nothing is read. If the settings ask for explanations, that line is followed by those that explain
+///   it: a picture of the token that decides, its column, exactly the kinds of tokens that could stand there, and a
+///   usual mistake.
 /// - If it is to be printed, its canonical text is written on `out`, `Done`; but if it defines a rule again, the notes
 ///   on that are written on `err`, `Refused`. Nothing is read, and no other check is made.
-/// - Else the notes on it are written on `err`. If it is refused, or only to be checked, that is all: `Refused`, or
-///   `Done`, and nothing is read.
-/// - If the settings ask for explanations, behind a note on a rule that is defined again, extended early, or not used,
-///   stand the lines of its definitions; behind others the first use of a name that is not defined, and the first prose
-///   of a rule, with the names of the rules by which the judged rule reaches these. Behind all notes stand hints on
-///   rules that derive nothing, on reversed ranges, and on a judged rule that derives no line, unless the grammar is to
-///   be printed.
+/// - Else the notes on it are written on `err`. If they reject it, or it is only to be checked, that is all: `Refused`,
+///   or `Done`, and nothing is read.
+/// - If the settings ask for explanations, a note on a rule that is defined again, extended early, or not used, is
+///   followed by the lines of its definitions; others by the first use of a name that is not defined, and the first
+///   prose of a rule, with the names of the rules by which the judged rule reaches these. All notes are followed by
+///   hints on rules that derive nothing, on reversed ranges, and on a judged rule that derives no line, unless the
+///   grammar is to be printed.
 /// - A line ends before an LF, or before a NUL byte if the settings say so, and a last piece without an end is a line
 ///   if it is not empty; all other bytes belong to their line. It is answered by `yes` exactly if the judged rule
 ///   derives it: the rule named in the settings, or else the first. The letters of a line are its bytes; or, if the
-///   settings say so, its code points in UTF-8, and then a line that is not UTF-8 is not derived. The run ends behind
+///   settings say so, its code points in UTF-8, and then a line that is not UTF-8 is not derived. The run ends after
 ///   the last line with `Done` if all answers are `yes`, else with `NoMatch`.
-/// - A line that is not derived is answered by `no`. If the settings ask for viable beginnings, it is answered by `no
-///   N`: the first N of its letters, and no more, begin something that the judged rule derives. Of a line that is not
-///   UTF-8 these letters are those of its longest beginning that is.
-/// - If the settings ask for explanations, on `err` stands before the message in which the run ends: of each of the
-///   first 16 lines that are not derived, where it is refused and which letters can stand there, all of them and no
-///   other, and whether the line can end there; and how many more there are.
+/// - A line that is not derived is answered by `no`. If the settings ask for the longest viable prefix, it is answered
+///   by `no N`, where that prefix has N letters. Of a line that is not UTF-8 these letters are those of its longest
+///   prefix that is.
+/// - If the settings ask for explanations, `err` gets, before the message in which the run ends: for each of the first
+///   16 lines that are not derived, where it is rejected and which letters can follow there, all of them and no other,
+///   and whether the line can end there; and how many more there are.
 /// - A line of more than `limit` bytes is not answered: `line K longer than L bytes`, `Overlong`; K counts from 1.
 /// - After a fault of the reader a line is judged only if its end was read: else `read error`, `Fault`. So is an input
 ///   of 9,223,372,036,854,775,807 bytes taken to end.
-/// - Where a writer fails, nothing more is written to it, and the status is at least `Fault`. A fault of `out` is told
-///   by `write error` on `err`: right behind the notes, or behind all else where the flush of `out` failed. Where `err`
-///   fails in the notes, nothing is read, and nothing is written on `out`. Writers that have not failed are flushed
-///   once at the end, `out` first.
-/// - If an allocation fails, the answers before stand whole: `out of memory`, `NoMemory`. In an explanation the fault's
-///   line stands before that, without what explains it, or the first notes do, the last perhaps without.
+/// - Where a writer fails, nothing more is written to it, and the status is at least `Fault`. A fault of `out` is
+///   reported by `write error` on `err`: right after the notes, or after all else where the flush of `out` failed.
+///   Where `err` fails in the notes, nothing is read, and nothing is written on `out`. Writers that have not failed are
+///   flushed once at the end, `out` first.
+/// - If an allocation fails, the answers before stand whole: `out of memory`, `NoMemory`. If that happens in an
+///   explanation, the fault's line comes before it, without its explanation, or the first notes do, the last perhaps
+///   without its own.
 pub fn run_abnf<R: Source, O: Sink, E: Sink>(
     alloc: Global,
     grammar: &[u8],

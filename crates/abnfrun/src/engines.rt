@@ -1,17 +1,11 @@
-//! The two judges of letters: an automaton, which is asked first, and a chart.
-ghost use Rattle.std.specs.Prelude.{◌≡◌, ◌↔◌, ◌≤◌, ℕ, List, length, map, IfOk, IfSome, IsTrue};
-ghost use Rattle.abnfcheck.specs.Derivable.{RuleDerives};
-ghost use Rattle.abnfread.specs.Element.{Rule};
-ghost use Rattle.lowering.specs.Lowered.{IsLowered};
-ghost use Rattle.lowering.specs.ToldBeginnings.{TellsBeginnings};
-ghost use Rattle.lowering.specs.Verdicts.{IsVerdict};
-ghost use Rattle.letters.specs.Letters.{has};
+//! The two judges of letters: an automaton, which is asked first, and a chart. Both judge by a flat grammar.
+ghost use Rattle.std.specs.Prelude.{◌≡◌, ◌↔◌, ◌≤◌, length, map, IfOk, IfSome, IsTrue};
+ghost use Rattle.flatgrammar.specs.FlatVerdicts.{DerivesLine, IsFlatVerdict};
 
 use earley::{Chart, judge, viable};
-use flatgrammar::Flat;
+use flatgrammar::{Flat, Verdict};
 use lazydfa::Automaton;
 use letters::Letter;
-use lowering::Verdict;
 use ruletable::Memory;
 
 /// The memory that letters are judged in: that of a chart, and the automaton that is asked first, if there is one.
@@ -21,13 +15,11 @@ pub(crate) struct Engines {
     pub(crate) automaton: Option<Automaton>,
 }
 
-// Tells whether the judged rule derives letters, if there is an automaton of the flat grammar and it can tell.
+// Returns whether a flat grammar derives symbols, if there is an automaton of it and it can answer.
 fn judged_by<L: Letter>(automaton: &mut Option<Automaton>, flat: &Flat, line: &[L]) -> Option<bool>
-    requires within { length line.now ≤ flat.now.limit }
     requires flat { IfSome automaton.old (λ a. a ≡ flat.now) }
     ensures flat { IfSome automaton.new (λ a. a ≡ flat.now) }
-    ensures derives { IfSome result (λ yes. (rules : List Rule) (judged : ℕ) → IsLowered rules judged flat.now →
-        IsTrue yes ↔ RuleDerives (has L.ALPHABET) rules judged (map L.number line.now)) }
+    ensures answer { IfSome result (λ yes. IsTrue yes ↔ DerivesLine flat.now (map L.number line.now)) }
 {
     let Some(automaton) = automaton else {
         return None;
@@ -38,18 +30,15 @@ fn judged_by<L: Letter>(automaton: &mut Option<Automaton>, flat: &Flat, line: &[
     }
 }
 
-// Tells how far letters are viable, if there is an automaton of the flat grammar and it can tell.
+// Returns the verdict of a flat grammar on symbols, if there is an automaton of it and it can answer.
 fn viable_by<L: Letter>(
     automaton: &mut Option<Automaton>,
     flat: &Flat,
     line: &[L],
 ) -> Option<Verdict>
-    requires within { length line.now ≤ flat.now.limit }
     requires flat { IfSome automaton.old (λ a. a ≡ flat.now) }
     ensures flat { IfSome automaton.new (λ a. a ≡ flat.now) }
-    ensures verdict { IfSome result (λ told. (rules : List Rule) (judged : ℕ) →
-        TellsBeginnings (has L.ALPHABET) rules judged flat.now →
-        IsVerdict (has L.ALPHABET) rules judged (map L.number line.now) told) }
+    ensures verdict { IfSome result (IsFlatVerdict flat.now (map L.number line.now)) }
 {
     let Some(automaton) = automaton else {
         return None;
@@ -61,14 +50,12 @@ fn viable_by<L: Letter>(
 }
 
 impl Engines {
-    /// Tells whether the judged rule derives letters, no more than the flat grammar serves. `Memory` if an allocation
-    /// fails.
+    /// Returns whether a flat grammar derives symbols, no more than it serves. `Memory` if an allocation fails.
     pub(crate) fn judge<L: Letter>(&mut self, flat: &Flat, line: &[L]) -> Result<bool, Memory>
         requires within { length line.now ≤ flat.now.limit }
         requires flat { IfSome self.old.automaton (λ a. a ≡ flat.now) }
         ensures flat { IfSome self.new.automaton (λ a. a ≡ flat.now) }
-        ensures derives { IfOk result (λ yes. (rules : List Rule) (judged : ℕ) → IsLowered rules judged flat.now →
-            IsTrue yes ↔ RuleDerives (has L.ALPHABET) rules judged (map L.number line.now)) }
+        ensures answer { IfOk result (λ yes. IsTrue yes ↔ DerivesLine flat.now (map L.number line.now)) }
     {
         match judged_by(&mut self.automaton, flat, line) {
             Some(yes) => Ok(yes),
@@ -76,18 +63,15 @@ impl Engines {
         }
     }
 
-    /// Tells whether the judged rule derives letters, no more than the flat grammar serves, or else how many of them
-    /// are viable. `Memory` if an allocation fails.
+    /// Returns the verdict of a flat grammar on symbols, no more than it serves. `Memory` if an allocation fails.
     pub(crate) fn viable<L: Letter>(&mut self, flat: &Flat, line: &[L]) -> Result<Verdict, Memory>
         requires within { length line.now ≤ flat.now.limit }
         requires flat { IfSome self.old.automaton (λ a. a ≡ flat.now) }
         ensures flat { IfSome self.new.automaton (λ a. a ≡ flat.now) }
-        ensures verdict { IfOk result (λ told. (rules : List Rule) (judged : ℕ) →
-            TellsBeginnings (has L.ALPHABET) rules judged flat.now →
-            IsVerdict (has L.ALPHABET) rules judged (map L.number line.now) told) }
+        ensures verdict { IfOk result (IsFlatVerdict flat.now (map L.number line.now)) }
     {
         match viable_by(&mut self.automaton, flat, line) {
-            Some(told) => Ok(told),
+            Some(verdict) => Ok(verdict),
             None => viable(&mut self.chart, flat, line),
         }
     }

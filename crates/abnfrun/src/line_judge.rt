@@ -18,19 +18,19 @@ use crate::engines::Engines;
 use abnfcheck::{SoundAbnf, derivation_is_decided, furthest_is_found};
 use earley::Chart;
 use feed::Source;
-use flatgrammar::Flat;
+use flatgrammar::{Flat, Verdict};
 use lazydfa::Automaton;
 use letters::{Alphabet, CodePoint, Letter, decode, utf8_is_decided, utf8_len};
 use linejudge::{Answer, Judge, LineForm, run_lines};
-use lowering::{Verdict, lower};
+use lowering::{items_tell, lower, values_are_letters};
 use prune::lower_viable;
 use refusedlines::{Explainer, RefusedLine, explain_refused};
 use ruletable::{Memory, Sink, WriteFault};
 use std::alloc::Global;
 use toolrun::{Ending, Settings, Stop};
 
-/// Answers lines by a grammar: whether its judged rule derives them, and how far they begin something that it derives
-/// if that is asked for. It explains refused lines by the flat grammar for lines of one letter more, if there is one.
+/// Answers lines by a grammar: whether its judged rule derives them, and the length of their longest viable prefix if
+/// that is asked for. It explains rejected lines by the flat grammar for lines of one letter more, if there is one.
 #[derive(Drop)]
 pub struct LineJudge<'a> {
     pub(crate) grammar: &'a SoundAbnf,
@@ -92,6 +92,8 @@ fn judge_letters<L: Letter>(
 {
     derivation_is_decided();
     furthest_is_found();
+    values_are_letters(line);
+    items_tell();
     if judges.viable {
         return match engines.viable(judges.flat, line)? {
             Verdict::Yes => Ok(Answer::Yes),
@@ -115,7 +117,7 @@ fn judge_bytes(judges: &LineJudge<'_>, work: &mut Work, line: &[u8]) -> Result<A
     Ok(said)
 }
 
-/// Returns the answer to a line by the answer to its longest beginning that is UTF-8, of so many letters, where that is
+/// Returns the answer to a line by the answer to its longest prefix that is UTF-8, of so many letters, where that is
 /// not the whole line.
 fn torn_by(said: Answer, count: usize) -> Answer
     ensures { result ≡ torn count said }
@@ -166,7 +168,7 @@ fn judge_points(judges: &LineJudge<'_>, work: &mut Work, line: &[u8]) -> Result<
     Ok(Answer::No)
 }
 
-/// Returns the lines that explain a refused line of that number, by the flat grammar for lines of one letter more.
+/// Returns the lines that explain a rejected line of that number, by the flat grammar for lines of one letter more.
 /// `Memory` if an allocation fails.
 fn explain_line(
     judges: &LineJudge<'_>,
@@ -230,7 +232,7 @@ impl Judge<Work> for LineJudge<'_> {
                 };
                 explain_line(self, more, work, refused)
             }
-            // its contract says that refused lines are explained
+            // its contract says that rejected lines are explained
             None => Err(Memory),
         }
     }
@@ -241,7 +243,7 @@ impl Judge<Work> for LineJudge<'_> {
 }
 
 /// Lowers a grammar as settings ask for: for lines within their limit, and its productive parts alone if they ask for
-/// viable beginnings. `Memory` if an allocation fails.
+/// viable prefixes. `Memory` if an allocation fails.
 pub(crate) fn lowered(
     alloc: Global,
     grammar: &SoundAbnf,
@@ -259,8 +261,8 @@ pub(crate) fn lowered(
     lower(alloc, grammar, settings.limit)
 }
 
-/// Lowers a grammar for lines of one letter more than settings allow, by which refused lines are explained, if settings
-/// ask for that. `Memory` if an allocation fails.
+/// Lowers a grammar for lines of one letter more than settings allow, by which rejected lines are explained, if
+/// settings ask for that. `Memory` if an allocation fails.
 fn explainer_of(
     alloc: Global,
     grammar: &SoundAbnf,
@@ -298,7 +300,7 @@ fn line_form(settings: &Settings<'_>) -> LineForm
 }
 
 /// Judges the lines of what a reader gives by a grammar, and writes the answer to each: `yes`, `no`, or `no` and a
-/// number. If settings ask for that, it tells what explains the first refused lines.
+/// number. If settings ask for that, the ending has the explanations of the first rejected lines.
 pub fn judge_lines<R: Source, O: Sink>(
     alloc: Global,
     grammar: &SoundAbnf,

@@ -15,15 +15,15 @@ use abnfread::{Elem, read_abnf};
 use ruletable::{Memory, Note, NoteKind, RuleTable};
 use std::alloc::Global;
 
-// The rules of a text, and behind them the core rules that it leaves alone; and how many the text has.
+// The rules of a text, and then the core rules that it leaves alone; and how many the text has.
 #[derive(Drop)]
 struct AllRules {
     rules: RuleTable<Elem>,
     count: usize,
 }
 
-// Returns the rules of a text, and behind them the core rules that it leaves alone. A text whose grammar has notes
-// reads, so that it is memory that fails here.
+// Returns the rules of a text, and then the core rules that it leaves alone. A text whose grammar has notes reads, so
+// only an allocation fails here.
 fn all_rules_of(alloc: Global, text: &[u8]) -> Result<AllRules, Memory>
     ensures { IfOk result (λ all. AreAllRules text.now all.rules all.count) }
 {
@@ -75,7 +75,7 @@ fn push_reached(
     Ok(())
 }
 
-// Adds the line that stands behind those of a note, if one does.
+// Adds the line that follows those of a note, if one does.
 fn push_behind(
     alloc: Global,
     out: &mut Vec<u8>,

@@ -1,4 +1,4 @@
-//! The law of a grammar that was read once: what it answers is what a run tells.
+//! The law of a grammar that was read once: it answers as a run does.
 ghost use Rattle.std.specs.Prelude.{◌≡◌, ◌≤◌, ℕ, List, Some, length};
 ghost use Rattle.abnfrun.specs.AbnfExplainedNotes.{ExplainsAbnfNote};
 ghost use Rattle.abnfread.specs.AbnfViews.{rules_of};
@@ -14,8 +14,8 @@ ghost use Rattle.toolrun.specs.ToldNotes.{HintedNotes};
 ghost use Rattle.toolrun.specs.declared.settings.Mode.TheVariants.{Run};
 ghost use Rattle.toolrun.specs.declared.settings.Settings.{Settings};
 
-/// Says that the answer of an open grammar to a line is what a run of its text states for that line alone, behind its
-/// notes and hints, with what explains a refused line if that is asked. It does nothing.
+/// Returns nothing. Its contract is a law: the answer of an open grammar to a line is what a run of its text states for
+/// that line alone, after its notes and hints, with the explanation of a rejected line if that is asked.
 pub fn answers_as_a_run()
     ensures { (text line : List ℕ) (settings : Settings) (notes : List Said) (told : List ℕ) (judge : OpenJudge)
         (said : Answer) (why : List ℕ) → settings.mode ≡ Run → IsOpened text settings notes (Some judge) →

@@ -51,7 +51,7 @@ impl AbnfJudge {
         self.flat.limit()
     }
 
-    /// Returns the answer to a line, as a run of the grammar tells it. `Memory` if an allocation fails.
+    /// Returns the answer to a line, as a run of the grammar writes it. `Memory` if an allocation fails.
     pub fn judge(&mut self, line: &[u8]) -> Result<Answer, Memory>
         requires within { length line.now ≤ self.old.limit }
         ensures same { self.new ≡ self.old }
@@ -74,7 +74,7 @@ impl AbnfJudge {
 pub struct OpenedAbnf {
     /// What there is to say of the grammar, in order.
     pub notes: Vec<Note>,
-    /// What judges lines by it, unless it is refused.
+    /// What judges lines by it, unless notes reject it.
     pub judge: Option<AbnfJudge>,
 }
 
@@ -116,8 +116,8 @@ fn judge_by(alloc: Global, grammar: SoundAbnf, settings: &Settings<'_>) -> Resul
 }
 
 /// Reads and checks a grammar's text, and returns the notes on it and what judges lines by it as settings ask: by the
-/// rule that they name, within their limit. They say what letters are, and whether viable beginnings are told; all else
-/// of them is not looked at. The text's fault if it is not a grammar, or if an allocation fails.
+/// rule that they name, within their limit. They say what letters are, and whether the longest viable prefix is asked
+/// for; all else of them is not looked at. The text's fault if it is not a grammar, or if an allocation fails.
 pub fn open_abnf(
     alloc: Global,
     text: &[u8],

@@ -35,7 +35,7 @@ use Rattle.abnftexts.specs.declared.run.JoinForm.{JoinForm}
 use Rattle.abnftexts.specs.declared.run.JoinForm.TheVariants.{Plain, Canonical, Listed}
 use Rattle.abnftexts.proofs.SpelledRulesLemmas.{joined-long}
 
--- it is not want of memory
+-- it is not out of memory
 abbrev pub IsTextFault : ReadFault → Type 0
 IsTextFault (Syntax line) = Unit {0}
 IsTextFault (Depth line) = Unit {0}

@@ -26,7 +26,7 @@ standing-seen f (fate ∷ fates) (x ∷ xs) = elim (cases_Bool (has_stayed fate)
   | inr e ↦ rw e (standing-seen f fates xs)
 ]
 
--- the row at a place, seen otherwise
+-- the row at a position, seen otherwise
 pub place-there : (places : List RulePlace) (n : ℕ) (place : RulePlace) → true ≡ ltb n (length places)
     → place ≡ get_or places n place → slice_get (map lines_placed places) n ≡ Some (lines_placed place)
 place-there places n place low is =
@@ -97,7 +97,7 @@ gathered-all places sp rules sr told listed fates joined are list stand_places s
     subst (λ (l : List ℕ). IsStandingJoined (standing (fates_of given) rows) (standing (fates_of given) given) told l
     joined) c two
 
--- what is known of a result tells something else
+-- what is known of a result implies something else
 pub ok-more : {T E : Type 0} (P Q : T → Type 0) (r : Result T E) → ((x : T) → P x → Q x) → IfOk r P → IfOk r Q
 ok-more P Q (Ok x) more h = more x h
 ok-more P Q (Err e) more h = tt

@@ -42,7 +42,7 @@ module _ (one : OneReading) where
     written-same (canonical some reads) (canonical some_too reads_too) =
         ap (λ (ds : List Definition). canonical_of ds) (one.definitions _ _ _ reads reads_too)
 
-    -- what is written is refused for no fault
+    -- what is written is rejected for no fault
     not-refused : {form : JoinForm} {t : List ℕ} → IsWrittenAs j form t → form ≢ Listed → (fault : ReadFault)
         → IsFaultOf j.grammar fault → fault ≢ faults.Memory → j.grammar ≢ [] → ⊥
     not-refused a_list no_list fault f n some = no_list refl

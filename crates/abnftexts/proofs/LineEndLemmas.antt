@@ -15,7 +15,7 @@ use Rattle.abnfread.specs.AbnfSlices.{lbrack, rbrack, counted, star, text, cased
 use Rattle.abnfread.specs.BaseDigits.{is_digit, Tells, binary, decimals, hexadecimal}
 use Rattle.abnftexts.specs.LinkedTexts.{EndsLine, lf, behind_byte}
 
--- a byte begins such a text, and x stands behind it and before b
+-- a byte begins such a text, and x stands after it and before b
 record Headed (c : ℕ) (x t b : List ℕ) : Type 0 where
   rest : List ℕ
   is_headed : t ≡ c ∷ rest
@@ -31,7 +31,7 @@ first-back b p (behind_byte {bytes} l) e = record {
   line = l;
 }
 
--- what holds of the longer text and s holds of the text, up to a place that is as far before its end
+-- what holds of the longer text and s holds of the text, up to a position that is as far before its end
 pub record Back (P : List ℕ → List ℕ → Type 0) (t b s : List ℕ) : Type 0 where
   pub rest : List ℕ
   pub same : s ≡ rest ++ b
@@ -86,7 +86,7 @@ module _ {base : ℕ} (no : is_digit base 10 ≡ false) (b : List ℕ) where
   dotted-on no_dot = no_dot
   dotted-on (dot d h) = dot (digits-on d) (dotted-on h)
 
-  -- a dot and digits, where the rest is told of
+  -- a dot and digits, where the rest is known
   dotted-from : {t bs m s : List ℕ} → EndsLine t → 46 ∷ bs ≡ t ++ b → Digits base bs m
       → ((v : List ℕ) → EndsLine v → m ≡ v ++ b → Back (Dotted base) v b s) → Back (Dotted base) t b s
   dotted-from l e d f =
@@ -317,7 +317,7 @@ stands-line {t = t} {r} l h =
     at-line : {u v : List ℕ} → u ≡ v → EndsLine v → EndsLine u
     at-line e h = rw e h
 
--- behind white space such a text ends, or LF ends what is left
+-- after white space such a text ends, or LF ends what is left
 pub data LeftLine : List ℕ → Type 0 where
   no_text : LeftLine []
   some_text : {t : List ℕ} → EndsLine t → LeftLine t
@@ -334,7 +334,7 @@ white-line l no_more = l
 white-line (some_text l) (piece p w) = white-line (piece-line l p) w
 white-line no_text (piece p w) = elim p [ ]
 
--- what holds of the longer text and s holds of the text, up to a place where the text ends or LF ends what is left
+-- what holds of the longer text and s holds of the text, up to a position where the text ends or LF ends what is left
 pub record LeftBack (P : List ℕ → List ℕ → Type 0) (t b s : List ℕ) : Type 0 where
   pub rest : List ℕ
   pub same : s ≡ rest ++ b

@@ -1,4 +1,4 @@
--- What texts spell one behind the other, and how that is what they read as.
+-- What texts spell one after another, and how that is what they read as.
 -- Serves: joined_reading, linked_reading
 use Rattle.std.proofs.Common.{◌≡◌, ℕ, nat_le, ◌-◌, ◌≤◌, ◌&&◌, not, Bool, true, false, Option, Some, None, List, [], ◌∷◌}
 use Rattle.std.proofs.Common.{◌++◌, length, map, refl, sym, ap, ◌∙◌, arith}
@@ -9,7 +9,6 @@ use Rattle.lexer.specs.TokenLists.{Tok, tok, last_one, one_more}
 use Rattle.lexer.specs.SliceEnds.{no_more, found, bad, at_end}
 use Rattle.lexer.specs.Viability.{say_none, say_more}
 use Rattle.lexer.specs.declared.limits.TheConstants.{MAX_GRAMMAR, MAX_OPEN}
-use Rattle.lexer.proofs.ViabilityLemmas.{one-words}
 use Rattle.abnfread.specs.declared.kind.AbnfKind.{AbnfKind}
 use Rattle.abnfread.specs.AbnfKinds.{ends_list}
 use Rattle.abnfread.specs.AbnfReading.{Reads}
@@ -21,23 +20,11 @@ use Rattle.abnfread.specs.Element.{Definition}
 use Rattle.abnfread.specs.MarkedTokens.{marked, begins_rule, indent_at, margin, marks}
 use Rattle.abnfread.proofs.AbnfFirstLemmas.{letter-dark}
 use Rattle.abnfread.proofs.IndentLemmas.{margin-is}
-use Rattle.abnfread.proofs.SaysKindLemmas.{one-word}
 use Rattle.abnftexts.specs.LinkedTexts.{EndsLine, SpellsAtMargin, moved_definition}
 use Rattle.abnftexts.proofs.LinkedTokenLemmas.{tells-first, tells-second}
 use Rattle.abnftexts.proofs.MovedWordLemmas.{words_behind, grammar-behind, grammar-linked, shallow-behind}
 use Rattle.abnftexts.proofs.MovedWordLemmas.{shallow-linked}
 use Rattle.abnftexts.proofs.MovedWordLemmas.{small-behind, small-linked}
-
--- the words that pass no limit are those that the tokens say
-module _ {text : List ℕ} {ds : List Definition} (h : SpellsAtMargin text ds) where
-  words-within : h.within.words ≡ h.words
-  words-within = let w = h.within in one-words Says one-word w.say h.say
-
-  pub shallow-words : IsShallow MAX_OPEN 0 h.words
-  shallow-words = let w = h.within in let e = words-within in let s = w.shallow in rw e at s
-
-  pub small-words : AreSmall h.words
-  small-words = let w = h.within in let e = words-within in let s = w.small in rw e at s
 
 pub spells-linked : {a b : List ℕ} {first second : List Definition} → EndsLine a → SpellsAtMargin a first
     → SpellsAtMargin b second → SpellsAtMargin (a ++ b) (first ++ map (moved_definition (length a)) second)
@@ -48,8 +35,8 @@ spells-linked {a} {b} {first} {second} l h k =
     let whole = t.whole in
     let spelled : Grammar (t.front ++ word t.gap false End ∷ []) first = (let g = h.grammar in rw whole at g) in
     let shallow : IsShallow MAX_OPEN 0 (t.front ++ word t.gap false End ∷ []) =
-    (let g = shallow-words h in rw whole at g) in
-    let small : AreSmall (t.front ++ word t.gap false End ∷ []) = (let g = small-words h in rw whole at g) in
+    (let g = h.shallow in rw whole at g) in
+    let small : AreSmall (t.front ++ word t.gap false End ∷ []) = (let g = h.small in rw whole at g) in
     let told = t.tells in
     record {
       tokens = told.tokens;
@@ -57,15 +44,11 @@ spells-linked {a} {b} {first} {second} l h k =
       words = t.front ++ words_behind n k.words;
       say = told.say;
       grammar = grammar-linked t.front t.gap n spelled k.grammar;
-      within = record {
-        words = t.front ++ words_behind n k.words;
-        say = told.say;
-        shallow = shallow-linked t.front t.gap MAX_OPEN n spelled k.grammar shallow (shallow-words k);
-        small = small-linked t.front t.gap n k.words small (small-words k);
-      };
+      shallow = shallow-linked t.front t.gap MAX_OPEN n spelled k.grammar shallow k.shallow;
+      small = small-linked t.front t.gap n k.words small k.small;
     }
 
--- behind comments and blank lines
+-- after comments and blank lines
 pub spells-behind : {a b : List ℕ} {ds : List Definition} → EndsLine a → White a [] → SpellsAtMargin b ds
     → SpellsAtMargin (a ++ b) (map (moved_definition (length a)) ds)
 spells-behind {a} l w h =
@@ -77,12 +60,8 @@ spells-behind {a} l w h =
       words = words_behind n h.words;
       say = told.say;
       grammar = grammar-behind n h.grammar;
-      within = record {
-        words = words_behind n h.words;
-        say = told.say;
-        shallow = shallow-behind MAX_OPEN n h.words (shallow-words h);
-        small = small-behind n h.words (small-words h);
-      };
+      shallow = shallow-behind MAX_OPEN n h.words h.shallow;
+      small = small-behind n h.words h.small;
     }
 
 -- a token begins a rule at no indentation alone
@@ -132,7 +111,8 @@ spells-reads {text} h le =
       words = h.words;
       say = h.say;
       grammar = h.grammar;
-      within = h.within;
+      shallow = h.shallow;
+      small = h.small;
     }
 
 pub letter-no_piece : {b : ℕ} {bytes : List ℕ} → is_ascii_alphabetic b ≡ true → (r : List ℕ) → Piece (b ∷ bytes) r → ⊥
@@ -156,7 +136,8 @@ reads-spells {b} {bytes} letter h =
       words = h.words;
       say = (let s = h.say in rw same at s);
       grammar = h.grammar;
-      within = (let w = h.within in rw same at w);
+      shallow = h.shallow;
+      small = h.small;
     }
   where
     zero-less : (n : ℕ) → n - n ≡ 0

@@ -1,4 +1,4 @@
--- The tokens of texts one behind the other are those of each text.
+-- The tokens of texts one after another are those of each text.
 -- Serves: joined_reading, linked_reading
 use Rattle.std.proofs.Common.{◌≡◌, ℕ, ◌+◌, ◌≤◌, ◌<◌, ◌==◌, ◌&&◌, not, Bool, true, false, Option, Some, List, [], ◌∷◌}
 use Rattle.std.proofs.Common.{◌++◌, length, take, map, refl, sym, ap, ◌∙◌, arith, append_assoc, length-append}
@@ -33,7 +33,7 @@ indent-append : (i : Option ℕ) (xs ys : List ℕ) → indent_from i (xs ++ ys)
 indent-append i [] ys = refl
 indent-append i (x ∷ xs) ys = indent-append (indented i x) xs ys
 
--- a place behind a line's end, and one before it
+-- a position after a line's end, and one before it
 pub indent-behind : {a : List ℕ} (b : List ℕ) (n : ℕ) → EndsLine a → indent_at (a ++ b) (length a + n) ≡ indent_at b n
 indent-behind {a} b n l = ap (indent_from (Some 0)) (take-append-add a b n) ∙ indent-append (Some 0) a (take n b)
     ∙ ap (λ (i : Option ℕ). indent_from i (take n b)) (line-indent l (Some 0))
@@ -101,7 +101,7 @@ say-moved {a} b n (tok k z p ∷ ts) l (say_more (says h) more) =
     (ap (λ (i : Option ℕ). not (ends_list k) && begins_rule (Some 0) i) (indent-behind b p.start l))
     (kind-moved (length a) h)) (say-moved b p.end ts l more)
 
--- the tokens of t, the end of the text, behind that place say these words
+-- the tokens of t, the end of the text, from that position on say these words
 pub record TellsBehind (text : List ℕ) (place : ℕ) (t : List ℕ) (ws : List Word) : Type 0 where
   pub tokens : List (Tok AbnfKind)
   pub are_tokens : lexing.AreTokens White First ends_list (length text) t tokens
@@ -141,7 +141,7 @@ pub line-length : {t : List ℕ} → EndsLine t → 1 ≤ length t
 line-length lf = omega arith
 line-length (behind_byte l) = omega arith
 
--- what a text says where it stands behind one that LF ends, of which u is left, and is white space
+-- what a text says after one that LF ends, of which u is left, and is white space
 pub tells-second : {a b u : List ℕ} {ts : List (Tok AbnfKind)} {ws : List Word} (j : ℕ) → EndsLine a
     → lexing.AreTokens White First ends_list (length b) b ts → SayAll (marks b (Some 0) 0 ts) ws → EndsLine u
     → White u [] → j + length u ≡ length a → TellsBehind (a ++ b) j (u ++ b) (words_behind (length a) ws)
@@ -169,7 +169,7 @@ stands-some : {k : AbnfKind} {t r : List ℕ} → LeftLine t → Stands k t r �
 stands-some no_text h = elim h [ ]
 stands-some (some_text l) h = l
 
--- the words of a text but its end, and what it says where words are said behind it
+-- the words of a text but its end, and what it says where words follow it
 pub record TellsFirst (text : List ℕ) (place : ℕ) (t : List ℕ) (ws others : List Word) : Type 0 where
   pub front : List Word
   pub gap : Bool

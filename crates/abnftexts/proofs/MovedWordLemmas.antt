@@ -1,4 +1,4 @@
--- The machine takes the words of a text behind those of another as it takes them alone.
+-- The machine takes the words of a text after those of another as it takes them alone.
 -- Serves: joined_reading, linked_reading
 use Rattle.std.proofs.Common.{◌≡◌, ℕ, ◌≤◌, Bool, true, false, Option, Some, None, List, [], ◌∷◌, ◌++◌, map, refl}
 use Rattle.std.proofs.Common.{sym, ap, ◌∙◌, append_assoc, append-nil, ◌⊎◌, inl, inr}
@@ -195,7 +195,7 @@ may-end (body i [] bs es read) g {ds} h =
 may-end (body i (l ∷ o) bs es read) g h = cc
 may-end (done more) g h = cc
 
--- the machine takes these words to a configuration behind which a text may end
+-- the machine takes these words to a configuration after which a text may end
 record FrontTaken (front : List Word) (ds : List Definition) : Type 0 where
   config : Config
   reached : run start front ≡ Some config
@@ -226,7 +226,7 @@ rule-first : {ws : List Word} {ds : List Definition} → Grammar ws ds → RuleF
 rule-first (last_rule {g} {n} {p} {w} {s} a h) = record { gap = g; name = n; span = p; rest = w ∷ s; whole = refl }
 rule-first (more_rules {g} {n} {p} {w} {s} a h k) = record { gap = g; name = n; span = p; rest = w ∷ s; whole = refl }
 
--- the words of a text behind those of another one
+-- the words of a text after those of another one
 abbrev pub words_behind : ℕ → List Word → List Word
 words_behind n ws = with_gap (map (moved_word n) ws)
 
@@ -290,7 +290,7 @@ pub small-linked : (front : List Word) (g : Bool) (n : ℕ) (ws : List Word)
 small-linked front g n ws h k = small-join front (words_behind n ws) (word g false End ∷ []) h
     (small-gap (map (moved_word n) ws) (small-words n ws k))
 
--- behind words that open as many brackets as they close
+-- after words that open as many brackets as they close
 shallow-more : (m : ℕ) (ws us : List Word) (c d : Config) → run start ws ≡ Some c → IsShallow m 0 ws
     → IsShallow m (levels_in c) us → run c us ≡ Some d → IsShallow m 0 (ws ++ us)
 shallow-more m ws [] c d r h k e = rw (append-nil ws) h

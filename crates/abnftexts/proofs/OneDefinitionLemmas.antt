@@ -135,7 +135,7 @@ module _ (b : ℕ) (rest : List ℕ) (later : Later (indented (Some 0) b) rest) 
   abbrev whole : List ℕ
   whole = b ∷ rest
 
-  -- no token that stands behind the first byte begins a rule
+  -- no token after the first byte begins a rule
   token-later : (front token : List ℕ) (n : ℕ) {k : AbnfKind} {r : List ℕ} → whole ≡ front ++ token → 1 ≤ n
       → n + length token ≡ length whole → Stands k token r → begins_rule (Some 0) (indent_at whole n) ≡ false
   token-later front token zero e le place s = absurd (omega arith)

@@ -19,7 +19,7 @@ use Rattle.abnftexts.proofs.EachLemmas.{Each, each_none, each_next, each-drop}
 abbrev pub is_dark : ℕ → Bool
 is_dark c = is_blank c || (c == 59) || (c == 12)
 
--- in what stands behind that indentation, each line but the one that goes on begins with such a byte
+-- after that indentation, each line but the one that goes on begins with such a byte
 pub data Later : Option ℕ → List ℕ → Type 0 where
   later_end : {i : Option ℕ} → Later i []
   later_byte : {i : Option ℕ} {b : ℕ} {bytes : List ℕ} → (i ≡ Some 0 → is_dark b ≡ true) → Later (indented i b) bytes
@@ -63,7 +63,7 @@ margin-dark b e = grind (arith, nat_tests)
 blank-dark : (b : ℕ) → is_blank_byte b ≡ true → is_dark b ≡ true
 blank-dark b e = grind (arith, nat_tests)
 
--- behind so many bytes of a margin stands a byte of it, or what stands behind it
+-- after so many bytes of a margin stands a byte of it, or what follows it
 dark-margin : (k : ℕ) (bytes : List ℕ) → k ≤ prefix_len is_margin bytes
     → (k ≡ prefix_len is_margin bytes → DarkFirst (drop k bytes)) → DarkFirst (drop k bytes)
 dark-margin zero [] le f = tt
@@ -95,7 +95,7 @@ or-second : (x y : Bool) → (x || y) ≡ true → x ≡ false → y ≡ true
 or-second true y e f = cc
 or-second false y e f = e
 
--- a line with which a block goes on, and that begins no rule of it, begins with such a byte behind the margin
+-- a line with which a block goes on, and that begins no rule of it, begins with such a byte after the margin
 cut-dark : (m : ℕ) (line : NumberedLine) → IsClear line → goes_on m line ≡ true
     → not (begins_rule_at m line) ≡ true → DarkFirst (drop (min m (margin_of line.bytes)) line.bytes)
 cut-dark m line clear goes none = elim (cases_Bool (is_empty_line line)) [

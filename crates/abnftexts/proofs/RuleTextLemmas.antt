@@ -143,7 +143,7 @@ pub moved-same : (n : ℕ) (ds : List Definition) → SameUnplaced (map (moved_d
 moved-same n [] = refl
 moved-same n (d ∷ ds) = ap (λ (x : List RuleGiven). unplaced d ∷ x) (moved-same n ds)
 
--- it is told without its place
+-- it is seen without its position
 abbrev given_of : RuleGiven → RuleGiven
 given_of r = given_by (record { adds = r.adds; name = r.name; span = nowhere; body = r.body })
 

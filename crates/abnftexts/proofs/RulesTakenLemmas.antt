@@ -26,7 +26,7 @@ use Rattle.abnftexts.proofs.AloneRulesLemmas.{IsReadAlone, ReadAlone}
 use Rattle.abnftexts.proofs.EachLemmas.{Each, each_next}
 use Rattle.abnftexts.proofs.RuleTextLemmas.{all-given}
 
--- the element at a place stands in front of what is behind it
+-- the element at a position stands before what follows it
 pub one-behind : {A : Type 0} (xs : List A) (i : ℕ) (d : A) → i < length xs
     → drop i xs ≡ get_or xs i d ∷ drop (i + 1) xs
 one-behind {A} xs i d lt =
@@ -40,7 +40,7 @@ rest-within lines rest at n within from le =
     let same : length rest ≡ length (drop at lines) = ap (λ (xs : List TextLine). length xs) from in
     omega (arith, within, le, same, length-drop at lines)
 
--- what is given stands behind one and another
+-- what is given follows one and another
 pub both-assoc : (a b c : RulesGathered) → both_given (both_given a b) c ≡ both_given a (both_given b c)
 both-assoc a b c =
     rw (
@@ -52,7 +52,7 @@ both-assoc a b c =
 pub both-none : (a : RulesGathered) → both_given a none_given ≡ a
 both-none a = rw (append-nil a.places, append-nil a.rules, append-nil a.told) refl
 
--- something is told, and all else is as it was
+-- something is reported, and all else is as it was
 with-told : (g : RulesGathered) (told more : List ℕ) → told ≡ g.told ++ more
     → record { places = g.places; rules = g.rules; told = told } ≡ both_given g (told_alone more)
 with-told g told more e = rw (e, append-nil g.places, append-nil g.rules) refl
@@ -227,7 +227,7 @@ found-all name kept all i g le =
     subst (λ (xs : List Found). TakesMore (GivesFound name kept xs) g g) (sym (at_drop_all (λ xs. xs) all i le))
     (none-taken (GivesFound name kept []) g none_found)
 
--- what one more text gives stands behind what was gathered
+-- what one more text gives follows what was gathered
 pub text-more : (texts : List SourceText) (i : ℕ) (d : SourceText) (g h more : RulesGathered) → i < length texts
     → TakesMore (GivesText (named_text (get_or texts i d))) g h → GiveTexts (map named_text (drop (i + 1) texts)) more
     → (all : RulesGathered) × GiveTexts (map named_text (drop i texts)) all

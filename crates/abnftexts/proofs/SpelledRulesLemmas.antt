@@ -1,4 +1,4 @@
--- The printed grammar spells what the lines of its rules spell, one rule's behind another's.
+-- The printed grammar spells what the lines of its rules spell, one rule's after another's.
 -- Serves: joined_reading
 use Rattle.std.proofs.Common.{◌≡◌, ◌≢◌, ℕ, zero, suc, ◌+◌, ◌/◌, ◌%◌, ◌≤◌, ◌==◌, ◌||◌, nat_lt, Bool, true, false, cond}
 use Rattle.std.proofs.Common.{Option, Some, None, List, [], ◌∷◌, ◌++◌, length, map, refl, sym, ap, ◌∙◌, arith, inl, inr}
@@ -87,7 +87,7 @@ run-inside : {bytes : List ℕ} (r : List ℕ) → AreInside bytes → Run is_in
 run-inside r each_none = none
 run-inside r (each_next p h) = more p (run-inside r h)
 
--- the text spells these definitions, but for places, and LF ends it
+-- the text spells these definitions, but for positions, and LF ends it
 pub record SpellsLike (text : List ℕ) (alone : List Definition) : Type 0 where
   pub definitions : List Definition
   pub spells : SpellsAtMargin text definitions

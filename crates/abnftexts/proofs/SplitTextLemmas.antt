@@ -25,7 +25,7 @@ use Rattle.abnfread.specs.MarkedTokens.{begins_rule, indent_at, is_first, marks}
 use Rattle.abnfread.proofs.AbnfSliceLemmas.{first-last, white-ends}
 use Rattle.abnftexts.specs.LinkedTexts.{EndsLine, SpellsAtMargin, moved_span, moved_definition}
 use Rattle.abnftexts.proofs.LineEndLemmas.{some_text, inside, through, longest-back, white-split}
-use Rattle.abnftexts.proofs.LinkedTextLemmas.{letter-no_piece, shallow-words, small-words}
+use Rattle.abnftexts.proofs.LinkedTextLemmas.{letter-no_piece}
 use Rattle.abnftexts.proofs.LinkedTokenLemmas.{WordSaid, first-said, first-same, indent-behind, line-length}
 use Rattle.abnftexts.proofs.LinkedTokenLemmas.{says-so, word-said}
 use Rattle.abnftexts.proofs.MovedWordLemmas.{moved_said, moved_word, words_behind}
@@ -337,8 +337,8 @@ module _ (a : List ℕ) (line_end : EndsLine a) (c : ℕ) (bytes : List ℕ) (le
       → WordHalves n s.front (word s.back.gap true s.back.said ∷ s.back.words) ds → TextHalves ds
   halves-spell h s words halves =
       let x = s.back in
-      let shallow = (let k = shallow-words h in rw words at k) in
-      let small = (let k = small-words h in rw words at k) in
+      let shallow = (let k = h.shallow in rw words at k) in
+      let small = (let k = h.small in rw words at k) in
       record {
         first = halves.first;
         second = halves.second;
@@ -348,12 +348,8 @@ module _ (a : List ℕ) (line_end : EndsLine a) (c : ℕ) (bytes : List ℕ) (le
           words = s.front ++ word s.gap false End ∷ [];
           say = s.say;
           grammar = halves.before s.gap;
-          within = record {
-            words = s.front ++ word s.gap false End ∷ [];
-            say = s.say;
-            shallow = halves.shallow_before MAX_OPEN s.gap shallow;
-            small = small-before n s.front (word x.gap true x.said ∷ x.words) s.gap small;
-          };
+          shallow = halves.shallow_before MAX_OPEN s.gap shallow;
+          small = small-before n s.front (word x.gap true x.said ∷ x.words) s.gap small;
         };
         after = record {
           tokens = x.tokens;
@@ -361,12 +357,8 @@ module _ (a : List ℕ) (line_end : EndsLine a) (c : ℕ) (bytes : List ℕ) (le
           words = word x.gap true x.said ∷ x.words;
           say = x.say;
           grammar = halves.after;
-          within = record {
-            words = word x.gap true x.said ∷ x.words;
-            say = x.say;
-            shallow = halves.shallow_after MAX_OPEN shallow;
-            small = small-after n s.front x.gap true x.said x.words small;
-          };
+          shallow = halves.shallow_after MAX_OPEN shallow;
+          small = small-after n s.front x.gap true x.said x.words small;
         };
         sum = halves.sum;
       }

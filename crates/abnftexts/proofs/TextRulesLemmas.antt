@@ -1,4 +1,4 @@
--- What texts give is one list of rules, and one text that is told; and the names that rules use are one list.
+-- What texts give is one list of rules, and one text of reports; and the names that rules use are one list.
 -- Serves: one_joining
 use Rattle.std.proofs.Common.{◌≡◌, ◌≢◌, ℕ, List, [], ◌∷◌, ◌++◌, None, take, drop, map, refl, sym, ap, ◌∙◌, subst}
 use Rattle.std.specs.List.{flat_map}

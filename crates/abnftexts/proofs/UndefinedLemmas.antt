@@ -30,7 +30,7 @@ use Rattle.abnftexts.specs.UsedNames.{AreNameUses, UsedName, next_uses, no_rules
 use Rattle.abnftexts.specs.declared.uses.NameUse.{NameUse}
 use Rattle.abnftexts.proofs.RulesTakenLemmas.{one-behind}
 
--- what the uses from that number on tell
+-- what the uses from that number on report
 abbrev pub told-from : List RuleGiven → List UsedName → ℕ → List UsedName → List ℕ
 told-from rules uses n some = flat_map (λ p. use_told rules (take p.0 uses) p.1) (enumerate_from n some)
 
@@ -70,7 +70,7 @@ told-all rules uses n start now le h =
     ap (λ (us : List UsedName). told-from rules rows n us) done in
     sym (append-nil now) ∙ ap (λ (z : List ℕ). now ++ z) (sym none) ∙ h
 
--- a place is found where some element passes
+-- a position is found where some element passes
 found-some : {A : Type 0} (p : A → Bool) (xs : List A) → is_some (position p xs) ≡ list_any p xs
 found-some {A} p xs = there (nat_lt (position_or_len p xs) (length xs)) (position_or_len p xs) ∙ below xs
   where
@@ -159,7 +159,7 @@ module _ (places : List RuleLines) (order : List ℕ) (i : ℕ) where
       no_rules in
       subst (λ (us : List UsedName). AreNameUses (ordered_rules places order) us) (append-nil old) (before [] none)
 
--- four pieces, one behind another
+-- four pieces, one after another
 pub four-behind : (out a b c d one two three four : List ℕ) → one ≡ out ++ a → two ≡ one ++ b → three ≡ two ++ c
     → four ≡ three ++ d → four ≡ out ++ (a ++ (b ++ (c ++ d)))
 four-behind out a b c d one two three four h i j k =

@@ -8,6 +8,6 @@ use Rattle.abnftexts.specs.declared.uses.NameUse.{NameUse}
 abbrev pub name_used : NameUse → UsedName
 name_used u = record { text = u.text.now; line = u.line; name = u.name.items }
 
--- the uses of that rule stand behind those so far
+-- the uses of that rule follow those so far
 abbrev pub AddsUses : RuleLines → List UsedName → List UsedName → Type 0
 AddsUses place old new = (more : List UsedName) × AreRuleUses place more × (new ≡ old ++ more)

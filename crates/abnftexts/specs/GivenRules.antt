@@ -30,11 +30,11 @@ abbrev pub yields_to : RuleGiven → RuleGiven → Bool
 yields_to a b = not a.adds && (not b.adds && (same_name Fold a.name b.name
     && (only_prose a.body && not (only_prose b.body))))
 
--- the place of the first rule to which that one yields, or the number of rules
+-- the position of the first rule to which that one yields, or the number of rules
 abbrev pub first_wanted : RuleGiven → List RuleGiven → ℕ
 first_wanted rule rules = prefix_len (λ other. not (yields_to rule other)) rules
 
--- the place of the first rule that is the same, or the number of rules
+-- the position of the first rule that is the same, or the number of rules
 abbrev pub first_same : RuleGiven → List RuleGiven → ℕ
 first_same rule rules = prefix_len (λ other. not (is_same_rule rule other)) rules
 

@@ -36,15 +36,15 @@ pub data IsWrittenAs (j : GrammarJoined) : JoinForm → List ℕ → Type 0 wher
 abbrev pub grammar_form : Bool → JoinForm
 grammar_form is_canonical = if is_canonical then Canonical else Plain
 
--- Two definitions of a name are refused, and without a rule there is nothing to be had.
+-- Two definitions of a name are rejected, and without a rule there is no grammar.
 abbrev pub joined_status : GrammarJoined → Status
 joined_status j = if j.clashes then status.Refused else if length j.grammar == 0 then status.NoMatch else status.Done
 
 abbrev pub text_written : List ℕ → Status → Reply
 text_written text status = record { out = text; err = []; status = code_of status; taken = 0 }
 
--- Behind what is told of the texts: the text is written, or a grammar that has some rule is too long, and refused for
--- that. A list is never refused.
+-- After the reports on the texts: the text is written, or a grammar that has some rule is too long, and rejected for
+-- that. A list is never rejected.
 pub data JoinedReply (form : JoinForm) (j : GrammarJoined) : Reply → Type 0 where
   writes : {text : List ℕ} → IsWrittenAs j form text → JoinedReply form j (text_written text (joined_status j))
   too_long : form ≢ Listed → j.grammar ≢ [] → IsFaultOf j.grammar faults.TooLong
@@ -57,7 +57,7 @@ pub data TriedReply (form : JoinForm) (j : GrammarJoined) : Reply → Type 0 whe
   refused : {fault : ReadFault} → form ≢ Listed → j.grammar ≢ [] → IsFaultOf j.grammar fault → fault ≢ faults.Memory
       → TriedReply form j (stopped (Refused fault))
 
--- What is stated for texts and a form: what is told of the texts first, and the reply. There is no input.
+-- What is stated for texts and a form: the reports on the texts first, and the reply. There is no input.
 pub data JoinStates (texts : List NamedText) (form : JoinForm) (input : Input) : List ℕ → Reply → Type 0 where
   joins : {j : GrammarJoined} {reply : Reply} → AreTextsJoined texts j → JoinedReply form j reply
       → JoinStates texts form input j.told reply

@@ -1,4 +1,4 @@
--- The grammar that texts make up, joined, and what is told of it.
+-- The grammar that texts make up, joined, and what is reported of it.
 use Rattle.std.specs.Prelude.{◌≡◌, ℕ, ◌-◌, ◌==◌, ◌&&◌, bytes_eq, nat_lt, Bool, true, false, List, [], ◌∷◌, ◌++◌}
 use Rattle.std.specs.Prelude.{length, map, Option, None, Some, codes, slice_get, if◌then◌else◌}
 use Rattle.std.specs.List.{enumerate_from, filter_map, flat_map, zip}
@@ -31,13 +31,13 @@ first_number place = number_at place.lines 1
 abbrev pub last_number : RuleLines → ℕ
 last_number place = number_at place.lines (length place.lines)
 
--- the rule stands in its text right behind the one before it
+-- the rule follows the one before it in its text
 abbrev pub goes_behind_it : Option RuleLines → RuleLines → Bool
 goes_behind_it None place = false
 goes_behind_it (Some before) place = bytes_eq before.name place.name
     && (last_number before == first_number place - 1)
 
--- a comment that names the place, unless the rule goes on with what stands before it
+-- a comment that names the position, unless the rule goes on with what stands before it
 abbrev pub comment_before : Option RuleLines → RuleLines → List ℕ
 comment_before before place = if goes_behind_it before place then [] else
     codes "; " ++ (place_shown place.name (first_number place) ++ codes "\n")
@@ -54,11 +54,11 @@ ordered_rules places order = filter_map (slice_get places) order
 abbrev pub beside_last : Option RuleLines → List RuleLines → List (Option RuleLines × RuleLines)
 beside_last before rows = zip (before ∷ map Some rows) rows
 
--- the rules as they are printed one behind another, where that one is printed before them
+-- the rules as they are printed one after another, where that one is printed before them
 abbrev pub printed_behind : Option RuleLines → List RuleLines → List ℕ
 printed_behind before rows = flat_map (λ p. rule_printed p.0 p.1) (beside_last before rows)
 
--- the place of the rule with that number
+-- the position of the rule with that number
 abbrev pub numbered_place : List RuleLines → ℕ → List ℕ
 numbered_place places n = elim (slice_get places n) [
   | None ↦ []
@@ -69,7 +69,7 @@ numbered_place places n = elim (slice_get places n) [
 abbrev pub numbered_name : List RuleGiven → ℕ → List ℕ
 numbered_name rules n = elim (slice_get rules n) [ None ↦ [] | Some rule ↦ rule.name ]
 
--- what is told of two definitions of one name
+-- the report of two definitions of one name
 abbrev pub clash_told : List RuleLines → List RuleGiven → Clash → List ℕ
 clash_told places rules clash = numbered_place places clash.second ++ (codes ": '"
     ++ (numbered_name rules clash.second ++ (codes "' is defined otherwise at "
@@ -90,12 +90,12 @@ rule_listed places rules n fate = numbered_place places n ++ (codes ": '" ++ (nu
 abbrev pub rules_listed : List RuleLines → List RuleGiven → List Fate → List ℕ
 rules_listed places rules fates = flat_map (λ p. rule_listed places rules p.0 p.1) (enumerate_from 0 fates)
 
--- what is told where there is no rule
+-- the report where there is no rule
 abbrev pub none_told : List RuleGiven → List ℕ
 none_told [] = codes "no rules found\n"
 none_told (rule ∷ rules) = []
 
--- the grammar, what is told, a line for each rule that is given, and whether a name has two definitions
+-- the grammar, the reports, a line for each rule that is given, and whether a name has two definitions
 pub record GrammarJoined : Type 0 where
   pub grammar : List ℕ
   pub told : List ℕ

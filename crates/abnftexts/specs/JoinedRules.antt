@@ -24,8 +24,8 @@ first_definition rule rules = prefix_len (λ other. not (is_defined_by rule othe
 abbrev pub adding_numbers : RuleGiven → List RuleGiven → List ℕ
 adding_numbers rule rules = map (λ p. p.0) (filter (λ p. is_added_by rule p.1) (enumerate_from 0 rules))
 
--- What is printed at the place of a rule with that number: a definition, and behind the first one of a name what adds
--- to it and is given before it; or what adds, unless it waits for a definition behind it.
+-- What is printed at the position of a rule with that number: a definition, and after the first one of a name what adds
+-- to it and is given before it; or what adds, unless it waits for a definition after it.
 abbrev pub printed_at : List RuleGiven → ℕ → RuleGiven → List ℕ
 printed_at rules n rule =
     let first = first_definition rule rules in
@@ -42,6 +42,6 @@ clash_at rules n rule =
     let first = first_definition rule rules in
     if not rule.adds && nat_lt first n then record { first = first; second = n } ∷ [] else []
 
--- the definitions of a name behind its first one, in order
+-- the definitions of a name after its first one, in order
 abbrev pub clashes_of : List RuleGiven → List Clash
 clashes_of rules = flat_map (λ p. clash_at rules p.0 p.1) (enumerate_from 0 rules)

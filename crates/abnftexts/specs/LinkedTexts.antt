@@ -1,10 +1,11 @@
--- Texts of ABNF one behind the other, and what they spell together (RFC 5234, sections 2.1 and 2.2).
+-- Texts of ABNF one after another, and what they spell together (RFC 5234, sections 2.1 and 2.2).
 use Prim.Native.Char.{code}
 use Rattle.std.specs.Prelude.{ℕ, ◌+◌, List, [], ◌∷◌, Some}
 use Rattle.ruletable.specs.declared.span.Span.{Span}
+use Rattle.lexer.specs.GrammarLimits.{max_open}
 use Rattle.lexer.specs.TokenLists.{Tok}
 use Rattle.abnfread.specs.declared.kind.AbnfKind.{AbnfKind}
-use Rattle.abnfread.specs.AbnfSays.{SayAll, AreWithin}
+use Rattle.abnfread.specs.AbnfSays.{SayAll, AreSmall, IsShallow}
 use Rattle.abnfread.specs.AbnfSpelling.{Grammar}
 use Rattle.abnfread.specs.AbnfWords.{Word}
 use Rattle.abnfread.specs.Element.{Definition}
@@ -29,4 +30,5 @@ pub record SpellsAtMargin (text : List ℕ) (definitions : List Definition) : Ty
   pub words : List Word
   pub say : SayAll (marks text (Some 0) 0 tokens) words
   pub grammar : Grammar words definitions
-  pub within : AreWithin (marks text (Some 0) 0 tokens)
+  pub shallow : IsShallow max_open 0 words
+  pub small : AreSmall words

@@ -1,4 +1,4 @@
--- What texts give: rules with their places, and what is told.
+-- What texts give: rules with their positions, and reports.
 use Rattle.std.specs.Prelude.{ℕ, List, [], ◌∷◌, ◌++◌, map}
 use Rattle.abnftexts.specs.GivenRules.{RuleGiven, text_rule}
 use Rattle.abnfblocks.specs.TextLines.{NumberedLine, numbered}
@@ -17,7 +17,7 @@ pub record RuleLines : Type 0 where
   pub margin : ℕ
   pub lines : List NumberedLine
 
--- the rules of texts in order, the lines of each, and what is told on the error output
+-- the rules of texts in order, the lines of each, and the reports on the error output
 pub record RulesGathered : Type 0 where
   pub places : List RuleLines
   pub rules : List RuleGiven
@@ -45,10 +45,10 @@ none_given = record { places = []; rules = []; told = [] }
 abbrev pub one_rule : RuleLines → RuleGiven → RulesGathered
 one_rule place rule = record { places = place ∷ []; rules = rule ∷ []; told = [] }
 
--- no rule, and something is told
+-- no rule, and a report
 abbrev pub told_alone : List ℕ → RulesGathered
 told_alone told = record { places = []; rules = []; told = told }
 
--- both, one behind the other
+-- both, one after the other
 abbrev pub both_given : RulesGathered → RulesGathered → RulesGathered
 both_given a b = record { places = a.places ++ b.places; rules = a.rules ++ b.rules; told = a.told ++ b.told }

@@ -1,4 +1,4 @@
--- Which rules texts give: those of their pieces of ABNF, each with its own lines; and what is told of the other lines.
+-- Which rules texts give: those of their pieces of ABNF, each with its own lines; and the reports of the other lines.
 use Rattle.std.specs.Prelude.{◌≡◌, ℕ, List, [], ◌∷◌, map, take, drop}
 use Rattle.ruletable.specs.declared.fault.ReadFault.{ReadFault}
 use Rattle.abnfread.specs.AbnfReading.{Reads}

@@ -38,7 +38,7 @@ pub record AreRuleUses (place : RuleLines) (uses : List UsedName) : Type 0 where
   pub are : uses ≡ flat_map (used_at place)
       (mentions_in Lf (block_text place.margin place.lines) None (map (sign_at sign_of) tokens))
 
--- those that rules use, one behind another
+-- those that rules use, one after another
 pub data AreNameUses : List RuleLines → List UsedName → Type 0 where
   no_rules : AreNameUses [] []
   next_uses : {place : RuleLines} {places : List RuleLines} {here behind : List UsedName} → AreRuleUses place here
@@ -49,7 +49,7 @@ abbrev pub is_known_name : List RuleGiven → List ℕ → Bool
 is_known_name rules name = list_any (λ rule. same_name Fold name rule.name) rules
     || list_any (same_name Fold name) core_names
 
--- a use tells that the name is not defined, if no use before it has the name
+-- a use reports that the name is not defined, if no use before it has the name
 abbrev pub tells_undefined : List RuleGiven → List UsedName → UsedName → Bool
 tells_undefined rules before u = not (is_known_name rules u.name)
     && not (list_any (λ other. same_name Fold u.name other.name) before)
@@ -57,10 +57,10 @@ tells_undefined rules before u = not (is_known_name rules u.name)
 abbrev pub undefined_line : UsedName → List ℕ
 undefined_line u = place_shown u.text u.line ++ (codes ": '" ++ (u.name ++ codes "' is not defined\n"))
 
--- the line of a use that tells so
+-- the line of a use that reports so
 abbrev pub use_told : List RuleGiven → List UsedName → UsedName → List ℕ
 use_told rules before u = if tells_undefined rules before u then undefined_line u else []
 
--- what is told of names that are not defined: the first use of each, in the order of the uses
+-- the reports of names that are not defined: the first use of each, in the order of the uses
 abbrev pub undefined_told : List RuleGiven → List UsedName → List ℕ
 undefined_told rules uses = flat_map (λ p. use_told rules (take p.0 uses) p.1) (enumerate_from 0 uses)

@@ -3,7 +3,7 @@
 use crate::join::GivenRule;
 use abnfblocks::TextLine;
 
-/// A text: what it is called where places in it are told, and its bytes.
+/// A text: its name in reports of positions, and its bytes.
 #[derive(Clone, Copy)]
 pub struct SourceText<'a> {
     pub name: &'a [u8],
@@ -18,7 +18,7 @@ pub(crate) struct RulePlace<'a> {
     pub(crate) lines: Vec<TextLine<'a>>,
 }
 
-/// The rules of texts in order, the lines of each, and what is told on the error output.
+/// The rules of texts in order, the lines of each, and the reports on the error output.
 #[derive(Drop)]
 pub(crate) struct Gathered<'a> {
     pub(crate) places: Vec<RulePlace<'a>>,

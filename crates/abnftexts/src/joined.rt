@@ -21,7 +21,7 @@ use std::alloc::Global;
 pub struct JoinedTexts {
     /// The rules that stand, as their texts have them, in the order in which they are printed.
     pub grammar: Vec<u8>,
-    /// What is told of the texts on the error output.
+    /// The reports on the error output.
     pub told: Vec<u8>,
     /// A line for each rule that the texts give, with what becomes of it.
     pub listed: Vec<u8>,
@@ -72,16 +72,16 @@ fn join_gathered(alloc: Global, gathered: Gathered<'_>) -> Result<JoinedTexts, M
     join_standing(alloc, &standing_places, &standing_rules, told, listed)
 }
 
-/// Returns the grammar that texts make up, one after another, and what is told of them.
+/// Returns the grammar that texts make up, one after another, and the reports on them.
 ///
 /// The rules of a piece of ABNF are the definitions that it reads as. A rule that is the same as one before it is left
-/// out, and so is one of prose alone where a definition of that name has elements. What adds to a name stands behind
-/// its definition. The rules are printed as their texts have them, without the margin. A comment names the place where
+/// out, and so is one of prose alone where a definition of that name has elements. What adds to a name follows its
+/// definition. The rules are printed as their texts have them, without the margin. A comment names the position where
 /// lines begin that stand together: `; NAME:LINE`.
 ///
-/// A line that looks like a rule and is none is told, and so are two different definitions of a name, which both
-/// stand. So is the first use of each name that neither a rule nor a core rule (RFC 5234, appendix B.1) has, and that
-/// there is no rule.
+/// The reports name each line that looks like a rule and is none, and two different definitions of a name, which both
+/// stand. They name the first use of each name that neither a rule nor a core rule (RFC 5234, appendix B.1) has. They
+/// say if there is no rule.
 ///
 /// # Errors
 /// `Memory` if an allocation fails.

@@ -17,8 +17,8 @@ use abnfread::{AbnfKind, one_reading};
 use lexer::one_list;
 use ruletable::ReadFault;
 
-/// Says that texts make up at most one joined grammar. What is told of them and the reply of a run that joins them in a
-/// form are one too, but for those that tell want of memory, status 5.
+/// Says that texts make up at most one joined grammar. The reports on them and the reply of a run that joins them in a
+/// form are one too, but for those that report `out of memory`, status 5.
 pub fn one_joining()
     ensures joined { (texts : List NamedText) (a b : GrammarJoined) → AreTextsJoined texts a → AreTextsJoined texts b
         → a ≡ b }

@@ -10,7 +10,7 @@ use crate::printed::{push_rule_name, push_rule_place};
 use ruletable::Memory;
 use std::alloc::Global;
 
-// Adds a word and the place of the rule with that number.
+// Adds a word and the position of the rule with that number.
 fn push_told_place(
     out: &mut Vec<u8>,
     told: &[u8],

@@ -1,4 +1,4 @@
-//! The grammar as it is printed, and what is told of it.
+//! The grammar as it is printed, and the reports on it.
 ghost use Rattle.std.specs.Prelude.{◌≡◌, ◌++◌, None, map, option_map, IfOk, OnOk};
 ghost use Rattle.std.specs.List.{flat_map};
 ghost use Rattle.abnftexts.specs.GivenRules.{text_rule};
@@ -28,7 +28,7 @@ fn last_number(place: &RulePlace<'_>) -> usize
     number_at(&place.lines, place.lines.len())
 }
 
-// Whether the rule stands in its text right behind the one before it.
+// Returns whether the rule follows the one before it in its text.
 fn goes_behind(before: Option<&RulePlace<'_>>, place: &RulePlace<'_>) -> bool
     ensures { result ≡ goes_behind_it (option_map (λ p. lines_placed p.now) before.entry) (lines_placed place.now) }
 {
@@ -41,7 +41,7 @@ fn goes_behind(before: Option<&RulePlace<'_>>, place: &RulePlace<'_>) -> bool
     }
 }
 
-// Adds a comment that names the place, unless the rule goes on with what stands before it.
+// Adds a comment that names the position, unless the rule goes on with what stands before it.
 fn push_comment(
     out: &mut Vec<u8>,
     before: Option<&RulePlace<'_>>,
@@ -97,7 +97,7 @@ pub(crate) fn printed_text(
     Ok(out)
 }
 
-/// Adds the place of the rule with that number.
+/// Adds the position of the rule with that number.
 pub(crate) fn push_rule_place(
     out: &mut Vec<u8>,
     places: &[RulePlace<'_>],
@@ -125,7 +125,7 @@ pub(crate) fn push_rule_name(
     }
 }
 
-// Adds what is told of two definitions of one name.
+// Adds the report of two definitions of one name.
 fn push_clash(
     out: &mut Vec<u8>,
     places: &[RulePlace<'_>],
@@ -144,7 +144,7 @@ fn push_clash(
     Ok(())
 }
 
-/// Adds what is told of definitions of one name.
+/// Adds the reports of definitions of one name.
 pub(crate) fn push_clashes(
     out: &mut Vec<u8>,
     places: &[RulePlace<'_>],
@@ -160,7 +160,7 @@ pub(crate) fn push_clashes(
     Ok(())
 }
 
-/// Adds what is told where there is no rule.
+/// Adds the report where there is no rule.
 pub(crate) fn push_none(out: &mut Vec<u8>, rules: &[GivenRule]) -> Result<(), Memory>
     ensures { OnOk result (out.new.items ≡ out.old.items ++ none_told (map text_rule rules.now)) }
 {

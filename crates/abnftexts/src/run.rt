@@ -160,12 +160,12 @@ fn write_joined<O: Sink>(
     }
 }
 
-/// Joins texts: writes the grammar that they make up on `out`, in that form, and what is told of them on `err`. Neither
+/// Joins texts: writes the grammar that they make up on `out`, in that form, and the reports on them on `err`. Neither
 /// may have failed before.
 ///
-/// - What `join_texts` tells is written on `err` first.
+/// - The reports of `join_texts` are written on `err` first.
 /// - The grammar is read by `read_abnf`, and written if it reads: `Done`; or where a name has two definitions,
-///   `Refused`. A grammar of more than `MAX_GRAMMAR` bytes is told, `Refused`, and not written.
+///   `Refused`. A grammar of more than `MAX_GRAMMAR` bytes is reported, `Refused`, and not written.
 /// - Where no text gives a rule nothing is written, `NoMatch`.
 /// - A list of rules is written as it is, with the same status.
 /// - Where a writer fails, nothing more is written to it, and the status is at least `Fault`. Writers that have not

@@ -95,7 +95,7 @@ fn take_piece<'a>(
     Ok(())
 }
 
-// The lines from that place on.
+// Returns the lines from that position on.
 fn lines_behind<'a, 'b>(lines: &'b [TextLine<'a>], place: usize) -> &'b [TextLine<'a>]
     ensures { result.now ≡ drop place lines.now }
 {

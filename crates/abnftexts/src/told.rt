@@ -1,4 +1,4 @@
-//! What is told of places in texts.
+//! Reports of positions in texts.
 ghost use Rattle.std.specs.Prelude.{◌≡◌, ◌++◌, ◌-◌, codes, decimal, map, OnOk};
 ghost use Rattle.abnfblocks.specs.TextLines.{numbered};
 ghost use Rattle.ruletable.specs.Faults.{at_line, fault_text};
@@ -78,7 +78,7 @@ fn push_fault(out: &mut Vec<u8>, fault: ReadFault) -> Result<(), Memory>
     }
 }
 
-/// Adds what is told of a line that looks like a rule and is none, where these lines begin with it and have that fault.
+/// Adds the report of a line that looks like a rule and is none, where these lines begin with it and have that fault.
 pub(crate) fn push_not_abnf(
     out: &mut Vec<u8>,
     name: &[u8],

@@ -68,7 +68,7 @@ fn is_used(uses: &[NameUse<'_>], name: &[u8]) -> bool
     false
 }
 
-// Whether a use tells that the name is not defined, where those stand before it.
+// Returns whether a use reports that the name is not defined, where those stand before it.
 fn is_told(
     core: &RuleTable<Elem>,
     rules: &[GivenRule],
@@ -96,7 +96,7 @@ fn push_line(out: &mut Vec<u8>, it: &NameUse<'_>) -> Result<(), Memory>
     Ok(())
 }
 
-// Adds what a use tells, where those stand before it.
+// Adds the report of a use, where those stand before it.
 fn push_use_told(
     out: &mut Vec<u8>,
     core: &RuleTable<Elem>,
@@ -114,7 +114,7 @@ fn push_use_told(
     Ok(())
 }
 
-/// Adds what is told of names that these uses have and no rule.
+/// Adds the reports of names that these uses have and no rule.
 pub(crate) fn push_undefined(
     alloc: Global,
     out: &mut Vec<u8>,

@@ -1,4 +1,4 @@
--- What a stop tells, and what memory is wanting for.
+-- What a stop reports, and what needs memory.
 -- Serves: end_unread, join_files, abnfx_main (right)
 use Rattle.std.proofs.Common.{inl, inr, ◌≡◌, ℕ, false, [], Some}
 use Rattle.clap.specs.Words.{HasKind, Kinds, kind_of}
@@ -12,7 +12,7 @@ use Rattle.toolrun.specs.Stream.{Stream, no_input}
 use Rattle.toolrun.specs.declared.stop.Stop.{Stop}
 use Rattle.toolrun.proofs.IsRightLemmas.{told_stops}
 
--- a stop of which nothing is told before
+-- a stop of which nothing is reported before
 pub stop_comes : (stop : Stop) (out err : Stream) (code : ℕ)
     → TellsOf stop out.old out.new out.failed err.old err.new err.failed code
     → Comes (IsToldAnd [] stop) no_input out err code

@@ -25,7 +25,7 @@ unread_among (Unreadable at) path paths has is = path_alone path at.now paths ha
 unread_among (TooLong at) path paths has is = path_alone path at.now paths has is
 unread_among NoMemory path paths has is = tt
 
--- the path at a place is among them
+-- the path at a position is among them
 pub path_among : (paths : List (Bor Text)) (i : ℕ) (d : Bor Text) → i < length paths
     → Contains (map (λ p. p.now) paths) (slice_index_or paths i d).now
 path_among paths i d low =

@@ -20,7 +20,7 @@ pub record AreTextsOf (paths : List Text) (texts : List NamedText) : Type 0 wher
   pub names : map (λ t. t.name) texts ≡ paths
   pub lengths : All (λ t. length t.bytes ≤ 16777216) texts
 
--- what is told where a text is not had
+-- the report where a text is not had
 abbrev pub unread_text : Unread → List ℕ
 unread_text (Unreadable path) = codes "cannot read " ++ path.now ++ codes "\n"
 unread_text (TooLong path) = path.now ++ codes " longer than 16777216 bytes\n"
@@ -47,12 +47,12 @@ pub data FilesJoined (paths : List Text) (form : JoinForm) (input : Input) : Lis
       (stopped (unread_stop why))
   no_memory : FilesJoined paths form input [] (stopped stop.NoMemory)
 
--- what is told of words that ask for two forms
+-- the report of words that ask for two forms
 abbrev pub both_forms : List ℕ
 both_forms = codes "error: the argument '-l' cannot be used with '-c'\n\nUsage: abnfx [OPTIONS] <TEXT>...\n\n"
     ++ codes "For more information, try '--help'.\n"
 
--- What is stated for the matches of the words: two forms at once are refused, and the files are not read.
+-- What is stated for the matches of the words: two forms at once are rejected, and the files are not read.
 pub data JoinAnswers (rows : List Row) (input : Input) : List ℕ → Reply → Type 0 where
   asks : {form : JoinForm} {notes : List ℕ} {reply : Reply} → form_asked rows ≡ Some form
       → FilesJoined (paths_asked rows) form input notes reply → JoinAnswers rows input notes reply

@@ -34,7 +34,7 @@ fn text_arg<'a>(alloc: Global) -> Arg<'a>
         .required(true)
 }
 
-/// Returns the command `abnfx [-c | -l] TEXT..`. Refused for want of memory.
+/// Returns the command `abnfx [-c | -l] TEXT..`, or an error if an allocation fails.
 pub(crate) fn abnfx_command<'a>(alloc: Global) -> Result<Command<'a>, AllocError>
     ensures app { IfOk result (λ c. app_of c ≡ abnfx_app) }
 {
@@ -61,7 +61,7 @@ pub(crate) fn abnfx_command<'a>(alloc: Global) -> Result<Command<'a>, AllocError
 
 /// Parses the words, the program's name first.
 ///
-/// The error holds the help that was asked for, or what is wrong with the words, or want of memory.
+/// The error holds the help that was asked for, or what is wrong with the words, or that an allocation failed.
 pub(crate) fn parse_words<'a>(alloc: Global, words: &'a [String]) -> Result<ArgMatches<'a>, Error>
     ensures parses { Parses abnfx_app (map string_bytes words.entry.now) result }
     ensures flags { IfOk result (λ m. AreFlagTexts (found_of m)) }

@@ -19,7 +19,7 @@ use ruletable::{Sink, write_pieces};
 use std::rt::Files;
 use toolrun::{Status, Stop, close_run, end_run};
 
-// Tells why nothing is joined, and ends.
+// Reports why nothing is joined, and ends.
 fn end_told<O: Sink, E: Sink>(pieces: &[&[u8]], status: Status, out: &mut O, err: &mut E) -> Status
     requires out_is_fresh { O.failed out.old ≡ false }
     requires err_is_fresh { E.failed err.old ≡ false }
@@ -79,7 +79,7 @@ fn join_files<R: Files + AllocGlobal, O: Sink, E: Sink>(
     }
 }
 
-// Tells that two forms exclude each other, and ends.
+// Reports that two forms exclude each other, and ends.
 fn end_clash<O: Sink, E: Sink>(out: &mut O, err: &mut E) -> Status
     requires out_is_fresh { O.failed out.old ≡ false }
     requires err_is_fresh { E.failed err.old ≡ false }

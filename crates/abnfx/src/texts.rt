@@ -32,7 +32,7 @@ pub(crate) enum Unread<'a> {
     NoMemory,
 }
 
-// Reads a text: one byte more than it may have is enough to tell that it is too long.
+// Reads a text: one byte more than it may have is enough to show that it is too long.
 fn read_bytes<R: Files + AllocGlobal>(rt: &R, path: &str) -> io::Result<Vec<u8>> {
     let mut bytes = Vec::new(rt.alloc());
     fs::open(rt, path)?

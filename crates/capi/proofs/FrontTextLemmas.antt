@@ -1,4 +1,4 @@
--- What is told once for all windows, and the runs behind it.
+-- The messages that stand once for all windows, and the runs after them.
 -- Serves: peg_windows
 use Rattle.std.proofs.Common.{◌≡◌, ℕ, List, [], ◌++◌, refl, sym, ◌∙◌, ap, append-nil, inr}
 use Rattle.std.specs.Prelude.{Result, Ok, Err}
@@ -22,7 +22,7 @@ use Rattle.toolrun.specs.declared.stop.Stop.TheVariants.{Unreadable}
 
 module _ {T : Type 0} (States : Input → List ℕ → Reply → Type 0) (Does : T → Input → Reply → Type 0)
     (first : List ℕ) where
-  -- the fault is told once, and the run of a window stops after it
+  -- the fault is reported once, and the run of a window stops after it
   behind_fault : (fault : ReadFault) → IsPlanned States first Does (Err (Refused fault))
       → (bytes : List ℕ) (run : WindowRun)
       → IsPlannedRun (does_of Does (Err (Quiet status.Refused))) bytes run.out run.err run.code
@@ -63,7 +63,7 @@ module _ {T : Type 0} (States : Input → List ℕ → Reply → Type 0) (Does :
   behind_all (Err (Refused fault)) = λ told is plan bytes run p. rw is (behind_fault fault plan bytes run p)
   behind_all (Err Unreadable) = behind_notes_alone (Err Unreadable)
 
-  -- the run of a window, behind what is told once
+  -- the run of a window, after the messages that stand once
   pub front_is_behind : (task rest : Result T Stop) (told : List ℕ) → IsFrontOf first task told rest
       → IsPlanned States first Does task → (bytes : List ℕ) (run : WindowRun)
       → IsPlannedRun (does_of Does rest) bytes run.out run.err run.code
@@ -98,7 +98,7 @@ module _ {T : Type 0} (States : Input → List ℕ → Reply → Type 0) (Does :
       (rw is (IsBeginning-same (first ++ fault_text fault)))
   stands_once (Err Unreadable) told = stands_alone (Err Unreadable) told
 
-  -- what is told once stands first in what is told of each input
+  -- the messages that stand once are a prefix of those on each input
   pub front_stands_first : (task rest : Result T Stop) (told : List ℕ) → IsFrontOf first task told rest
       → IsPlanned States first Does task → StandsFirst States told
   front_stands_first task rest told (told_once is) plan = stands_once task told is plan

@@ -1,4 +1,4 @@
--- What is told of a grammar that was to be opened.
+-- The messages on a grammar that C opens.
 -- Serves: abnf_open, abnf_judge, peg_open, peg_run
 use Rattle.std.proofs.Common.{◌≡◌, ◌≢◌, ℕ, Bool, true, false, List, [], ◌++◌, Option, Some, None, refl}
 use Rattle.std.specs.Prelude.{IsSome, is_some}
@@ -30,7 +30,7 @@ module _ {HasFault : ReadFault → Type 0} {Why : ReadFault → List ℕ → Typ
       → IsFaultTold HasFault Why settings told (code_of status)
   tells_nothing told status t s = rw (t, s) has_no_memory
 
-  -- the fault is told
+  -- the fault is reported
   pub tells_fault : (fault : ReadFault) (why told : List ℕ) → HasFault fault → fault ≢ Memory
       → Explained settings (Why fault) why → told ≡ fault_text fault ++ why
       → IsFaultTold HasFault Why settings told (code_of Refused)
@@ -38,7 +38,7 @@ module _ {HasFault : ReadFault → Type 0} {Why : ReadFault → List ℕ → Typ
 
   module _ {Open : Type 0} {WhyNoted : Option (List ℕ) → Said → List ℕ → Type 0} {AreHints : List ℕ → Type 0}
       {IsOpen : List Said → Option Open → Type 0} (held : Option Open) (empty : held ≡ None) where
-    -- the fault is told, and the place stays empty
+    -- the fault is reported, and the place stays empty
     pub opens_no_text : (told : List ℕ) (code : ℕ) → IsFaultTold HasFault Why settings told code
         → IsOpening HasFault Why WhyNoted AreHints IsOpen settings told held code
     opens_no_text told code is = rw empty (not_read told code is)

@@ -1,4 +1,4 @@
--- One window behind others.
+-- One window after others.
 -- Serves: peg_windows
 use Rattle.std.proofs.Common.{◌≡◌, ℕ, true, false, List, [], ◌∷◌, ◌++◌, refl, sym, ◌∙◌, ap, arith, ◌<◌, length, take}
 use Rattle.std.proofs.Common.{append_assoc, map, slice_index_or, slice_set, ◌+◌, inl, inr}
@@ -89,7 +89,7 @@ module _ (Ran Seen : List ℕ → WindowRun → Type 0) (input : List ℕ)
     results_are = h.results_are;
   }
 
--- a planned run delivers its reply after what is told first
+-- a planned run delivers its reply after the first messages
 pub behind_as : (States : Input → List ℕ → Reply → Type 0) (first notes bytes : List ℕ) (run : WindowRun)
     (plain whole : Reply) (Does : Input → Reply → Type 0) (p : IsPlannedRun Does bytes run.out run.err run.code)
     → whole.out ≡ plain.out → whole.status ≡ plain.status → first ++ plain.err ≡ notes ++ whole.err
@@ -112,7 +112,7 @@ pub kept_told : (Ran Seen : List ℕ → WindowRun → Type 0)
     → (bytes : List ℕ) (kept : WindowRun) → KeptRun Ran bytes kept → KeptRun Seen bytes kept
 kept_told Ran Seen tells bytes kept (run, was, saved) = (run, tells bytes run was, saved)
 
--- a planned run is one behind what is told first
+-- a planned run is one after the first messages
 pub planned_is_behind : (States : Input → List ℕ → Reply → Type 0) (first : List ℕ) (Does : Input → Reply → Type 0)
     → ((input : Input) (reply : Reply) → Does input reply → Behind States input first reply) → (bytes : List ℕ)
     (run : WindowRun) → IsPlannedRun Does bytes run.out run.err run.code → IsRunBehind States first bytes run

@@ -1,5 +1,5 @@
 -- The settings that C asks for.
-use Rattle.std.specs.Prelude.{◌≡◌, ◌<◌, ◌==◌, ℕ, Bool, true, false, List, Option, Some, None, option_copied}
+use Rattle.std.specs.Prelude.{◌≡◌, ◌≢◌, ◌<◌, ◌==◌, ℕ, Bool, true, false, List, Option, Some, None, option_copied}
 use Rattle.std.specs.Prelude.{if◌then◌else◌}
 use Rattle.std.specs.Str.{IsUtf8}
 use Rattle.capi.specs.declared.asked.CSettings.{CSettings}
@@ -8,6 +8,10 @@ use Rattle.letters.specs.declared.alphabet.Alphabet.TheVariants.{Bytes, Utf8}
 use Rattle.toolrun.specs.declared.settings.Mode.{Mode}
 use Rattle.toolrun.specs.declared.settings.Mode.TheVariants.{Run, Check, Print}
 use Rattle.toolrun.specs.declared.settings.Settings.{Settings}
+
+-- how many bytes the settings have: two numbers of eight bytes, seven fields of one byte, and one unused byte
+abbrev pub settings_size : ℕ
+settings_size = 24
 
 -- the mode of a number
 abbrev pub mode_by : ℕ → Option Mode
@@ -22,8 +26,9 @@ abbrev pub name_by : Bool → List ℕ → Option (List ℕ)
 name_by true name = Some name
 name_by false name = None
 
--- these settings are meant
+-- C asks for these settings, by a struct of the size that this version knows
 pub record IsMeant (asked : CSettings) (name : List ℕ) (settings : Settings) : Type 0 where
+  pub size : asked.size ≡ settings_size
   pub mode : mode_by asked.mode ≡ Some settings.mode
   pub letters : alphabet_by asked.letters ≡ Some settings.letters
   pub limit : settings.limit ≡ asked.limit
@@ -33,8 +38,9 @@ pub record IsMeant (asked : CSettings) (name : List ℕ) (settings : Settings) :
   pub nul : settings.nul ≡ asked.nul
   pub explain : settings.explain ≡ asked.explain
 
--- no settings are asked for
+-- C asks for no settings: the struct has another size, a number is out of its range, or the name is not UTF-8
 pub data IsInvalid (asked : CSettings) (name : List ℕ) : Type 0 where
+  other_size : asked.size ≢ settings_size → IsInvalid asked name
   no_mode : mode_by asked.mode ≡ None → IsInvalid asked name
   no_letters : alphabet_by asked.letters ≡ None → IsInvalid asked name
   too_small : asked.limit < 1 → IsInvalid asked name

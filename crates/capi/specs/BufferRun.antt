@@ -25,8 +25,8 @@ IsLaid text buffer = (buffer.new ≡ laid text buffer.old) × (buffer.len ≡ le
 abbrev pub IsUntouched : Filled → Type 0
 IsUntouched buffer = (buffer.new ≡ buffer.old) × (buffer.len ≡ 0)
 
--- The settings that are asked for were run, and as much of both outputs as there is room for was laid into the buffers;
--- or no settings are asked for, and nothing was done.
+-- A run was made with the settings that C asks for, and as much of both outputs as there is room for was laid into the
+-- buffers; or C asks for no settings, and nothing was done.
 pub data IsBufferRun (States : Settings → Input → List ℕ → Reply → Type 0) (asked : CSettings) (name input : List ℕ)
     (out err : Filled) (code : ℕ) : Type 0 where
   ran : (settings : Settings) (printed told : List ℕ) → IsMeant asked name settings

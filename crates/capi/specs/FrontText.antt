@@ -1,4 +1,4 @@
--- What is told once for all windows of an input, and what is left to do on each.
+-- The messages that stand once for all windows of an input, and what is left to do on each window.
 use Rattle.std.specs.Prelude.{◌≡◌, ℕ, List, [], ◌++◌, Result, Ok, Err}
 use Rattle.ruletable.specs.Faults.{fault_text}
 use Rattle.ruletable.specs.Writing.{IsBeginning}
@@ -24,7 +24,7 @@ abbrev pub fault_told : {T : Type 0} → Result T Stop → List ℕ
 fault_told (Ok task) = []
 fault_told (Err stop) = fault_of_stop stop
 
--- how a run stops whose fault was told before
+-- how a run stops after its fault was reported
 abbrev pub quiet_stop : Stop → Stop
 quiet_stop (Quiet code) = Quiet code
 quiet_stop (NoMatch s) = NoMatch s
@@ -39,13 +39,13 @@ abbrev pub quieted : {T : Type 0} → Result T Stop → Result T Stop
 quieted (Ok task) = Ok task
 quieted (Err stop) = Err (quiet_stop stop)
 
--- Of a plan's task and of what it tells first all that does not depend on a window is told once; or an allocation
--- failed, and nothing is. It serves private helpers alone.
+-- The messages of a plan that depend on no window stand once; or an allocation failed, and there are none. It serves
+-- private helpers alone.
 pub data IsFrontOf {T : Type 0} (first : List ℕ) (task : Result T Stop) (told : List ℕ) : Result T Stop → Type 0 where
   told_once : told ≡ first ++ fault_told task → IsFrontOf first task told (quieted task)
   not_told : told ≡ [] → IsFrontOf first task told (Err NoMemory)
 
--- The text stands first in what is told of each input.
+-- The text is a prefix of the messages on each input.
 abbrev pub StandsFirst : (Input → List ℕ → Reply → Type 0) → List ℕ → Type 0
 StandsFirst States first = (input : Input) → (notes : List ℕ) × (stated : Reply) × States input notes stated
     × IsBeginning first (notes ++ stated.err)

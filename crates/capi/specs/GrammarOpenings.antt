@@ -27,7 +27,7 @@ pub record RunsBy (runner : Runner) (settings : Settings) : Type 0 where
   pub raw : settings.raw ≡ runner.raw
   pub explain : settings.explain ≡ runner.explain
 
--- the text has these notes, and this runs its grammar as settings ask, unless one of them refuses it
+-- the text has these notes, and this runs its grammar as settings ask, unless one of them rejects it
 abbrev pub IsRunnerOf : List ℕ → Settings → List Said → Option Runner → Type 0
 IsRunnerOf text settings notes None = IsPegOpened text settings notes None
 IsRunnerOf text settings notes (Some runner) = IsPegOpened text settings notes (Some runner.peg)

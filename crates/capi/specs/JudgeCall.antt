@@ -1,4 +1,4 @@
--- What a call that judges a line tells.
+-- What a call that judges a line returns.
 use Rattle.std.specs.Prelude.{◌≡◌, ◌<◌, ◌≤◌, ℕ, List, length, Option, Some, None}
 use Rattle.abnfread.specs.AbnfViews.{rules_of}
 use Rattle.abnfrun.specs.AbnfReply.{IsAnswerTo}
@@ -7,17 +7,17 @@ use Rattle.capi.specs.declared.answer.CAnswer.{CAnswer}
 use Rattle.linejudge.specs.declared.answers.Answer.{Answer}
 use Rattle.linejudge.specs.declared.answers.Answer.TheVariants.{Yes, No, NoAfter}
 
--- what C is told of an answer: status 0 for yes, 1 for no, and the length of the longest viable beginning
+-- an answer as C has it: status 0 for yes, 1 for no, and the length of the longest viable prefix
 abbrev pub c_answer : Answer → CAnswer
 c_answer Yes = record { reached = 0; status = 0 }
 c_answer No = record { reached = 0; status = 1 }
 c_answer (NoAfter n) = record { reached = n; status = 1 }
 
--- what C is told where there is no answer
+-- an answer that has a status alone
 abbrev pub c_status : ℕ → CAnswer
 c_status code = record { reached = 0; status = code }
 
--- The line's answer is told; or the line is longer than the limit, or an allocation failed, or there is no judge.
+-- The call returns the line's answer; or the line is longer than the limit, an allocation failed, or there is no judge.
 pub data IsJudgeCall (line : List ℕ) (told : CAnswer) : Option OpenJudge → Type 0 where
   answers : (judge : OpenJudge) (said : Answer) → length line ≤ judge.limit
       → IsAnswerTo judge.letters judge.viable (rules_of judge.grammar.rules) judge.grammar.judged line said

@@ -11,7 +11,7 @@ use Rattle.toolrun.specs.Explained.{Explained}
 use Rattle.toolrun.specs.ToldNotes.{HintedNotes}
 use Rattle.toolrun.specs.declared.settings.Settings.{Settings}
 
--- What is told of a text that is not read, and the status: its fault, which is explained if that is asked; or an
+-- The messages on a text that is not read, and the status: its fault, explained if the settings ask for that; or an
 -- allocation failed. HasFault says what is wrong with the text, and Why which lines explain it.
 pub data IsFaultTold (HasFault : ReadFault → Type 0) (Why : ReadFault → List ℕ → Type 0) (settings : Settings) : List ℕ
     → ℕ → Type 0 where
@@ -19,9 +19,9 @@ pub data IsFaultTold (HasFault : ReadFault → Type 0) (Why : ReadFault → List
       → Explained settings (Why fault) why → IsFaultTold HasFault Why settings (fault_text fault ++ why) 2
   has_no_memory : IsFaultTold HasFault Why settings [] 5
 
--- What is told of a grammar's text, what it is opened as, and the status: it is opened; or its notes refuse it. The
--- notes are told as a run tells them, each explained by WhyNoted and with hints behind them if that is asked. Or the
--- text is not read, or an allocation failed. IsOpen says which notes the text has, and what it may be opened as.
+-- The messages on a grammar's text, what it is opened as, and the status: it is opened; or its notes reject it. The
+-- notes are those of a run. If the settings ask for that, WhyNoted explains each, and hints follow. Or the text is not
+-- read, or an allocation failed. IsOpen says which notes the text has, and what it may be opened as.
 pub data IsOpening {Open : Type 0} (HasFault : ReadFault → Type 0) (Why : ReadFault → List ℕ → Type 0)
     (WhyNoted : Option (List ℕ) → Said → List ℕ → Type 0) (AreHints : List ℕ → Type 0)
     (IsOpen : List Said → Option Open → Type 0)
@@ -39,9 +39,9 @@ pub record Place (Open : Type 0) : Type 0 where
   pub old : Option Open
   pub new : Option Open
 
--- The text was opened with the settings that are asked for, and put into an empty place; as much of what is told as
--- there is room for was laid into the buffer. Or no settings are asked for, or the place is not empty, and nothing was
--- done. Opening says what settings make of the text.
+-- The text was opened with the settings that C asks for, and put into an empty place; as much of the messages as there
+-- is room for was laid into the buffer. Or C asks for no settings, or the place is not empty, and nothing was done.
+-- Opening says what settings make of the text.
 pub data IsOpenCall {Open : Type 0} (Opening : Settings → List ℕ → Option Open → ℕ → Type 0) (asked : CSettings)
     (name : List ℕ) (place : Place Open) (err : Filled) (code : ℕ) : Type 0 where
   tried : (settings : Settings) (told : List ℕ) → place.old ≡ None → IsMeant asked name settings

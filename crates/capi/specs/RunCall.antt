@@ -8,7 +8,7 @@ use Rattle.pegread.specs.PegViews.{rules_of}
 use Rattle.pegrun.specs.PegReply.{RunStates}
 use Rattle.toolrun.specs.declared.settings.Settings.{Settings}
 
--- Both outputs and the status are those of a run of the grammar on the input, behind what is told of the grammar, with
+-- Both outputs and the status are those of a run of the grammar on the input, after the messages on the grammar, with
 -- any settings that ask for such a run.
 abbrev pub HasRunOn : Runner → List ℕ → List ℕ → List ℕ → ℕ → Type 0
 HasRunOn runner input printed told code = (settings : Settings) → RunsBy runner settings

@@ -17,11 +17,11 @@ pub record WindowRun : Type 0 where
 abbrev pub window_bytes : List ℕ → CWindow → List ℕ
 window_bytes input window = take window.len (drop window.at input)
 
--- what C is told of a run
+-- a run as C has it
 abbrev pub result_of : WindowRun → CResult
 result_of run = record { out_len = length run.out; err_len = length run.err; status = run.code }
 
--- the run of these bytes gives what the plan states behind its notes
+-- the run of these bytes gives what the plan states after its notes
 abbrev pub planned : (Input → Reply → Type 0) → List ℕ → WindowRun → Type 0
 planned Does bytes run = IsPlannedRun Does bytes run.out run.err run.code
 
@@ -41,7 +41,7 @@ pub data AreWindowRuns (Ran : List ℕ → WindowRun → Type 0) (input : List �
       → AreWindowRuns Ran input windows runs → IsWindowRun Ran input window run
       → AreWindowRuns Ran input (windows ++ window ∷ []) (runs ++ run ∷ [])
 
--- Both texts are those of runs of the windows, one behind the other, and the results are what they came to.
+-- Both texts are those of runs of the windows, one after the other, and each result has a run's lengths and status.
 pub record HaveRun (Ran : List ℕ → WindowRun → Type 0) (input : List ℕ) (windows : List CWindow) (out err : List ℕ)
     (results : List CResult) : Type 0 where
   pub runs : List WindowRun

@@ -20,13 +20,13 @@ pub record Results : Type 0 where
   pub old : List CResult
   pub new : List CResult
 
--- What is told once has all of a run's notes: it is the notes alone; or it goes on into the messages of a run that
--- prints nothing.
+-- The messages that stand once have all of a run's notes: they are the notes alone; or they go on into the messages of
+-- a run that prints nothing.
 abbrev pub StandsWhole : List ℕ → List ℕ → Reply → Type 0
 StandsWhole first notes stated = (first ≡ notes) ⊎ (IsBeginning notes first × (stated.out ≡ []))
 
--- After what is told once the run of a window's bytes gives what is stated for them, as a run over memory. Or an
--- allocation failed before, nothing is told once, and the run stops for that.
+-- After the messages that stand once, the run of a window's bytes gives what is stated for them, as a run over memory.
+-- Or an allocation failed before: no message stands once, and the run stops for that.
 pub data IsRunBehind (States : Input → List ℕ → Reply → Type 0) (first input : List ℕ) (run : WindowRun) : Type
     0 where
   goes_on : (ran : IsMemoryRun States input run.out (first ++ run.err) run.code)
@@ -34,10 +34,10 @@ pub data IsRunBehind (States : Input → List ℕ → Reply → Type 0) (first i
   stops_early : first ≡ [] → IsMemoryRun (IsToldAnd [] NoMemory) input run.out run.err run.code
       → IsRunBehind States first input run
 
--- Each window was run with the settings that are asked for, by itself. First in the error buffer stands what each run
--- tells of the grammar, its notes or its fault, once for all. Behind it, and in the other buffer, stands the rest of
--- what the runs wrote, one run behind the other, as much as there is room for. Or no settings are asked for, or the
--- results are not as many as the windows, and nothing was done.
+-- Each window was run by itself, with the settings that C asks for. The error buffer begins with the messages on the
+-- grammar, its notes or its fault, once for all. The rest of what the runs wrote follows there, and stands in the other
+-- buffer, one run after the other, as much as there is room for. Or C asks for no settings, or the results are not as
+-- many as the windows, and nothing was done.
 pub data IsWindowsRun (States : Settings → Input → List ℕ → Reply → Type 0) (asked : CSettings) (name input : List ℕ)
     (windows : List CWindow) (results : Results) (out err : Filled) (code : ℕ) : Type 0 where
   all_ran : (settings : Settings) (first printed told : List ℕ) → IsMeant asked name settings

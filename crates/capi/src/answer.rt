@@ -10,21 +10,21 @@ use toolrun::Status;
 #[repr(C)]
 #[derive(Clone, Copy)]
 pub struct CAnswer {
-    /// How many letters the longest viable beginning of a line has that is not derived, if that is asked for; else 0.
+    /// How many letters the longest viable prefix of a rejected line has, if the settings ask for that; else 0.
     pub reached: usize,
     /// 0: the line is derived; 1: it is not; 3: it is longer than the limit; 5: an allocation failed; `BAD_SETTINGS`:
     /// there is no judge.
     pub status: u8,
 }
 
-/// Returns what C is told where a line has no answer.
+/// Returns an answer that has a status alone.
 pub fn without_answer(status: u8) -> CAnswer
     ensures { result ≡ c_status status }
 {
     CAnswer { reached: 0, status }
 }
 
-/// Returns what C is told of an answer.
+/// Returns an answer as C has it.
 fn answer_of(said: Answer) -> CAnswer
     ensures { result ≡ c_answer said }
 {

@@ -1,18 +1,22 @@
-//! What C asks for.
+//! The settings that C passes.
 ghost use Rattle.std.specs.Prelude.{◌≡◌, true, option_copied, MatchOption, MatchResult};
 ghost use Rattle.std.specs.Str.{IsUtf8};
 ghost use Rattle.capi.specs.Asking.{IsMeant, IsInvalid, alphabet_by, mode_by, name_by};
 
+use std::mem::size_of;
 use std::str::from_utf8;
 use toolrun::{Alphabet, MAX_LIMIT, Mode, Settings};
 
 /// The status of a call whose settings are invalid.
 pub const BAD_SETTINGS: u8 = 6;
 
-/// The settings of a run, as C writes them.
+/// The settings of a run, as C writes them. A later version adds its fields after the whole struct, and so makes it
+/// larger. The unused byte at the end of this one stays unused, since callers do not set it.
 #[repr(C)]
 #[derive(Clone, Copy)]
 pub struct CSettings {
+    /// How many bytes the struct of the caller has.
+    pub size: usize,
     /// How many bytes a unit may look at, or a line may have, from 1 to `MAX_LIMIT`.
     pub limit: usize,
     /// 0: the grammar is run on the input; 1: it is checked alone; 2: it is printed in its canonical form.
@@ -23,14 +27,17 @@ pub struct CSettings {
     pub named: bool,
     /// Whether the peg tool prints actions verbatim.
     pub raw: bool,
-    /// Whether the ABNF tool tells how many letters of a refused line begin something that is derived.
+    /// Whether the ABNF tool reports how many letters the longest viable prefix of a rejected line has.
     pub viable: bool,
     /// Whether a NUL byte ends a line of the ABNF tool, in place of LF.
     pub nul: bool,
-    /// Whether messages are explained: a fault of the grammar's text, a note, a refused line, a stop. Hints follow the
+    /// Whether messages are explained: a fault of the grammar's text, a note, a rejected line, a stop. Hints follow the
     /// notes.
     pub explain: bool,
 }
+
+/// The only size of the settings so far.
+const SETTINGS_SIZE: usize = size_of::<CSettings>();
 
 fn mode_of(mode: u8) -> Option<Mode>
     ensures { result ≡ mode_by mode }
@@ -53,7 +60,7 @@ fn alphabet_of(letters: u8) -> Option<Alphabet>
     }
 }
 
-/// The name of a rule is no UTF-8.
+/// The name of a rule is not UTF-8.
 #[derive(Clone, Copy, Drop)]
 struct NotUtf8;
 
@@ -70,11 +77,14 @@ fn start_of<'a>(named: bool, name: &'a [u8]) -> Result<Option<&'a str>, NotUtf8>
     }
 }
 
-/// Returns the settings that are asked for; none where a number is out of its range, or the name of the rule is no
-/// UTF-8.
+/// Returns the settings that C asks for. Returns `None` where the size is unknown, a number is out of its range, or the
+/// name of the rule is not UTF-8.
 pub fn settings_of<'a>(asked: &CSettings, name: &'a [u8]) -> Option<Settings<'a>>
     ensures { MatchOption result (IsInvalid asked.now name.entry.now) (IsMeant asked.now name.entry.now) }
 {
+    if asked.size != SETTINGS_SIZE {
+        return None;
+    }
     let Some(mode) = mode_of(asked.mode) else {
         return None;
     };

@@ -29,8 +29,9 @@ pub(crate) fn hand_out(outputs: &Outputs, out: &mut [u8], err: &mut [u8]) -> CRe
     }
 }
 
-/// Runs a grammar of peg(1) on an input, as `run_peg` says, and lays both outputs into the buffers, as much as there is
-/// room for. `BAD_SETTINGS` where the settings are out of range or the name is no UTF-8: then nothing is done.
+/// Runs a grammar of peg(1) on an input, as `run_peg` does, and lays both outputs into the buffers, as much as there is
+/// room for. Returns `BAD_SETTINGS` and does nothing where the settings are invalid: the size is unknown, a number is
+/// out of its range, or the name is not UTF-8.
 pub fn peg(
     alloc: Global,
     asked: &CSettings,
@@ -50,9 +51,9 @@ pub fn peg(
     }
 }
 
-/// Judges the lines of an input by a grammar in ABNF, as `run_abnf` says, and lays both outputs into the buffers, as
-/// much as there is room for. `BAD_SETTINGS` where the settings are out of range or the name is no UTF-8: then nothing
-/// is done.
+/// Judges the lines of an input by a grammar in ABNF, as `run_abnf` does, and lays both outputs into the buffers, as
+/// much as there is room for. Returns `BAD_SETTINGS` and does nothing where the settings are invalid: the size is
+/// unknown, a number is out of its range, or the name is not UTF-8.
 pub fn abnf(
     alloc: Global,
     asked: &CSettings,
@@ -72,12 +73,15 @@ pub fn abnf(
     }
 }
 
-/// Runs a grammar of peg(1) on each window of an input by itself, as `run_peg` says, and lays what the runs write into
-/// the buffers, as much as there is room for. What each of them tells of the grammar, its notes or the fault of its
-/// text, stands once at the front of the error buffer; the rest stands behind it, one run behind the other. The results
-/// have the status of each run and the lengths of what it wrote there, `BAD_SETTINGS` for a window that does not lie in
-/// the input. The grammar is read and checked once. `BAD_SETTINGS` where the settings are out of range, the name is no
-/// UTF-8, or there is not one result for each window: then nothing is done.
+/// Runs a grammar of peg(1) on each window of an input by itself, as `run_peg` does. Reads and checks the grammar once.
+///
+/// The error output begins with the messages on the grammar, its notes or the fault of its text, once for all runs. The
+/// other messages follow, one run after the other. So do the outputs of the runs in the other buffer. Each buffer gets
+/// as much as there is room for. A result has the status of a run and the lengths of what the run wrote. It is
+/// `BAD_SETTINGS` for a window that does not lie in the input.
+///
+/// Returns `BAD_SETTINGS` and does nothing where the settings are invalid or the results are not as many as the
+/// windows. Settings are invalid if the size is unknown, a number is out of its range, or the name is not UTF-8.
 pub fn peg_windows(
     alloc: Global,
     asked: &CSettings,

@@ -1,4 +1,4 @@
-//! What is told of a grammar before what its runs tell.
+//! The messages on a grammar, which stand once before those of its runs.
 ghost use Rattle.std.specs.Prelude.{◌≡◌, ◌++◌, false, IfOk};
 ghost use Rattle.capi.specs.FrontText.{IsFrontOf, fault_told, quieted};
 ghost use Rattle.ruletable.specs.Writing.{Flags, Writes};
@@ -8,14 +8,14 @@ use ruletable::{Memory, Sink, SinkOf, WriteFault, write_fault};
 use std::alloc::Global;
 use toolrun::{First, Plan, Status, Stop, write_first};
 
-/// What is told once for all windows, and the plan that is performed on each of them.
+/// The messages that stand once for all windows, and the plan for each window.
 #[derive(Drop)]
 pub struct Front<G, S> {
     pub told: Vec<u8>,
     pub plan: Plan<G, S>,
 }
 
-/// Returns what is told first, as a text. `Memory` if an allocation fails.
+/// Returns the first messages as a text. Returns `Memory` if an allocation fails.
 pub(crate) fn text_of_first(alloc: Global, first: &First) -> Result<Vec<u8>, Memory>
     ensures { IfOk result (λ text. text.items ≡ first_text first.now) }
 {
@@ -38,7 +38,8 @@ fn write_refusal<T, W: Sink>(task: &Result<T, Stop>, w: &mut W) -> Result<(), Wr
     }
 }
 
-/// Returns what is told once: what a plan tells first, and the fault that stops it. `Memory` if an allocation fails.
+/// Returns the messages that stand once: the first messages of a plan, and the fault that stops it. Returns `Memory` if
+/// an allocation fails.
 fn front_text<T>(alloc: Global, first: &First, task: &Result<T, Stop>) -> Result<Vec<u8>, Memory>
     ensures { IfOk result (λ text. text.items ≡ first_text first.now ++ fault_told task.now) }
 {
@@ -49,7 +50,7 @@ fn front_text<T>(alloc: Global, first: &First, task: &Result<T, Stop>) -> Result
     }
 }
 
-/// Returns what is left to do where the fault of a grammar's text was told.
+/// Returns the task that is left after the fault of a grammar's text was reported.
 fn behind_fault<T: Drop>(task: Result<T, Stop>) -> Result<T, Stop>
     ensures { result ≡ quieted task }
 {
@@ -59,9 +60,9 @@ fn behind_fault<T: Drop>(task: Result<T, Stop>) -> Result<T, Stop>
     }
 }
 
-/// Returns what of a plan is told once for all windows, the notes on its grammar or the fault of the text, and the plan
-/// for each of them. Where an allocation fails nothing is told once, and the run of each window stops for want of
-/// memory.
+/// Splits a plan into the messages that stand once for all windows and the plan for each window. The messages are the
+/// notes on the grammar or the fault of its text. If an allocation fails there are none, and each run stops with
+/// `NoMemory`.
 pub fn front_of<G: Drop, S: Drop>(alloc: Global, plan: Plan<G, S>) -> Front<G, S>
     ensures { IsFrontOf (first_text plan.first) plan.task result.told.items result.plan.task }
 {

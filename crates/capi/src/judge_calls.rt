@@ -12,10 +12,13 @@ use crate::opening::open_into;
 use crate::result::{CResult, nothing_done};
 use std::alloc::Global;
 
-/// Reads and checks a grammar in ABNF, puts what judges lines by it into an empty place, and lays the notes on it into
-/// the buffer, as much as there is room for. A grammar that is refused leaves the place empty; a fault of its text is
-/// told, and explained if that is asked. The mode must be valid, and has no other effect. `BAD_SETTINGS` where the
-/// settings are out of range, the name is no UTF-8, or the place is not empty: then nothing is done.
+/// Reads and checks a grammar in ABNF, and puts a judge of lines by it into an empty place. Lays the notes on it into
+/// the buffer, as much as there is room for. A rejected grammar leaves the place empty. A text that is no grammar gives
+/// its fault in place of notes, explained if the settings ask for that. The mode must be valid, and has no other
+/// effect.
+///
+/// Returns `BAD_SETTINGS` and does nothing where the settings are invalid or the place is not empty. Settings are
+/// invalid if the size is unknown, a number is out of its range, or the name is not UTF-8.
 pub fn abnf_open(
     alloc: Global,
     asked: &CSettings,
@@ -43,8 +46,8 @@ pub fn abnf_open(
     }
 }
 
-/// Judges a line, which may hold any bytes. To a line without the byte that ends lines it returns what `run_abnf`
-/// answers for the grammar and the settings that were opened.
+/// Judges a line, which may hold any bytes. A line without the byte that ends lines gets the answer of `run_abnf` for
+/// the grammar and the settings of opening.
 pub fn abnf_judge(alloc: Global, place: &mut CJudge, line: &[u8]) -> CAnswer
     ensures same { place.new.judge.held ≡ place.old.judge.held }
     ensures told { IsJudgeCall line.now result place.old.judge.held }
@@ -58,7 +61,7 @@ pub fn abnf_judge(alloc: Global, place: &mut CJudge, line: &[u8]) -> CAnswer
     told
 }
 
-/// Frees what judges lines, if the place is not empty, and leaves it empty.
+/// Frees the judge, if the place is not empty, and leaves the place empty.
 pub fn abnf_close(alloc: Global, place: &mut CJudge)
     ensures { place.new.judge.held ≡ None }
 {

@@ -11,8 +11,7 @@ use abnfrun::{AbnfLanguage, OpenedAbnf, open_abnf};
 use std::alloc::Global;
 use toolrun::{Settings, Status};
 
-/// Tells the notes on a grammar that was opened, and puts what judges lines by it, if there is one, into an empty
-/// place.
+/// Reports the notes on a grammar that was opened, and puts its judge, if there is one, into an empty place.
 fn place_opened(
     alloc: Global,
     grammar: &[u8],
@@ -46,7 +45,7 @@ fn place_opened(
     }
 }
 
-/// Opens a grammar's text, and puts what judges lines by it into an empty place.
+/// Opens a grammar's text, and puts its judge into an empty place.
 pub(crate) fn open_into(
     alloc: Global,
     grammar: &[u8],

@@ -12,7 +12,7 @@ use pegrun::{OpenedPeg, PegLanguage, open_peg};
 use std::alloc::Global;
 use toolrun::{Settings, Status};
 
-/// Tells the notes on a grammar that was opened, and puts what runs it, if there is one, into an empty place.
+/// Reports the notes on a grammar that was opened, and puts its runner, if there is one, into an empty place.
 fn place_runner(
     alloc: Global,
     grammar: &[u8],
@@ -46,7 +46,7 @@ fn place_runner(
     }
 }
 
-/// Opens a grammar's text, and puts what runs it into an empty place.
+/// Opens a grammar's text, and puts its runner into an empty place.
 pub(crate) fn open_runner(
     alloc: Global,
     grammar: &[u8],

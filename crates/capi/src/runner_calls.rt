@@ -13,10 +13,12 @@ use crate::result::{CResult, nothing_done};
 use crate::runs::run_input;
 use std::alloc::Global;
 
-/// Reads and checks a grammar of peg(1), puts what runs it into an empty place, and lays the notes on it into the
-/// buffer, as much as there is room for. A grammar that is refused leaves the place empty; a fault of its text is told,
-/// and explained if that is asked. The mode must be valid, and has no other effect. `BAD_SETTINGS` where the settings
-/// are out of range, the name is no UTF-8, or the place is not empty: then nothing is done.
+/// Reads and checks a grammar of peg(1), and puts a runner of it into an empty place. Lays the notes on it into the
+/// buffer, as much as there is room for. A rejected grammar leaves the place empty. A text that is no grammar gives its
+/// fault in place of notes, explained if the settings ask for that. The mode must be valid, and has no other effect.
+///
+/// Returns `BAD_SETTINGS` and does nothing where the settings are invalid or the place is not empty. Settings are
+/// invalid if the size is unknown, a number is out of its range, or the name is not UTF-8.
 pub fn peg_open(
     alloc: Global,
     asked: &CSettings,
@@ -44,9 +46,9 @@ pub fn peg_open(
     }
 }
 
-/// Runs the open grammar on an input, as `run_peg` says of the settings that it was opened with, and lays both outputs
-/// into the buffers, as much as there is room for, but for what opening told. `BAD_SETTINGS` where no grammar is open:
-/// then nothing is done.
+/// Runs the open grammar on an input, as `run_peg` does with the settings of opening. Lays both outputs into the
+/// buffers, as much as there is room for, without the messages of opening. Returns `BAD_SETTINGS` and does nothing
+/// where no grammar is open.
 pub fn peg_run(
     alloc: Global,
     place: &mut CRunner,
@@ -67,7 +69,7 @@ pub fn peg_run(
     hand_out(&outputs, out, err)
 }
 
-/// Frees what runs the grammar, if the place is not empty, and leaves it empty.
+/// Frees the runner, if the place is not empty, and leaves the place empty.
 pub fn peg_close(alloc: Global, place: &mut CRunner)
     ensures { place.new.runner.held ≡ None }
 {

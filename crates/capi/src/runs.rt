@@ -23,7 +23,7 @@ pub(crate) fn runner_by(peg: PegRunner, settings: &Settings<'_>) -> Runner
     }
 }
 
-/// Runs an open grammar on an input, and returns what it writes behind what is told of the grammar.
+/// Runs an open grammar on an input, and returns what the run writes after the messages on the grammar.
 pub(crate) fn run_input(alloc: Global, runner: &mut Runner, input: &[u8]) -> Outputs
     ensures same { runner.new ≡ runner.old }
     ensures runs { HasRunOn runner.old input.now result.out.items result.err.items (code_of result.status) }

@@ -1,4 +1,4 @@
-//! What is told of a grammar that was to be opened.
+//! The messages on a grammar that C opens.
 ghost use Rattle.std.specs.Prelude.{◌≡◌, [], map, IfOk};
 ghost use Rattle.capi.specs.OpenCall.{IsFaultTold};
 ghost use Rattle.ruletable.specs.Notes.{said_of};
@@ -11,14 +11,14 @@ use ruletable::{Memory, Note, ReadFault};
 use std::alloc::Global;
 use toolrun::{First, Language, Settings, Status, Told as AllTold, told_hints};
 
-/// What is told of a grammar that was to be opened, and the status.
+/// The messages on a grammar that C opens, and the status.
 #[derive(Drop)]
 pub(crate) struct Told {
     pub(crate) text: Vec<u8>,
     pub(crate) status: Status,
 }
 
-/// Returns what is told where an allocation failed.
+/// Returns no message, and the status of a failed allocation.
 pub(crate) fn told_nothing(alloc: Global) -> Told
     ensures text { result.text.items ≡ [] }
     ensures status { result.status ≡ Status.NoMemory }
@@ -29,7 +29,7 @@ pub(crate) fn told_nothing(alloc: Global) -> Told
     }
 }
 
-/// Returns the lines that explain a fault, if that is asked. `Memory` if an allocation fails.
+/// Returns the lines that explain a fault, if the settings ask for them. Returns `Memory` if an allocation fails.
 fn explanation<L: Language>(
     alloc: Global,
     grammar: &[u8],
@@ -45,7 +45,7 @@ fn explanation<L: Language>(
     L::explain_fault(alloc, grammar, fault)
 }
 
-/// Tells the fault of a grammar's text, with what explains it if that is asked.
+/// Reports the fault of a grammar's text, with the lines that explain it if the settings ask for them.
 pub(crate) fn tell_fault<L: Language>(
     alloc: Global,
     grammar: &[u8],
@@ -71,8 +71,8 @@ pub(crate) fn tell_fault<L: Language>(
     }
 }
 
-/// Returns what a run tells of the notes on a grammar: their lines, each explained and with hints behind them if that
-/// is asked. `Memory` if an allocation fails.
+/// Returns the notes on a grammar as a run writes them. If the settings ask for that, each is explained, and hints
+/// follow. Returns `Memory` if an allocation fails.
 pub(crate) fn text_of_notes<L: Language>(
     alloc: Global,
     grammar: &[u8],

@@ -1,4 +1,4 @@
-//! The texts of the runs of some windows, one behind the other.
+//! The texts of the runs of some windows, one after the other.
 ghost use Rattle.std.specs.Prelude.{◌≡◌, ◌++◌, length};
 ghost use Rattle.capi.specs.WindowRuns.{IsSaved, WindowRun, result_of};
 ghost use Rattle.toolrun.specs.Status.{code_of};
@@ -7,7 +7,7 @@ use crate::result::CResult;
 use memoryrun::Outputs;
 use toolrun::Status;
 
-/// What the runs of some windows wrote, one behind the other.
+/// What the runs of some windows wrote, one run after the other.
 #[derive(Drop)]
 pub struct Texts {
     pub out: Vec<u8>,

@@ -36,7 +36,7 @@ fn part(input: &[u8], window: CWindow) -> Option<&[u8]>
     Some(&rest[..window.len])
 }
 
-/// Runs a plan on a window of an input, if it lies there, and appends what the run writes. Returns what it came to.
+/// Runs a plan on a window, if it lies in the input, and appends what the run writes. Returns its lengths and status.
 fn run_window<L: Language>(
     alloc: Global,
     plan: &Plan<L::Grammar, L::Sound>,
@@ -57,8 +57,8 @@ fn run_window<L: Language>(
     }
 }
 
-/// Runs a plan on each window of an input, and returns what the runs wrote, one behind the other, and before it what is
-/// told once for all of them.
+/// Runs a plan on each window of an input. Returns what the runs wrote, one run after the other. The messages that
+/// stand once for all of them come first.
 pub fn run_windows<L: Language>(
     alloc: Global,
     front: Front<L::Grammar, L::Sound>,

@@ -25,14 +25,14 @@ pub more-left : {H : Type 0} (g : H → DefinedAt) (xs : List H) (k : ℕ) → k
     → length xs - k ≡ length (map g xs) - MAX_AGAIN
 more-left g xs k e = let l = length-map xs g in omega (arith, e, l)
 
--- pieces, one behind the other
+-- pieces, one after the other
 pub five-join : (o a b c d e u v w x y : List ℕ) → a ≡ o ++ u → b ≡ a ++ v → c ≡ b ++ w → d ≡ c ++ x → e ≡ d ++ y
     → e ≡ o ++ (u ++ (v ++ (w ++ (x ++ y))))
 five-join o a b c d e u v w x y f g h k l =
     let whole : e ≡ ((((o ++ u) ++ v) ++ w) ++ x) ++ y = rw (l, k, h, g, f) refl in
     whole ∙ simp append_assoc
 
--- both, one behind the other
+-- both, one after the other
 pub agains-join : (o a b lines more shown left : List ℕ) → a ≡ o ++ lines → lines ≡ shown → b ≡ a ++ more
     → more ≡ left → b ≡ o ++ (shown ++ left)
 agains-join o a b lines more shown left f l g m = rw (g, f, l, m) (append_assoc o shown left)

@@ -1,4 +1,4 @@
--- What the places of a text tell explains a note, and only that.
+-- What the positions of a text report explains a note, and only that.
 -- Serves: explain_peg_note, explain_abnf_note, one_note_explanation, one_note_explanation_of_abnf
 use Rattle.std.proofs.Common.{◌≡◌, ℕ, Bool, List, Option, None, length, map, sym, ap, ◌∙◌}
 use Rattle.diagnostics.specs.BodyMentions.{mentioned_at, mentions_in}
@@ -40,7 +40,7 @@ module _ {K : Type 0} (White : List ℕ → List ℕ → Type 0) (First : K → 
       g.is ∙ ap (λ ts. note_lines rule names text (map (sign_at sign_of) ts) start note)
       (one g.tokens h.tokens g.are_tokens h.are_tokens) ∙ sym h.is
 
-  -- the lines of mentions that places tell are those of the tokens
+  -- the lines of mentions that the positions report are those of the tokens
   pub places-mention : (places : Places) (kind : MentionKind) (name : List ℕ)
       (are : ArePlaces White First is_end sign_of rule names text places)
       → mention_lines_by places kind name ≡ lines_mentioned rule names text (map (sign_at sign_of) are.tokens) kind name

@@ -32,7 +32,7 @@ module _ (names : NameCase) (definitions : List DefinedAt) where
         absurd (cc both)
     none-more is h (suc k) n r at stands = h k n r at stands
 
-    -- one that is behind the first mention
+    -- one that is after the first mention
     behind-first : (o : RuleMention) (h : IsFirstMention names definitions ms o)
         → ((r : DefinedAt) → stands-in m ≡ Some r → o.rule.start < r.start) → (k : ℕ) (n : MentionedAt) (r : DefinedAt)
         → slice_get (m ∷ ms) k ≡ Some n → stands-in n ≡ Some r → Earlier o.rule (suc h.place) r k
@@ -52,7 +52,7 @@ module _ (names : NameCase) (definitions : List DefinedAt) where
       first = behind-first o h less;
     }
 
-    -- the first mention of all, where those behind it stand in no rule before its own
+    -- the first mention of all, where those after it stand in no rule before its own
     module _ (own : DefinedAt) (is : stands-in m ≡ Some own)
         (others : (k : ℕ) (n : MentionedAt) (r : DefinedAt) → slice_get ms k ≡ Some n → stands-in n ≡ Some r
         → own.start ≤ r.start) where

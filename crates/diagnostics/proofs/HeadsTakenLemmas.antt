@@ -65,7 +65,7 @@ module _ {K : Type 0} (White : List ℕ → List ℕ → Type 0) (First : K → 
 
   -- one token more
   module _ (at : ℕ) (found : List DefinedAt) (t : Tok K) (others : List (Tok K)) where
-    -- what is known behind a token that begins no definition with the one before
+    -- what is known after a token that begins no definition with the one before
     none-joined : (last : Option (Tok K)) → opens (option_map (sign_at sign_of) last) (sign_at sign_of t) ≡ None
         → found ++ among (joined last (t ∷ others)) ≡ found ++ among (t ∷ others)
     none-joined None none = refl

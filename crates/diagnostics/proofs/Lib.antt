@@ -12,3 +12,6 @@ pub mod AgainLinesLemmas
 pub mod ExplainedNoteLemmas
 mod MentionOrderLemmas
 mod FirstMentionLemmas
+mod NumberListsLemmas
+mod RisingStartsLemmas
+mod MentionsUnderLemmas

@@ -74,7 +74,7 @@ module _ {K : Type 0} (White : List ℕ → List ℕ → Type 0) (First : K → 
           line_is = h.line_is;
         }
 
-    -- a token behind another
+    -- a token after another
     module _ (s : SignAt) (some : before ≡ Some s) where
       record IsLast : Type 0 where
         word : Tok K

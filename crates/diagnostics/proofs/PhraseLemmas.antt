@@ -1,4 +1,4 @@
--- Phrases that are told, row by row.
+-- Phrases that are reported, row by row.
 -- Serves: explain_fault, explain_abnf_fault
 use Rattle.std.proofs.Common.{◌≡◌, ℕ, suc, ◌+◌, ◌<◌, ◌≤◌, ◌&&◌, not, Bool, true, false, List, [], ◌∷◌, ◌++◌}
 use Rattle.std.proofs.Common.{length, get_or, drop, map, refl, sym, ◌∙◌, append_assoc, append-nil, add-one}
@@ -48,7 +48,7 @@ module _ {K : Type 0} (can : K → Bool) where
       cc
 
   module _ {R : Type 0} (f : R → Phrase K) where
-    -- what tells the rest of the table tells all, behind the words so far
+    -- what reports the rest of the table reports all, after the words so far
     abbrev pub TellsRest : List R → ℕ → List (List ℕ) → Type 0
     TellsRest table i told = (ws : List (List ℕ)) → AreTold Allows (map f (drop i table)) ws
         → AreTold Allows (map f table) (told ++ ws)
@@ -79,7 +79,7 @@ module _ {K : Type 0} (can : K → Bool) where
         let all = h [] (rw (drop_all i table le) told_none) in
         rw (append-nil told) at all
 
--- where the same kinds can stand the same is told
+-- where the same kinds can stand the same is reported
 module _ {K : Type 0} {P Q : K → Type 0} (onto : (k : K) → P k → Q k) (back : (k : K) → Q k → P k) where
   told-onto : {p : Phrase K} → IsToldPhrase P p → IsToldPhrase Q p
   told-onto h = record {

@@ -49,13 +49,13 @@ abbrev pub mention_unless : Option Bool → Option ℕ → ℕ → SignAt → Li
 mention_unless None within line t = mention_of within line t
 mention_unless (Some adds) within line t = []
 
--- the definition in whose body stands what is behind a token
+-- the definition in whose body stands what is after a token
 abbrev pub body_behind : Option Bool → Option ℕ → SignAt → Option ℕ
 body_behind None within t = within
 body_behind (Some adds) within t = Some t.start
 
--- What the tokens of a text mention, in order, behind a definition at that place: each name without the sign of a
--- definition right behind it, prose, the marks of repetitions, numbers and literals.
+-- What the tokens of a text mention, in order, after a definition at that place: each name without the sign of a
+-- definition right after it, prose, the marks of repetitions, numbers and literals.
 abbrev pub mentions_in : LineRule → List ℕ → Option ℕ → List SignAt → List MentionedAt
 mentions_in rule text within [] = []
 mentions_in rule text within (t ∷ []) = []

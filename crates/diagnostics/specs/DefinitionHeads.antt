@@ -32,7 +32,7 @@ pub record DefinedAt : Type 0 where
 abbrev pub defined_at : Head → DefinedAt
 defined_at h = record { name = h.name.items; line = h.line; adds = h.adds; start = h.start }
 
--- whether a definition adds to a rule, if one begins with a token of the first sign and one of the second behind it
+-- whether a definition adds to a rule, if one begins with a token of the first sign and one of the second after it
 abbrev pub begun_by : Sign → Sign → Option Bool
 begun_by Name Defines = Some false
 begun_by Name Adds = Some true
@@ -44,7 +44,7 @@ definition_of None name line start = []
 definition_of (Some adds) name line start =
     record { name = name; line = line; adds = adds; start = start } ∷ []
 
--- the definitions that the tokens of a text begin, in order: each name with the sign of a definition right behind it
+-- the definitions that the tokens of a text begin, in order: each name with the sign of a definition right after it
 abbrev pub definitions_in : LineRule → List ℕ → List SignAt → List DefinedAt
 definitions_in rule text [] = []
 definitions_in rule text (t ∷ []) = []

@@ -10,12 +10,12 @@ use Rattle.diagnostics.specs.UseLines.{lines_behind}
 use Rattle.diagnostics.specs.declared.noteplaces.places.Places.{Places}
 use Rattle.diagnostics.specs.declared.noteplaces.sign.Sign.{Sign}
 
--- the lines behind a note on the grammar of these tokens of a text, where that name is given for the start rule
+-- the lines after a note on the grammar of these tokens of a text, where that name is given for the start rule
 abbrev pub note_lines : LineRule → NameCase → List ℕ → List SignAt → Option (List ℕ) → Said → List ℕ
 note_lines rule names text signs start note =
     lines_behind names (definitions_in rule text signs) (mentions_in rule text None signs) start note
 
--- the lines that such places tell
+-- the lines that such positions report
 abbrev pub told_by : Places → Option (List ℕ) → Said → List ℕ
 told_by places start note = lines_behind places.names (map defined_at places.heads.items)
     (map mentioned_at places.mentions.items) start note

@@ -1,13 +1,13 @@
--- What the first bytes of a text tell.
+-- What the first bytes of a text show.
 use Rattle.std.specs.Prelude.{ℕ, ◌==◌, List, [], ◌∷◌, ◌++◌, codes, if◌then◌else◌}
 use Rattle.std.specs.List.{starts_with}
 
--- what is told of a text that begins so
+-- what is reported of a text that begins so
 pub record Row : Type 0 where
   pub begins : List ℕ
   pub told : List ℕ
 
--- a line of it, behind two spaces
+-- a line of it, after two spaces
 abbrev pub fact_line : List ℕ → List ℕ
 fact_line z = codes "  " ++ (z ++ codes "\n")
 

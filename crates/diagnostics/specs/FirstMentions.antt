@@ -1,4 +1,4 @@
--- Which mention a note is told of.
+-- Which mention a note is reported of.
 use Rattle.std.specs.Prelude.{◌≡◌, ◌⊎◌, ℕ, ◌<◌, ◌≤◌, ◌==◌, ◌||◌, nat_lt, List, [], ◌∷◌, Option, Some, None}
 use Rattle.std.specs.Prelude.{◌&&◌, if◌then◌else◌, slice_get, MatchOption}
 use Rattle.std.specs.List.{filter, find, list_any}
@@ -39,7 +39,7 @@ earlier (Some r) m (Some o) =
     if nat_lt o.rule.start r.start then Some o else Some (record { rule = r; mention = m })
 
 -- the first mention in the order of the rules, and in each in the order of its bodies, of those that stand in one,
--- before another one that stands behind them
+-- before another one that stands after them
 abbrev pub earliest : NameCase → List DefinedAt → List MentionedAt → Option RuleMention → Option RuleMention
 earliest names definitions [] other = other
 earliest names definitions (m ∷ ms) other =
@@ -70,7 +70,7 @@ IsFirstIfAny names definitions mentions found =
 abbrev pub uses_of : NameCase → List ℕ → List MentionedAt → List MentionedAt
 uses_of names name mentions = filter (λ m. is_kind Use m.kind && same_name names name m.text) mentions
 
--- of the definitions of a rule those that stand: the first one, and those behind it that add to it
+-- of the definitions of a rule those that stand: the first one, and those after it that add to it
 abbrev pub standing_definitions : List DefinedAt → List DefinedAt
 standing_definitions [] = []
 standing_definitions (d ∷ ds) = d ∷ filter (λ e. e.adds) ds

@@ -15,3 +15,5 @@ pub mod ReportedTrees
 pub mod Openings
 pub mod MentionLines
 pub mod UseLines
+pub mod NameIndexes
+pub mod NumberLists

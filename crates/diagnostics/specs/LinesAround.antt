@@ -21,7 +21,7 @@ line_size rule [] = 0
 line_size rule (b ∷ bytes) = if breaks rule b || ((b == code "\r") && begins_lf bytes) then 0
     else 1 + line_size rule bytes
 
--- how many bytes stand behind the last break
+-- how many bytes stand after the last break
 abbrev pub bytes_before : LineRule → List ℕ → ℕ
 bytes_before rule text = suffix_len (λ b. not (breaks rule b)) text
 

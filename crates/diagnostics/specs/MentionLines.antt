@@ -23,7 +23,7 @@ abbrev pub lines_mentioned : LineRule → NameCase → List ℕ → List SignAt 
 lines_mentioned rule names text signs kind name =
     mention_lines_of kind (rule_named names (definitions_in rule text signs) name) (mentions_in rule text None signs)
 
--- the lines that such places tell
+-- the lines that such positions report
 abbrev pub mention_lines_by : Places → MentionKind → List ℕ → List ℕ
 mention_lines_by places kind name =
     mention_lines_of kind (rule_named places.names (map defined_at places.heads.items) name)

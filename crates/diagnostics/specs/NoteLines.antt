@@ -1,4 +1,4 @@
--- The lines behind a note.
+-- The lines after a note.
 use Rattle.std.specs.Prelude.{ℕ, zero, suc, ◌-◌, not, List, [], ◌∷◌, ◌++◌, length, take, codes, decimal}
 use Rattle.std.specs.List.{filter, flat_map}
 use Rattle.diagnostics.specs.ShownBytes.{cut}
@@ -16,7 +16,7 @@ named names name definitions = filter (λ d. same_name names name d.name) defini
 abbrev pub not_adding : List DefinedAt → List DefinedAt
 not_adding definitions = filter (λ d. not d.adds) definitions
 
--- a line that tells of a definition
+-- the line of a definition
 abbrev pub name_line : List ℕ → DefinedAt → List ℕ
 name_line told d = codes "  line " ++ (decimal d.line ++ (codes ": '" ++ (cut d.name ++ (codes "' " ++ (told
     ++ codes "\n")))))
@@ -36,12 +36,12 @@ abbrev pub first_line : List ℕ → List DefinedAt → List ℕ
 first_line told [] = []
 first_line told (d ∷ ds) = name_line told d
 
--- the first definition of a rule, and behind it those that do not stand: all that do not add to it
+-- the first definition of a rule, and after it those that do not stand: all that do not add to it
 abbrev pub redefined_lines : List DefinedAt → List ℕ
 redefined_lines [] = []
 redefined_lines (d ∷ ds) = name_line (codes "is defined") d ++ agains_told (not_adding ds)
 
--- what the definitions of the rule tell behind a note of the kind
+-- what the definitions of the rule report after a note of the kind
 abbrev pub lines_of : NoteKind → List DefinedAt → List ℕ
 lines_of Redefined definitions = redefined_lines definitions
 lines_of ExtendedEarly definitions = first_line (codes "begins with \"=/\"") definitions

@@ -1,7 +1,7 @@
 -- Phrases of which one is meant.
 use Rattle.std.specs.Prelude.{ℕ, ◌==◌, List, [], ◌∷◌, ◌++◌, length, codes, if◌then◌else◌}
 
--- what stands behind a phrase, before so many others
+-- what stands after a phrase, before so many others
 abbrev pub mark_before : ℕ → List ℕ
 mark_before n = if n == 0 then [] else if n == 1 then codes " or " else codes ", "
 

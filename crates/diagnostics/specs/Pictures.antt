@@ -10,7 +10,7 @@ use Rattle.diagnostics.specs.ShownBytes.{shown, dots}
 abbrev pub window_start : ℕ → ℕ → ℕ
 window_start size place = min (place - 36) (size - 72)
 
--- what is shown before the place: the bytes that begin the window, behind dots where it is not the line's beginning
+-- what is shown before the place: the bytes that begin the window, after dots where it is not the line's start
 abbrev pub left_part : List ℕ → ℕ → List ℕ
 left_part line place =
     let start = window_start (length line) place in
@@ -22,7 +22,7 @@ right_part line place =
     let end = window_start (length line) place + 72 in
     shown (take (end - place) (drop place line)) ++ dots (nat_lt end (length line))
 
--- both lines, behind two spaces
+-- both lines, after two spaces
 abbrev pub picture : List ℕ → ℕ → List ℕ
 picture line place =
     codes "  " ++ (left_part line place ++ (right_part line place

@@ -1,4 +1,4 @@
--- Which phrases tell what can stand at a place.
+-- Which phrases report what can stand at a position.
 use Rattle.std.specs.Prelude.{◌≡◌, List, [], ◌∷◌, ℕ, All, Bool, ◌&&◌, not, Contains}
 use Rattle.std.specs.List.{list_all, list_any}
 
@@ -13,7 +13,7 @@ pub record IsToldPhrase {K : Type 0} (CanStand : K → Type 0) (phrase : Phrase 
   pub stand : All CanStand phrase.kinds
   pub barred : All (λ k. CanStand k → ⊥) phrase.bars
 
--- the words of those that are told, in the table's order
+-- the words of those that are reported, in the table's order
 pub data AreTold {K : Type 0} (CanStand : K → Type 0) : List (Phrase K) → List (List ℕ) → Type 0 where
   told_none : AreTold CanStand [] []
   told_more : {p : Phrase K} {ps : List (Phrase K)} {ws : List (List ℕ)} → IsToldPhrase CanStand p
@@ -29,6 +29,6 @@ pub record TellAll {K : Type 0} (CanStand : K → Type 0) (phrases : List (Phras
   pub some : All (λ words. (p : Phrase K) × (k : K) × Contains phrases p × (p.words ≡ words) × Contains p.kinds k
       × CanStand k) told
 
--- whether the phrase is told where those kinds can stand that pass the test
+-- whether the phrase is reported where those kinds can stand that pass the test
 abbrev pub tells : {K : Type 0} → (K → Bool) → Phrase K → Bool
 tells can p = list_all can p.kinds && not (list_any can p.bars)

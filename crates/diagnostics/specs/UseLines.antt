@@ -1,4 +1,4 @@
--- The lines behind a note, by the definitions of a text and what their bodies mention.
+-- The lines after a note, by the definitions of a text and what their bodies mention.
 use Rattle.std.specs.Prelude.{ℕ, Bool, false, List, [], ◌++◌, Option, Some, None, codes, decimal, if◌then◌else◌}
 use Rattle.diagnostics.specs.ShownBytes.{cut}
 use Rattle.ruletable.specs.Notes.{Said}
@@ -42,6 +42,6 @@ module _ (names : NameCase) (definitions : List DefinedAt) (mentions : List Ment
   lines_by Prose name = prose_lines name
   lines_by kind name = lines_of kind (named names name definitions)
 
-  -- what they tell behind a note
+  -- what they report after a note
   abbrev pub lines_behind : Said → List ℕ
   lines_behind note = lines_by note.kind note.name

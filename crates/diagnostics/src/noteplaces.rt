@@ -1,19 +1,23 @@
 //! Where a grammar's text defines its rules and what their bodies mention, and the lines that explain notes by that.
 
+mod explained;
 mod heads;
 mod laws;
 mod lines;
 mod lines_of_kind;
 mod mentions;
+mod name_index;
+mod number_lists;
 mod places;
 mod prose;
 mod sign;
 mod uses;
 
+pub use explained::{explain_note, places_of};
 pub use heads::Head;
 pub use laws::first_mention;
 pub use lines::push_more;
 pub use lines_of_kind::mention_lines;
 pub use mentions::{Mention, MentionKind};
-pub use places::{Places, explain_note, places_of};
+pub use places::Places;
 pub use sign::{Sign, Signs};

@@ -1,4 +1,4 @@
-//! Pieces of a text as they are told on a terminal: shown bytes, lines with a caret, lists of phrases.
+//! Pieces of a text as a terminal shows them: shown bytes, lines with a caret, lists of phrases.
 
 mod around;
 mod caret;

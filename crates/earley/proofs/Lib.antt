@@ -1,6 +1,6 @@
 pub mod GainsLemmas
 pub mod IsAfterInLemmas
-pub mod IsVerdictLemmas
+pub mod IsFlatVerdictLemmas
 pub mod PlaceTableLemmas
 pub mod RowChartLemmas
 pub mod RowIndexesLemmas

@@ -21,7 +21,7 @@ use Rattle.earley.specs.declared.row_sets.KeptRows.{KeptRows}
 use Rattle.earley.specs.declared.row_sets.RowChart.{RowChart}
 use Rattle.earley.proofs.RowItemsLemmas.{row_item_in, in_row_item}
 
--- the last set tells
+-- the last set decides
 pub row_answer : (flat : code_flat.Tables) → GiveRoots (flat_of flat) flat.roots.items
     → (x : List ℕ) (spots : List Spot)
     (sets : List KeptRows) (kept : KeptRows) (n : ℕ) → IsBuilt flat x (row_views spots sets)

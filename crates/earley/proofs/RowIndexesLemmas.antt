@@ -1,4 +1,4 @@
--- Filled sets that are told apart by the rows of a place.
+-- Filled sets, in kinds by the rows of a place.
 -- Serves: judge
 use Rattle.std.proofs.Common.{◌≡◌, ◌↔◌, ◌⊎◌, inl, inr, ⊎_elim, ℕ, zero, suc, ◌+◌, ◌<◌, List, [], ◌∷◌, ◌++◌}
 use Rattle.std.proofs.Common.{length, slice_index_or, Contains, refl, sym, ap, subst, ◌∙◌, arith, set}
@@ -71,7 +71,7 @@ joined_at rows place Q row row' lt is more p x = by (equal_or p place)
           (λ h. ⊎_elim (λ g. g) (λ g. absurd (other g.0)) h),
         )
 
--- the row of a place tells
+-- the row of a place decides
 module _ (number place : ℕ) (row : List ℕ) (own rest union new : List (List ℕ)) where
   pub alone_indexes : HasAlone row number
       → ((p x : ℕ) → HasAt new p x ↔ (HasAt own p x ⊎ ((p ≡ place) × (x ≡ number))))
@@ -148,7 +148,7 @@ below_more number place row rows own rest union own' rest' union' own'' rest'' u
       (cases_lt p place);
 }
 
--- a set behind the others
+-- a set after the others
 pub indexed_more : (places : ℕ) (kept : KeptRows) (old new : FilledSets) → AreIndexed places old
     → length new.own.items ≡ length old.own.items → length new.rest.items ≡ length old.rest.items
     → length new.union.items ≡ length old.union.items → new.sets.items ≡ old.sets.items ++ kept ∷ []

@@ -1,4 +1,4 @@
--- The spots of the items of rows.
+-- The dotted rules of the items of rows.
 -- Serves: Chart::spots
 use Rattle.std.proofs.Common.{◌≡◌, ◌⊎◌, inl, inr, ⊎_elim, ℕ, ◌+◌, ◌<◌, ◌≤◌, List, [], ◌∷◌, ◌++◌, length, map, Some}
 use Rattle.std.proofs.Common.{slice_get, slice_index_or, sym, ◌∙◌, ap, subst, arith}
@@ -60,7 +60,7 @@ module _ (spots : List Spot) (rows : List (List ℕ)) (i : ℕ) where
     λ h. subst (λ v. In s v) (sym is) (⊎_elim (λ g. (before s).1 g) (λ g. absurd (none g.1)) (there_or_below s h)),
   )
 
--- the spots of a set that is kept as rows
+-- the dotted rules of a set that is kept as rows
 rows_tell : (spots : List Spot) (rows : List (List ℕ)) (found : List Spot)
     → AreSpotsBelow spots rows (length spots) found → AreSpotsOf (map pair (row_items spots rows)) found
 rows_tell spots rows found are s = (

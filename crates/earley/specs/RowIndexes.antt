@@ -1,4 +1,4 @@
--- The filled sets of a line, told apart by the rows of a place.
+-- The filled sets of a line, in kinds by the rows of a place.
 use Rattle.std.specs.Prelude.{◌≡◌, ◌↔◌, ◌⊎◌, ℕ, ◌<◌, ◌≤◌, List, [], length, Option, Some, None, slice_get, Contains}
 use Rattle.bitrows.specs.RowSets.{HasAt}
 use Rattle.flatgrammar.specs.Blocks.{spot}
@@ -22,7 +22,7 @@ rows_at sets o = rows_or (slice_get sets o)
 abbrev pub HasAlone : List ℕ → ℕ → Type 0
 HasAlone row number = (k : ℕ) → Contains row k ↔ (k ≡ number)
 
--- a set is told apart by its row at a place
+-- the kind of a set is noted at a place, by its row there
 pub record Indexes (number place : ℕ) (row : List ℕ) (mine others union mine' others' union' : List (List ℕ))
     : Type 0 where
   pub own : (p o : ℕ) → HasAt mine' p o → HasAt mine p o ⊎ ((p ≡ place) × (o ≡ number) × HasAlone row number)
@@ -32,7 +32,7 @@ pub record Indexes (number place : ℕ) (row : List ℕ) (mine others union mine
   pub there : (k : ℕ) → Contains row k → HasAt mine' place number ⊎ HasAt others' place number
   pub united : (k : ℕ) → Contains row k → HasAt mine' place number ⊎ HasAt union' place k
 
--- a set is told apart by its rows at the places below one
+-- the kind of a set is noted at the places below one, by its rows
 pub record AreIndexedBelow (number below : ℕ) (rows mine others union mine' others' union' : List (List ℕ))
     : Type 0 where
   pub own : (p o : ℕ) → HasAt mine' p o
@@ -43,8 +43,8 @@ pub record AreIndexedBelow (number below : ℕ) (rows mine others union mine' ot
   pub there : (p k : ℕ) → p < below → HasAt rows p k → HasAt mine' p number ⊎ HasAt others' p number
   pub united : (p k : ℕ) → p < below → HasAt rows p k → HasAt mine' p number ⊎ HasAt union' p k
 
--- each set whose row at a place is not empty is told apart there, and what it has there is in the union if it is not
--- its number alone
+-- the kind of each set whose row at a place is not empty is noted there, and what it has there is in the union if it is
+-- not its number alone
 pub record AreIndexed (places : ℕ) (filled : FilledSets) : Type 0 where
   pub own_count : length filled.own.items ≡ places
   pub rest_count : length filled.rest.items ≡ places

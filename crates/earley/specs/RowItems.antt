@@ -44,7 +44,7 @@ pub record IsCalledBy (spots : List Spot) (calls : List Call) (rows : List (List
   pub after : slice_get spots call.after ≡ Some (spot a.node a.step)
   pub has : HasAt rows call.from a.origin
 
--- what a relation tells of the items of a place with the numbers of a row
+-- what a relation adds for the items of a place with the numbers of a row
 pub record IsFor (spots : List Spot) (place : ℕ) (row : List ℕ) (W : Item → Item → Type 0) (a : Item) : Type 0 where
   pub by : Item
   pub is : slice_get spots place ≡ Some (spot by.node by.step)
@@ -66,13 +66,13 @@ pub record IsScannedFor (flat : code_flat.Tables) (c : ℕ) (by a : Item) : Type
   pub step : a.step ≡ by.step + 1
   pub origin : a.origin ≡ by.origin
 
--- the spot of a place below n that has a number
+-- the dotted rule of a place below n that has a number
 pub record HasSpotBelow (spots : List Spot) (rows : List (List ℕ)) (n : ℕ) (s : Spot) : Type 0 where
   pub place : ℕ
   pub under : place < n
   pub is : slice_get spots place ≡ Some s
   pub some : HasSome rows place
 
--- the spots of such places
+-- the dotted rules of such places
 abbrev pub AreSpotsBelow : List Spot → List (List ℕ) → ℕ → List Spot → Type 0
 AreSpotsBelow spots rows n found = (s : Spot) → In s found ↔ HasSpotBelow spots rows n s

@@ -1,13 +1,8 @@
 //! Charts of item sets, and the line judge.
 ghost use Rattle.std.specs.Prelude.{◌≡◌, ◌↔◌, ◌*◌, ◌+◌, ◌≤◌, ℕ, List, [], IsTrue, IfOk, OnErr, length, map};
-ghost use Rattle.abnfcheck.specs.Derivable.{RuleDerives};
-ghost use Rattle.abnfread.specs.Element.{Rule};
 ghost use Rattle.earleyitems.specs.ChartSets.{set_at, AreSpotsOf, IsSet};
-ghost use Rattle.flatgrammar.specs.Flat.{Place};
-ghost use Rattle.flatgrammar.specs.Holds.{Holds};
-ghost use Rattle.lowering.specs.Lowered.{IsLowered};
+ghost use Rattle.flatgrammar.specs.FlatVerdicts.{DerivesLine};
 ghost use Rattle.flatgrammar.specs.Places.{places};
-ghost use Rattle.letters.specs.Letters.{has};
 
 use crate::row_chart::judge_rows;
 use crate::row_sets::RowChart;
@@ -15,7 +10,6 @@ use crate::row_spots::row_spots;
 use earleyitems::judge_within;
 use flatgrammar::{Flat, Spot};
 use letters::Letter;
-use lowering::{items_tell, values_are_letters};
 use ruletable::Memory;
 use std::alloc::Global;
 use std::marker::Model;
@@ -73,8 +67,8 @@ impl Chart {
         }
     }
 
-    /// Returns the spots of the items of set `j`, which may stand there more than once; none if there is no such set.
-    /// `Memory` if an allocation fails.
+    /// Returns the dotted rules of the items of set `j`, each once or more; none if there is no such set. `Memory` if
+    /// an allocation fails.
     pub fn spots(&self, j: usize) -> Result<Vec<Spot>, Memory>
         ensures { IfOk result (λ spots. AreSpotsOf (set_at self.now j) spots.items) }
     {
@@ -99,20 +93,16 @@ fn few_items(letters: usize) -> usize {
     letters.saturating_mul(FEW_FOR_EACH_LETTER).max(FEW_ITEMS)
 }
 
-// Fills the chart with the item sets of a line, and tells whether the last holds the whole's end with origin 0.
-fn judge_by<L: Letter>(chart: &mut Chart, flat: &Flat, line: &[L]) -> Result<bool, Memory>
+// Fills the chart anew with the item sets of a line that has many items, and returns whether the flat grammar derives
+// the line. The sets are kept as rows, or item by item if the grammar has too many places.
+fn judge_many<L: Letter>(chart: &mut Chart, flat: &Flat, line: &[L]) -> Result<bool, Memory>
     requires { length line.now ≤ flat.now.limit }
     ensures sets { IfOk result (λ _. (j : ℕ) → IsSet flat.now (map L.number line.now) j (set_at chart.new j)) }
-    ensures answer { IfOk result (λ yes. IsTrue yes ↔ Holds flat.now (map L.number line.now) (length line.now)
-        (Place.at flat.now.whole 1) 0) }
+    ensures answer { IfOk result (λ yes. IsTrue yes ↔ DerivesLine flat.now (map L.number line.now)) }
     ensures empty { OnErr result (chart.new ≡ []) }
 {
-    chart.rows = None;
-    let few = few_items(line.len());
-    if let Some(yes) = judge_within(&mut chart.items, flat, line, few)? {
-        return Ok(yes);
-    }
     // gives back what the items so far took
+    chart.rows = None;
     chart.items = earleyitems::Chart::new(chart.alloc);
     let tables = flat.share()?;
     if let Some(judged) = judge_rows(chart.alloc, tables, line)? {
@@ -125,23 +115,21 @@ fn judge_by<L: Letter>(chart: &mut Chart, flat: &Flat, line: &[L]) -> Result<boo
     }
 }
 
-/// Fills the chart with the item sets of a line, and tells whether the judged rule derives the line, by the alphabet of
-/// its letters: a value that is no letter derives nothing, and a range derives those of its values that are letters.
-/// The line may have at most `flat.limit()` letters.
+/// Fills the chart with the item sets of a line, and returns whether the flat grammar derives the line. By the law
+/// `items_tell` of `lowering`, a flat grammar of `lower` answers for the judged rule. The line may have at most
+/// `flat.limit()` symbols.
 ///
 /// `Memory` if an allocation fails; the chart is empty then.
 pub fn judge<L: Letter>(chart: &mut Chart, flat: &Flat, line: &[L]) -> Result<bool, Memory>
     requires { length line.now ≤ flat.now.limit }
     ensures sets { IfOk result (λ _. (j : ℕ) → IsSet flat.now (map L.number line.now) j (set_at chart.new j)) }
     ensures bound { IfOk result (λ _. (j : ℕ) → length (set_at chart.new j) ≤ places flat.now.nodes * (j + 1)) }
-    ensures answer { IfOk result (λ yes. IsTrue yes ↔ Holds flat.now (map L.number line.now) (length line.now)
-        (Place.at flat.now.whole 1) 0) }
-    ensures derives { IfOk result (λ yes. (rules : List Rule) (judged : ℕ) → IsLowered rules judged flat.now →
-        IsTrue yes ↔ RuleDerives (has L.ALPHABET) rules judged (map L.number line.now)) }
+    ensures answer { IfOk result (λ yes. IsTrue yes ↔ DerivesLine flat.now (map L.number line.now)) }
     ensures empty { OnErr result (chart.new ≡ []) }
 {
-    let answer = judge_by(chart, flat, line)?;
-    values_are_letters(line);
-    items_tell();
-    Ok(answer)
+    chart.rows = None;
+    match judge_within(&mut chart.items, flat, line, few_items(line.len()))? {
+        Some(yes) => Ok(yes),
+        None => judge_many(chart, flat, line),
+    }
 }

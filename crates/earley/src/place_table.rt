@@ -135,7 +135,7 @@ fn reached_nodes(alloc: Global, flat: &Tables) -> Result<Vec<bool>, Memory> {
     Ok(marks)
 }
 
-// Tells whether a node is marked.
+// Returns whether a node is marked.
 fn is_marked(marks: &[bool], node: usize) -> bool {
     match marks.get(node) {
         Some(mark) => *mark,
@@ -219,7 +219,7 @@ fn read_at(numbers: &Numbers, at: Spot, deed: Deed) -> Option<Option<usize>>
     Some(Some(after))
 }
 
-// Returns what a place does. `None` if a place behind it has no number.
+// Returns what a place does. `None` if the place after it has no number.
 fn step_at(flat: &Tables, numbers: &Numbers, at: Spot) -> Option<Step>
     ensures { IfSome result (IsStep flat.now numbers.now.spots.items at) }
 {
@@ -238,7 +238,7 @@ fn step_at(flat: &Tables, numbers: &Numbers, at: Spot) -> Option<Step>
     })
 }
 
-// Returns what each place does. `None` if a place behind one has no number.
+// Returns what each place does. `None` if the place after one has no number.
 fn all_steps(alloc: Global, flat: &Tables, numbers: &Numbers) -> Result<Option<Vec<Step>>, Memory>
     ensures { IfOk result (λ steps. IfSome steps (λ s. AreSteps flat.now numbers.now.spots.items s.items)) }
 {
@@ -344,7 +344,7 @@ fn all_roots(
     Ok(Some(roots))
 }
 
-// Tells whether a root is reached.
+// Returns whether a root is reached.
 fn is_root_reached(roots: &[RootPlaces], root: usize) -> bool
     ensures { IsTrue result → IsReached roots.now root }
 {
@@ -354,7 +354,7 @@ fn is_root_reached(roots: &[RootPlaces], root: usize) -> bool
     }
 }
 
-// Tells whether what a place calls is reached.
+// Returns whether what a place calls is reached.
 fn is_call_reached(roots: &[RootPlaces], step: Step) -> bool
     ensures { IsTrue result → (c : code_called) → step.called ≡ Some c → IsReached roots.now c.root }
 {
@@ -364,7 +364,7 @@ fn is_call_reached(roots: &[RootPlaces], step: Step) -> bool
     }
 }
 
-// Tells whether all that places call is reached.
+// Returns whether all that places call is reached.
 fn are_calls_reached(roots: &[RootPlaces], steps: &[Step]) -> bool
     ensures { IsTrue result → AreCallsReached roots.now steps.now }
 {
@@ -376,7 +376,7 @@ fn are_calls_reached(roots: &[RootPlaces], steps: &[Step]) -> bool
     true
 }
 
-// Tells whether the whole is reached.
+// Returns whether the whole is reached.
 fn is_whole_reached(flat: &Tables, roots: &[RootPlaces]) -> bool
     ensures { IsTrue result → (root : ℕ) → whole_root flat.now ≡ Some root → IsReached roots.now root }
 {

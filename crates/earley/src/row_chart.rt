@@ -177,7 +177,7 @@ fn row_sets<L: Letter>(
     Ok(sets)
 }
 
-// Tells whether a row has a number.
+// Returns whether a row has a number.
 fn has(row: &BitRow, number: usize) -> bool
     ensures { IsTrue result ↔ Contains row.now number }
 {
@@ -190,7 +190,7 @@ fn has(row: &BitRow, number: usize) -> bool
     false
 }
 
-// Tells whether the row of a place has a number.
+// Returns whether the row of a place has a number.
 fn has_number(rows: &[BitRow], place: usize, number: usize) -> bool
     ensures { IsTrue result ↔ HasAt rows.now place number }
 {
@@ -200,14 +200,14 @@ fn has_number(rows: &[BitRow], place: usize, number: usize) -> bool
     }
 }
 
-// Tells whether an item stands at a place.
+// Returns whether an item stands at a place.
 fn is_at(at: Spot, item: Item) -> bool
     ensures { IsTrue result ↔ ((at.node ≡ item.node) × (at.step ≡ item.step)) }
 {
     at.node == item.node && at.step == item.step
 }
 
-// Tells whether a place is that of an item, and its row has the item's origin.
+// Returns whether a place is that of an item, and its row has the item's origin.
 fn holds_at(spots: &[Spot], rows: &[BitRow], place: usize, item: Item) -> bool
     requires { place < length spots.now }
     ensures { IsTrue result ↔ ((slice_get spots.now place ≡ Some (spot item.node item.step))
@@ -220,7 +220,7 @@ fn holds_at(spots: &[Spot], rows: &[BitRow], place: usize, item: Item) -> bool
     false
 }
 
-// Tells whether rows hold an item.
+// Returns whether rows hold an item.
 fn has_item(spots: &[Spot], rows: &[BitRow], item: Item) -> bool
     ensures { IsTrue result ↔ IsRowItem spots.now rows.now item }
 {
@@ -230,6 +230,33 @@ fn has_item(spots: &[Spot], rows: &[BitRow], item: Item) -> bool
         }
     }
     false
+}
+
+// Judges a line by the table of a grammar: returns its sets, and whether the last holds the whole's end with origin 0.
+// `Memory` if an allocation fails.
+fn judge_by_table<L: Letter>(
+    alloc: Global,
+    table: PlaceTable,
+    line: &[L],
+) -> Result<JudgedRows, Memory>
+    requires table { IsPlaceTable table }
+    requires exact { AreExact table.flat.value }
+    requires short { length line.now < 2 ^ 63 }
+    ensures sized { IfOk result (λ d. AreSizedRows d.chart.table.spots.items d.chart.sets.items) }
+    ensures sets { IfOk result (λ d. (j : ℕ) → IsSet (flat_of table.flat.value) (map L.number line.now) j
+        (set_at (rows_chart d.chart) j)) }
+    ensures answer { IfOk result (λ d. IsTrue d.yes ↔ Holds (flat_of table.flat.value) (map L.number line.now)
+        (length line.now) (Place.at (flat_of table.flat.value).whole 1) 0) }
+{
+    let sets = row_sets(alloc, &table, line)?;
+    let whole = Item {
+        node: table.flat.whole,
+        step: 1,
+        origin: 0,
+    };
+    let yes = has_item(&table.spots, &sets[line.len()].rows, whole);
+    let chart = RowChart { table, sets };
+    Ok(JudgedRows { chart, yes })
 }
 
 /// Judges a line by rows: returns its sets, and whether the last holds the whole's end with origin 0. `None` if the
@@ -252,13 +279,6 @@ pub(crate) fn judge_rows<L: Letter>(
     let Some(table) = place_table(alloc, flat)? else {
         return Ok(None);
     };
-    let sets = row_sets(alloc, &table, line)?;
-    let whole = Item {
-        node: table.flat.whole,
-        step: 1,
-        origin: 0,
-    };
-    let yes = has_item(&table.spots, &sets[line.len()].rows, whole);
-    let chart = RowChart { table, sets };
-    Ok(Some(JudgedRows { chart, yes }))
+    let judged = judge_by_table(alloc, table, line)?;
+    Ok(Some(judged))
 }

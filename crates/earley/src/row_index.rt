@@ -1,4 +1,4 @@
-//! The filled sets of a line, told apart by the rows of a place.
+//! The filled sets of a line, in kinds by the rows of a place.
 ghost use Rattle.std.specs.Prelude.{◌≡◌, ◌↔◌, ◌⊎◌, ◌+◌, ◌<◌, ◌≤◌, ◌^◌, ◌++◌, ◌∷◌, ℕ, [], length};
 ghost use Rattle.std.specs.Prelude.{IsTrue, IfOk, Contains};
 ghost use Rattle.bitrows.specs.RowSets.{HasAt};
@@ -35,7 +35,7 @@ pub(crate) fn no_sets(alloc: Global, places: usize) -> Result<FilledSets, Memory
     })
 }
 
-// Tells whether a row has one number alone.
+// Returns whether a row has one number alone.
 fn is_alone(row: &BitRow, number: usize) -> bool
     requires { number < 2 ^ 63 }
     ensures { IsTrue result → (k : ℕ) → Contains row.now k ↔ (k ≡ number) }
@@ -75,7 +75,7 @@ fn join_at(rows: &mut [BitRow], place: usize, found: &BitRow) -> Result<(), Memo
     Ok(())
 }
 
-// Tells a set apart by its row at a place.
+// Notes which kind a set is at a place: by its row there.
 fn index_row(
     number: usize,
     place: usize,
@@ -108,7 +108,7 @@ fn index_row(
     }
 }
 
-// Tells a set apart by its rows.
+// Notes which kind a set is at each place: by its rows.
 fn index_rows(
     number: usize,
     rows: &[BitRow],
@@ -132,7 +132,7 @@ fn index_rows(
     Ok(())
 }
 
-/// Puts a set behind the others. `Memory` if an allocation fails.
+/// Puts a set after the others. `Memory` if an allocation fails.
 pub(crate) fn keep_set(places: usize, kept: KeptRows, filled: &mut FilledSets) -> Result<(), Memory>
     requires indexed { AreIndexed places filled.old }
     requires count { length kept.rows.items ≤ places }

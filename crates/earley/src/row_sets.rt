@@ -22,7 +22,7 @@ pub(crate) struct RowChart {
     pub(crate) sets: Vec<KeptRows>,
 }
 
-/// Keeps a set that is filled. `Memory` if its items are more than a number of 64 bits tells.
+/// Keeps a set that is filled. `Memory` if its items are 2 ^ 64 or more.
 pub(crate) fn kept_rows(set: RowSet) -> Result<KeptRows, Memory>
     ensures rows { IfOk result (λ kept. kept.rows.items ≡ set.all) }
     ensures size { IfOk result (λ kept. (spots : List code_spot) → length spots ≡ length set.all

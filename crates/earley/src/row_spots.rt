@@ -1,4 +1,4 @@
-//! The spots of the items of a set that is kept as rows.
+//! The dotted rules of the items of a set that is kept as rows.
 ghost use Rattle.std.specs.Prelude.{◌↔◌, ℕ, length, Contains, IsTrue, IfOk};
 ghost use Rattle.bitrows.specs.RowSets.{HasSome};
 ghost use Rattle.earley.specs.RowItems.{AreSpotsBelow};
@@ -8,7 +8,7 @@ use flatgrammar::Spot;
 use ruletable::Memory;
 use std::alloc::Global;
 
-// Tells whether a row has a number.
+// Returns whether a row has a number.
 fn is_used(row: &BitRow) -> bool
     ensures { IsTrue result ↔ ((k : ℕ) × Contains row.now k) }
 {
@@ -18,7 +18,7 @@ fn is_used(row: &BitRow) -> bool
     }
 }
 
-// Tells whether the row of a place has a number.
+// Returns whether the row of a place has a number.
 fn has_some(rows: &[BitRow], place: usize) -> bool
     ensures { IsTrue result ↔ HasSome rows.now place }
 {
@@ -28,8 +28,8 @@ fn has_some(rows: &[BitRow], place: usize) -> bool
     }
 }
 
-/// Returns the spots of the places with a number, each once where the spots are different. `Memory` if an allocation
-/// fails.
+/// Returns the dotted rules of the places with a number, each once where the dotted rules are different. `Memory` if an
+/// allocation fails.
 pub(crate) fn row_spots(alloc: Global, spots: &[Spot], rows: &[BitRow]) -> Result<Vec<Spot>, Memory>
     ensures { IfOk result (λ found. AreSpotsBelow spots.now rows.now (length spots.now) found.items) }
 {

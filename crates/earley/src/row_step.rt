@@ -163,7 +163,7 @@ fn complete_last(
     Ok(())
 }
 
-// Tells whether the place after a call has all numbers that one of these rows has at the place that calls.
+// Returns whether the place after a call has all numbers that one of these rows has at the place that calls.
 fn has_union(union: &[BitRow], call: Call, set: &RowSet) -> bool
     requires { call.after < length set.now.all }
     ensures { IsTrue result → (k : ℕ) → HasAt union.now call.from k → HasAt set.now.all call.after k }
@@ -174,7 +174,7 @@ fn has_union(union: &[BitRow], call: Call, set: &RowSet) -> bool
     }
 }
 
-// Tells whether a row has one number at most.
+// Returns whether a row has one number at most.
 fn is_single(row: &BitRow) -> bool
     ensures { IsTrue result → (j k : ℕ) → Contains row.now j → Contains row.now k → j ≡ k }
 {

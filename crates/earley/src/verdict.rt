@@ -1,16 +1,12 @@
-//! How far a line begins something that the judged rule derives.
-ghost use Rattle.std.specs.Prelude.{◌≡◌, ◌+◌, ◌*◌, ◌<◌, ◌≤◌, ℕ, List, [], IfOk, OnErr, length, map};
-ghost use Rattle.abnfread.specs.Element.{Rule};
+//! The verdict on a line by its item sets.
+ghost use Rattle.std.specs.Prelude.{◌≡◌, ◌+◌, ◌*◌, ◌<◌, ◌≤◌, ℕ, [], IfOk, OnErr, length, map};
 ghost use Rattle.earleyitems.specs.ChartSets.{set_at, IsSet};
+ghost use Rattle.flatgrammar.specs.FlatVerdicts.{IsFlatVerdict};
 ghost use Rattle.flatgrammar.specs.Places.{places};
-ghost use Rattle.lowering.specs.ToldBeginnings.{TellsBeginnings};
-ghost use Rattle.lowering.specs.Verdicts.{IsVerdict};
-ghost use Rattle.letters.specs.Letters.{has};
 
 use crate::chart::{Chart, judge};
-use flatgrammar::Flat;
+use flatgrammar::{Flat, Verdict};
 use letters::Letter;
-use lowering::{Verdict, values_are_letters};
 use ruletable::Memory;
 
 // Returns the number of the last set up to that number that is not empty, 0 if there is none.
@@ -26,26 +22,23 @@ fn furthest(chart: &Chart, end: usize) -> usize
     last
 }
 
-/// Fills the chart with the item sets of a line, and tells whether the judged rule derives the line, or else its
-/// longest viable beginning. The flat grammar is that of `lower_viable` for the alphabet of the letters. The line may
-/// have at most `flat.limit()` letters.
+/// Fills the chart with the item sets of a line, and returns the verdict of the flat grammar. By the law `items_tell`
+/// of `lowering`, a flat grammar of `lower_viable` gives the judged rule's verdict, with the longest viable prefix. The
+/// line may have at most `flat.limit()` symbols.
 ///
 /// `Memory` if an allocation fails; the chart is empty then.
 pub fn viable<L: Letter>(chart: &mut Chart, flat: &Flat, line: &[L]) -> Result<Verdict, Memory>
     requires { length line.now ≤ flat.now.limit }
     ensures sets { IfOk result (λ _. (j : ℕ) → IsSet flat.now (map L.number line.now) j (set_at chart.new j)) }
     ensures bound { IfOk result (λ _. (j : ℕ) → length (set_at chart.new j) ≤ places flat.now.nodes * (j + 1)) }
-    ensures verdict { IfOk result (λ told. (rules : List Rule) (judged : ℕ)
-        → TellsBeginnings (has L.ALPHABET) rules judged flat.now →
-        IsVerdict (has L.ALPHABET) rules judged (map L.number line.now) told) }
+    ensures verdict { IfOk result (IsFlatVerdict flat.now (map L.number line.now)) }
     ensures empty { OnErr result (chart.new ≡ []) }
 {
     let derived = judge(chart, flat, line)?;
-    values_are_letters(line);
-    let told = if derived {
+    let verdict = if derived {
         Verdict::Yes
     } else {
         Verdict::No(furthest(chart, line.len()))
     };
-    Ok(told)
+    Ok(verdict)
 }

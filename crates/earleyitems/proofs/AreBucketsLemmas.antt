@@ -67,14 +67,14 @@ set_get [] i a lt = absurd (omega (arith, lt))
 set_get (x ∷ xs) zero a lt = refl
 set_get (x ∷ xs) (suc i) a lt = set_get xs i a (let less : i < length xs = omega (arith, lt) in less)
 
--- more room for buckets tells of no more
+-- more room for buckets adds no number
 pub within_kept : (list : List Item) (buckets buckets' : List ℕ) (base : ℕ)
     → ((b h : ℕ) → slice_get buckets' b ≡ Some h → 0 < h → slice_get buckets b ≡ Some h)
     → AreWithin list buckets base → AreWithin list buckets' base
 within_kept list buckets buckets' base kept within b zero g = omega arith
 within_kept list buckets buckets' base kept within b (suc h) g = within b (suc h) (kept b (suc h) g (omega arith))
 
--- buckets tell of as much where there are more items
+-- buckets hold as much where there are more items
 pub within_push : (list : List Item) (a : Item) (buckets : List ℕ) (base : ℕ) → AreWithin list buckets base
     → AreWithin (list ++ a ∷ []) buckets base
 within_push list a buckets base within b h g =
@@ -86,7 +86,7 @@ pub within_more : (list : List Item) (buckets : List ℕ) (base : ℕ) → AreWi
     → AreWithin list buckets base
 within_more list buckets base within b h g = let le = within b h g in omega (arith, le)
 
--- from a base behind all that buckets tell, they tell of nothing
+-- from a base past all numbers in buckets, they hold nothing
 pub within_none : (list : List Item) (buckets : List ℕ) (base next : ℕ) → next ≡ base + length list
     → AreWithin list buckets base → AreWithin [] buckets next
 within_none list buckets base next is within b h g = let le = within b h g in omega (arith, is, le)
@@ -115,7 +115,7 @@ module _ (bucket : Item → ℕ) where
       → AreWithin list buckets base
   linked_within list links buckets base l b h g = let le = (l.last b h g).within in omega (arith, le)
 
-  -- the last item of a bucket, as the bucket tells
+  -- the last item of a bucket, by the bucket's number
   pub last_told : (list : List Item) (links buckets : List ℕ) (base b d : ℕ) → AreLinked bucket list links buckets base
       → b < length buckets → IsLast bucket list (length list) b (slice_index_or buckets b d - base)
   last_told list links buckets base b d l lt = l.last b (slice_index_or buckets b d) (get_index buckets b d lt)
@@ -132,7 +132,7 @@ module _ (bucket : Item → ℕ) where
         (λ m. absurd (let n = m.0 in omega (arith, n, lt, le))) (push_cases list a j d e);
   }
 
-  -- an item of another bucket behind them
+  -- an item of another bucket after them
   last_other : (list : List Item) (a : Item) (b at : ℕ) → (bucket a ≡ b → ⊥) → IsLast bucket list (length list) b at
       → IsLast bucket (list ++ a ∷ []) (length (list ++ a ∷ [])) b at
   last_other list a b at other l = record {
@@ -142,7 +142,7 @@ module _ (bucket : Item → ℕ) where
         (λ m. other (ap bucket m.1 ∙ same)) (push_cases list a j d e);
   }
 
-  -- an item of that bucket behind them
+  -- an item of that bucket after them
   last_new : (list : List Item) (a : Item) (b at : ℕ) → b ≡ bucket a → at ≡ length list + 1
       → IsLast bucket (list ++ a ∷ []) (length (list ++ a ∷ [])) b at
   last_new list a b at is here = record {
@@ -151,7 +151,7 @@ module _ (bucket : Item → ℕ) where
     after = λ j d ge lt e same. let size = length-append list (a ∷ []) in absurd (omega (arith, here, size, ge, lt));
   }
 
-  -- other links behind those of the items
+  -- other links after those of the items
   pub linked_same : (list : List Item) (links links' buckets : List ℕ) (base : ℕ)
       → AreLinked bucket list links buckets base
       → length list ≤ length links' →

@@ -18,7 +18,7 @@ use Rattle.earleyitems.proofs.BlockLemmas.{different_left, different_apart}
 use Rattle.earleyitems.proofs.ExpandLemmas.{map_end, take_one, take_past}
 use Rattle.earleyitems.proofs.FillLemmas.{front_same}
 
--- the readers of a set that is put behind the others
+-- the readers of a set that is put after the others
 pub readers_push : (flat : code_flat.Tables) (kept_sets : List EarleySet) (kept_set : EarleySet) (items : List Item)
     (readers : List HomedItem) → kept_set.items ≡ items → AreChosen (ReadsSome flat) items (items_of readers)
     → AreReaders flat (kept_sets ++ kept_set ∷ []) readers

@@ -1,4 +1,4 @@
--- What the items of a list have after a letter, behind a list.
+-- What the items of a list have after a letter, appended to a list.
 -- Serves: judge.
 use Rattle.std.proofs.Common.{◌≡◌, ℕ, ◌+◌, ◌<◌, ◌⊎◌, inl, inr, List, [], ◌∷◌, ◌++◌, length, map, take, slice_index_or}
 use Rattle.std.proofs.Common.{refl, sym, ◌∙◌, ap, subst, arith, append_assoc}
@@ -27,7 +27,7 @@ module _ (flat : code_flat.Tables) (c : ℕ) where
   read_by ws vs a r h =
       record { by = r.by; stands = h; reads = r.reads; node = r.node; step = r.step; origin = r.origin }
 
-  -- an item stands behind one alone
+  -- an item comes after one alone
   same_by : (ws vs : List Item) (a : Item) (r : IsScannedItem flat c ws a) (s : IsScannedItem flat c vs a) → s.by ≡ r.by
   same_by ws vs a r s =
       let here = r.step in
@@ -164,7 +164,7 @@ module _ (flat : code_flat.Tables) (c : ℕ) (old new : List Item) where
     different = λ d. p.different (differ d);
   }
 
-  -- of a block the spots that are tried on the letter are enough
+  -- of a block the dotted rules that are tried on the letter are enough
   pub block_read : (lists : AreSpotLists flat) (head j : ℕ)
       → AreScannedItems flat c (map (item_at j) (readers_of flat head c)) old new
       → AreScannedItems flat c (map (item_at j) (block_of flat head).spots) old new

@@ -105,13 +105,13 @@ added_stored old new bounds all b is go are here ends = subst (λ v. AreStored n
   ends = last_push 0 bounds b ∙ ends;
 })
 
--- what stands behind the first entries
+-- what comes after the first entries
 pub behind_is : {A : Type 0} (old xs more : List A) (from : ℕ) → xs ≡ old ++ more → from ≡ length old
     → take (length xs - from) (drop from xs) ≡ more
 behind_is old xs more from is same =
     (part_appended old xs more (record { from = from; to = length xs }) is same refl).is
 
--- the records of a set, written behind those of the others
+-- the records of a set, written after those of the others
 pub record AreBehind (heads : List ℕ) (old new here : List Record) (part : Part) : Type 0 where
   pub goes : GoesOn old new
   pub part_is : part_of new part ≡ here

@@ -1,4 +1,4 @@
--- The spots of a set's items.
+-- The dotted rules of a set's items.
 -- Serves: Chart::spots
 use Rattle.std.proofs.Common.{◌≡◌, ℕ, Option, Some, None, List, [], ◌∷◌, ◌++◌, map, length, refl}
 use Rattle.std.proofs.Common.{Global, slice_get, sym, ◌∙◌, ap, subst, ◌≤◌, arith, ◌+◌}
@@ -27,7 +27,7 @@ node_at (at s k) = s
 abbrev step_at : Place → ℕ
 step_at (at s k) = k
 
--- a spot with an item of the list
+-- a dotted rule with an item of the list
 pub record IsSpotOf (items : List Item) (s : Spot) : Type 0 where
   pub item : Item
   pub stands : In item items
@@ -61,7 +61,7 @@ in_spots_of [] a h = elim h [ ]
 in_spots_of (b ∷ items) a (now same) = now (ap spot_of same)
 in_spots_of (b ∷ items) a (on h) = on (in_spots_of items a h)
 
--- what is told of a set
+-- the dotted rules of a set
 back_map : (j : ℕ) (spots : List Spot) → map spot_of (map (item_at j) spots) ≡ spots
 back_map j [] = refl
 back_map j (s ∷ spots) = ap (λ v. s ∷ v) (back_map j spots)

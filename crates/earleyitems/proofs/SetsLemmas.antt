@@ -1,4 +1,4 @@
--- Sets one behind the other in the same lists.
+-- Sets one after another in the same lists.
 -- Serves: judge, Chart::items.
 use Rattle.std.proofs.Common.{◌≡◌, ℕ, suc, ◌+◌, ◌-◌, ◌≤◌, List, [], ◌∷◌, ◌++◌, Some, length, take, drop}
 use Rattle.std.proofs.Common.{◌⊎◌, inl, inr, slice_get, refl, sym, ◌∙◌, ap, subst, arith, length-append}
@@ -46,7 +46,7 @@ go_longer old new go = let size = ap (λ v. length v) go.1 ∙ length-append old
 pub goes_farther : {A : Type 0} (old mid new : List A) → GoesOn old mid → GoesOn mid new → GoesOn old new
 goes_farther old mid new p q = (p.0 ++ q.0, q.1 ∙ (ap (λ v. v ++ q.0) p.1 ∙ append_assoc old p.0 q.0))
 
--- what is written behind the first entries
+-- what is written after the first entries
 pub written_behind : {A : Type 0} (xs ys rest : List A) (from n : ℕ) → from ≤ length xs → length ys ≡ length xs - from
     → n ≡ length xs →
     take n (put_mid from (length xs - from) xs ys ++ rest) ≡ take from xs ++ ys
@@ -66,7 +66,7 @@ rest_long xs from =
     let behind = length-drop from xs in
     ap (λ v. length v) (take_all (length xs - from) (drop from xs) (omega (arith, behind))) ∙ behind
 
--- what is written behind a list that goes on
+-- what is written after a list that goes on
 pub behind_new : {A : Type 0} (old xs ys rest : List A) (from n : ℕ) → GoesOn old xs → from ≡ length old →
     length ys ≡ length (take (length xs - from) (drop from xs)) → n ≡ length xs →
     take n (put_mid from (length xs - from) xs ys ++ rest) ≡ old ++ ys
@@ -79,7 +79,7 @@ behind_new old xs ys rest from n go same size is =
     (omega (arith, same))) in
     written_behind xs ys rest from n le count is ∙ ap (λ v. v ++ ys) front
 
--- what was put behind a list
+-- what was appended to a list
 pub part_appended : {A : Type 0} (old new more : List A) (part : Part) → new ≡ old ++ more → part.from ≡ length old
     → part.to ≡ length new → IsAppended new more part
 part_appended old new more part is from to =

@@ -25,12 +25,12 @@ chart_of (Some tables) kept_sets = map (λ set. map pair set) (views tables.valu
 abbrev pub set_at : List (List (Place × ℕ)) → ℕ → List (Place × ℕ)
 set_at sets j = slice_index_or sets j []
 
--- an item of a set stands at a spot
+-- an item of a set has this dotted rule
 pub record HasSpot (set : List (Place × ℕ)) (s : Spot) : Type 0 where
   pub origin : ℕ
   pub stands : In {A = Place × ℕ} (at s.node s.step, origin) set
 
--- the spots are those of the items of a set
+-- the dotted rules are those of the items of a set
 abbrev pub AreSpotsOf : List (Place × ℕ) → List Spot → Type 0
 AreSpotsOf set spots = (s : Spot) → In s spots ↔ HasSpot set s
 

@@ -1,4 +1,4 @@
--- Sets as they are kept, one behind the other: each is a part of three lists.
+-- Sets as they are kept, one after another: each is a part of three lists.
 use Rattle.std.specs.Prelude.{◌≡◌, ℕ, ◌≤◌, ◌++◌, List, [], ◌∷◌, length, map, slice_get, slice_range, take}
 use Rattle.std.specs.Prelude.{Some}
 use Rattle.flatgrammar.specs.declared.flat_item.Item.{Item}
@@ -64,22 +64,22 @@ abbrev pub last_waiters : ℕ → List Bounds → ℕ
 last_waiters count [] = count
 last_waiters count (b ∷ bounds) = last_waiters b.waiters bounds
 
--- the lists of some sets; behind the waiters of the last one there are no others
+-- the lists of some sets; after the waiters of the last one there are no others
 pub record AreStored (s : Stores) (bounds : List Bounds) : Type 0 where
   pub within : AreAllBounds s bounds
   pub ends : last_waiters 0 bounds ≡ length s.waiters.items
 
--- a list goes on behind its end
+-- a list goes on after its end
 abbrev pub GoesOn : {A : Type 0} → List A → List A → Type 0
 GoesOn {A} old new = (more : List A) × (new ≡ old ++ more)
 
--- all lists go on behind their ends
+-- all lists go on after their ends
 pub record GoOn (old new : Stores) : Type 0 where
   pub records : GoesOn old.records.items new.records.items
   pub items : GoesOn old.items.items new.items.items
   pub waiters : GoesOn old.waiters.items new.waiters.items
 
--- the part of a list that was put behind it
+-- the part of a list that was appended to it
 pub record IsAppended {A : Type 0} (new more : List A) (part : Part) : Type 0 where
   pub is : part_of new part ≡ more
   pub within : IsPart part (length new)

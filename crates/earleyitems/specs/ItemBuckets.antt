@@ -17,12 +17,12 @@ pub record IsLast (bucket : Item → ℕ) (list : List Item) (k b at : ℕ) : Ty
   pub here : 0 < at → IsIn bucket list b (at - 1)
   pub after : (j : ℕ) (a : Item) → at ≤ j → j < k → slice_get list j ≡ Some a → bucket a ≡ b → ⊥
 
--- no bucket tells of more than the items
+-- no bucket holds a number past the items
 abbrev pub AreWithin : List Item → List ℕ → ℕ → Type 0
 AreWithin list buckets base = (b h : ℕ) → slice_get buckets b ≡ Some h → h ≤ base + length list
 
--- what buckets tell counts from a base: one that tells no more than the base has no item. The links behind those of the
--- items may hold anything
+-- numbers in buckets count from a base: a bucket whose number is not above the base has no item. The links after those
+-- of the items may hold anything
 pub record AreLinked (bucket : Item → ℕ) (list : List Item) (links buckets : List ℕ) (base : ℕ) : Type 0 where
   pub long : length list ≤ length links
   pub some : 0 < length buckets

@@ -2,7 +2,7 @@
 use Rattle.std.specs.Prelude.{ℕ, List}
 use Rattle.flatgrammar.specs.declared.flat_item.Item.{Item}
 
--- each item has its home at the same index; further homes may stand behind them
+-- each item has its home at the same index; further homes may come after them
 pub record ItemList : Type 0 where
   pub items : List Item
   pub homes : List ℕ

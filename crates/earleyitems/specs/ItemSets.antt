@@ -13,7 +13,7 @@ pub record Adds {A : Type 0} (Q : A → Type 0) (old : List A) (new : List A) : 
   pub only : (a : A) → In a new → In a old ⊎ Q a
   pub different : AreDifferent old → AreDifferent new
 
--- new is old, and perhaps one more behind it
+-- new is old, and perhaps one more after it
 abbrev pub IsOneMore : {A : Type 0} → A → List A → List A → Type 0
 IsOneMore a old new = (new ≡ old) ⊎ (new ≡ old ++ a ∷ [])
 
@@ -50,7 +50,7 @@ pub record IsCompleted (flat : code_flat.Tables) (sets : List (List Item)) (seen
   pub done : done_of flat item ≡ true
   pub advanced : IsAdvanced flat item.node (waiting_in sets seen item.origin) a
 
--- of them, those that are allowed: behind a turn that takes a letter only in a later set
+-- of them, those that are allowed: after a turn that takes a letter only in a later set
 pub record IsAllowedCompletion (flat : code_flat.Tables) (sets : List (List Item)) (seen : List Item) (item : Item)
     (a : Item) : Type 0 where
   pub completed : IsCompleted flat sets seen item a

@@ -14,7 +14,7 @@ pub record IsScannedItem (flat : code_flat.Tables) (c : ℕ) (from : List Item) 
   pub step : a.step ≡ by.step + 1
   pub origin : a.origin ≡ by.origin
 
--- new is old, and behind it what the items have after the letter, each once where the items are different
+-- new is old, and then what the items have after the letter, each once where the items are different
 pub record AreScannedItems (flat : code_flat.Tables) (c : ℕ) (from old new : List Item) : Type 0 where
   pub added : List Item
   pub is : new ≡ old ++ added

@@ -40,7 +40,7 @@ item_from item step = record { node = item.node; step = step; origin = item.orig
 abbrev pub call_site_at : ℕ → Ask → Item
 call_site_at j site = item_at j site.spot
 
--- for each head that no one place alone calls, the items behind those that call it
+-- for each head that no one place alone calls, the items after those that call it
 abbrev pub AreWaiting : code_flat.Tables → List Item → List ℕ → List ℕ → List Waiter → Type 0
 AreWaiting flat places heads firsts waiters = (h t : ℕ) → slice_get heads h ≡ Some t → inner_of flat t ≡ None
     → IsListed waiters (slice_index_or firsts h 0) (IsAdvanced flat t places)

@@ -96,8 +96,8 @@ impl Chart {
         }
     }
 
-    /// Returns the spots of the items of set `j`, which may stand there more than once; none if there is no such set.
-    /// `Memory` if an allocation fails.
+    /// Returns the dotted rules of the items of set `j`, each once or more; none if there is no such set. `Memory` if
+    /// an allocation fails.
     pub fn spots(&self, j: usize) -> Result<Vec<Spot>, Memory>
         ensures { IfOk result (λ spots. AreSpotsOf (set_at self.now j) spots.items) }
     {
@@ -149,7 +149,7 @@ fn predict_start(flat: &Tables, number: usize, heads: &mut Heads) -> Result<(), 
     Ok(())
 }
 
-// Scans the letter behind the last set, where there are no items. Of its items those that read are given.
+// Scans the letter after the last set, where there are no items. `readers` are those items of the set that read.
 fn scan_last<L: Letter>(
     flat: &Tables,
     line: &[L],
@@ -179,7 +179,7 @@ fn scan_last<L: Letter>(
 }
 
 // Adds the item sets of a line, where there are none. It stops once the items beside the blocks are more than `most`,
-// and tells whether it did not.
+// and returns whether it did not.
 fn fill_sets<L: Letter>(
     flat: &Tables,
     line: &[L],
@@ -264,7 +264,7 @@ fn contains(flat: &Tables, kept_set: &EarleySet<'_>, number: usize, item: Item) 
     holds(kept_set.items(), item)
 }
 
-// Tells whether the last set holds the whole's end with origin 0.
+// Returns whether the last set holds the whole's end with origin 0.
 fn is_yes<L: Letter>(flat: &Tables, sets: &Sets, line: &[L]) -> bool
     requires size { length sets.now ≡ length line.now + 1 }
     requires exact { IsExact flat.now (map L.number line.now) (views flat.now 0 sets.now) }
@@ -317,7 +317,7 @@ fn judge_by<L: Letter>(
     Ok(None)
 }
 
-/// Fills the chart with the item sets of a line, and tells whether the last set holds the whole's end with origin 0.
+/// Fills the chart with the item sets of a line, and returns whether the last set holds the whole's end with origin 0.
 /// The line may have at most `flat.limit()` letters.
 ///
 /// It gives up once more than `most` items are kept one by one, as those of blocks are not. It returns `None` then: the

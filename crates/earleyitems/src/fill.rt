@@ -189,7 +189,7 @@ fn predict_all(calls: &[usize], heads: &mut Heads) -> Result<(), Memory>
     Ok(())
 }
 
-/// Adds spots with an origin.
+/// Adds dotted rules with an origin.
 fn add_spots(spots: &[Spot], origin: usize, home: usize, set: &mut Items) -> Result<(), Memory>
     ensures added { IfOk result (λ done. Adds (λ a. In a (map (item_at origin) spots.now)) set.old.items
         set.new.items) }

@@ -4,14 +4,14 @@ ghost use Rattle.flatgrammar.specs.Places.{In};
 
 use flatgrammar::Item;
 
-/// Tells whether two items are equal.
+/// Returns whether two items are equal.
 pub(crate) fn same(a: Item, b: Item) -> bool
     ensures { IsTrue result ↔ (a ≡ b) }
 {
     a.node == b.node && a.step == b.step && a.origin == b.origin
 }
 
-/// Tells whether an item stands in a list.
+/// Returns whether an item stands in a list.
 pub(crate) fn holds(set: &[Item], item: Item) -> bool
     ensures { IsTrue result ↔ In item set.now }
 {

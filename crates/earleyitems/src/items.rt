@@ -28,9 +28,9 @@ const BUCKETS: usize = 64;
 /// one of their homes.
 ///
 /// Before an item is sought among more than a few, all are linked: those of one bucket with one another, the last one
-/// first. They stay linked while there is room for them in the buckets. A bucket tells of an item by its number from a
-/// base on, which grows past all numbers told whenever the items are linked anew or go. So emptying takes no time, and
-/// an item is pushed without a link.
+/// first. They stay linked while there is room for them in the buckets. A bucket holds the number of an item, counted
+/// from a base. The base grows past all numbers in buckets whenever the items are linked anew or go. So emptying takes
+/// no time, and an item is pushed without a link.
 #[derive(Drop)]
 pub(crate) struct Items {
     list: Vec<Item>,
@@ -77,7 +77,7 @@ fn item_bucket(count: usize, item: Item) -> usize
         & (count - 1)
 }
 
-// Tells whether an item stands in a list, whose last one in the same bucket is given.
+// Returns whether an item stands in a list, whose last one in the same bucket is given.
 #[inline(always)]
 fn stands(list: &[Item], links: &[usize], last: usize, item: Item) -> bool
     requires { IsLinkedTo list.now links.now last item }
@@ -161,7 +161,7 @@ fn insert(
     Ok(())
 }
 
-// Links all items, of which the buckets tell nothing.
+// Links all items, of which no bucket holds a number.
 fn relink(
     list: &[Item],
     links: &mut [usize],
@@ -205,7 +205,7 @@ fn make_room(list: &[Item], links: &mut Vec<usize>, buckets: &mut Vec<usize>) ->
     Ok(())
 }
 
-// Links all items anew, of which the buckets tell nothing. There are more buckets if they were few. `Memory` if an
+// Links all items anew, of which no bucket holds a number. There are more buckets if they were few. `Memory` if an
 // allocation fails.
 #[inline(never)]
 fn prepare(
@@ -312,7 +312,7 @@ fn put(
     add_linked(list, links, buckets, *base, *room, item)
 }
 
-// Tells of some items of a list that they stand there. It takes one look.
+// Returns true for some of the items that a list has. It takes one look.
 #[inline(always)]
 fn is_last(list: &[Item], buckets: &[usize], base: usize, item: Item) -> bool
     requires { AreWithin list.now buckets.now base }
@@ -434,7 +434,7 @@ impl Items {
         Ok(())
     }
 
-    /// Adds an item with its home behind the others, and looks for none. `Memory` if an allocation fails.
+    /// Adds an item with its home after the others, and looks for none. `Memory` if an allocation fails.
     #[inline(always)]
     pub(crate) fn push(&mut self, item: Item, home: usize) -> Result<(), Memory>
         ensures pushed { IfOk result (λ done. self.new.items ≡ self.old.items ++ item ∷ []) }

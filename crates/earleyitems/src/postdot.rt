@@ -1,4 +1,4 @@
-//! The items of a set by what stands behind their dot: a call, or letters.
+//! The items of a set by what comes after their dot: a call, or letters.
 ghost use Rattle.std.specs.Prelude.{◌≡◌, ◌++◌, ◌∷◌, ℕ, List, [], IsTrue, IfOk};
 ghost use Rattle.flatgrammar.specs.TableViews.{call_of};
 ghost use Rattle.flatgrammar.specs.declared.flat_item.Item as code_item;
@@ -25,7 +25,7 @@ pub(crate) struct Caller {
     pub(crate) next: usize,
 }
 
-/// Holds of the items of a set those with a call behind the dot, and those with letters.
+/// Holds of the items of a set those with a call after the dot, and those with letters.
 #[derive(Drop)]
 pub(crate) struct Postdot {
     pub(crate) callers: Vec<Caller>,

@@ -60,7 +60,7 @@ fn scan_items(flat: &Tables, value: u32, from: &[HomedItem], set: &mut Items) ->
     Ok(())
 }
 
-/// Scans a letter for the spots of a block.
+/// Scans a letter for the dotted rules of a block.
 fn scan_spots(
     flat: &Tables,
     value: u32,

@@ -1,4 +1,4 @@
-//! The spots of a set's items.
+//! The dotted rules of a set's items.
 ghost use Rattle.std.specs.Prelude.{◌≡◌, ◌++◌, map, OnOk};
 ghost use Rattle.std.specs.List.{flat_map};
 ghost use Rattle.flatgrammar.specs.Blocks.{block_of, spot};
@@ -8,7 +8,7 @@ use crate::sets::Record;
 use flatgrammar::{Item, Spot, Tables, spots};
 use ruletable::Memory;
 
-/// Adds the spots of the blocks of heads.
+/// Adds the dotted rules of the blocks of heads.
 pub(crate) fn push_heads(
     flat: &Tables,
     records: &[Record],
@@ -23,7 +23,7 @@ pub(crate) fn push_heads(
     Ok(())
 }
 
-/// Adds the spots of items.
+/// Adds the dotted rules of items.
 pub(crate) fn push_items(items: &[Item], out: &mut Vec<Spot>) -> Result<(), Memory>
     ensures { OnOk result (out.new.items ≡ out.old.items ++ map (λ a. spot a.node a.step) items.now) }
 {

@@ -1,4 +1,4 @@
-//! The sets of a line, one behind the other.
+//! The sets of a line, one after another.
 ghost use Rattle.std.specs.Prelude.{◌≡◌, ◌++◌, ◌∷◌, ℕ, List, [], length, slice_get, slice_index_or, Some, IfOk, OnOk};
 ghost use Rattle.flatgrammar.specs.Blocks.{block_of, AreHomes, AreSpotLists};
 ghost use Rattle.earleyitems.specs.Chosen.{AreCallers};
@@ -52,7 +52,7 @@ pub(crate) struct Filled<'a> {
     pub(crate) blocks: usize,
 }
 
-/// Holds the lists of all sets, those of one kind one behind the other.
+/// Holds the lists of all sets, those of one kind one after another.
 #[derive(Drop)]
 pub(crate) struct Stores {
     pub(crate) records: Vec<Record>,
@@ -78,7 +78,7 @@ impl Model for Sets {
     ghost invariant = { λ s. AreStored s.stores s.bounds.items };
 }
 
-// Puts a list behind another, and returns where it stands.
+// Appends a list to another, and returns where it stands.
 #[inline(always)]
 fn append<T: Copy>(list: &mut Vec<T>, more: &[T]) -> Result<Part, Memory>
     ensures more { GoesOn list.old.items list.new.items }
@@ -92,7 +92,7 @@ fn append<T: Copy>(list: &mut Vec<T>, more: &[T]) -> Result<Part, Memory>
     })
 }
 
-// Puts the lists of a set behind those of the others, and returns where they stand.
+// Appends the lists of a set to those of the others, and returns where they stand.
 #[inline(always)]
 fn store(
     flat: &Tables,
@@ -134,7 +134,7 @@ fn store(
     })
 }
 
-// Puts a set behind the others.
+// Puts a set after the others.
 #[inline(always)]
 fn add_set(
     flat: &Tables,
@@ -216,8 +216,8 @@ impl Sets {
         &self.stores.waiters
     }
 
-    /// Adds a set as it was filled, with the waiting lists of its heads. `Memory` if its items are more than a number
-    /// of 64 bits tells, or if an allocation fails; there is no set then.
+    /// Adds a set as it was filled, with the waiting lists of its heads. `Memory` if its items are 2 ^ 64 or more, or
+    /// if an allocation fails; there is no set then.
     #[inline(always)]
     pub(crate) fn push(&mut self, flat: &Tables, filled: Filled<'_>) -> Result<(), Memory>
         requires lists { AreSpotLists flat.now }

@@ -57,7 +57,7 @@ fn list_item(
     Ok(())
 }
 
-// Puts the items behind the call sites of a block on the waiting lists.
+// Puts the items after the call sites of a block on the waiting lists.
 fn list_call_sites(
     heads: &Heads,
     from: &[Ask],
@@ -89,7 +89,7 @@ fn list_call_sites(
     Ok(())
 }
 
-// Puts the items behind the call sites of the blocks of the heads on the waiting lists.
+// Puts the items after the call sites of the blocks of the heads on the waiting lists.
 fn list_blocks(
     flat: &Tables,
     heads: &Heads,
@@ -117,7 +117,7 @@ fn list_blocks(
     Ok(())
 }
 
-// Puts the items behind those that call on the waiting lists.
+// Puts the items after those that call on the waiting lists.
 fn list_callers(
     heads: &Heads,
     callers: &[Caller],
@@ -193,8 +193,8 @@ fn add_records(heads: &[usize], records: &mut Vec<Record>) -> Result<(), Memory>
     Ok(())
 }
 
-/// Adds the records of a set's heads, and fills the waiting list of each, behind those of other sets. Returns where the
-/// records stand. Of the items those that call are given.
+/// Adds the records of a set's heads, and fills the waiting list of each, after those of other sets. Returns where the
+/// records stand. `callers` are those items that call.
 #[inline(always)]
 pub(crate) fn list_waiters(
     flat: &Tables,

@@ -157,7 +157,7 @@ telling_none links at row left order list q = record {
   told = told_none left order q;
 }
 
--- telling one more
+-- processing one more
 pub telling_next : {links : List Link} {l : Link} {at : ℕ} {row a o b p c q : List ℕ} → 0 < at →
     slice_get links (at - 1) ≡ Some l → IsTelling links at row a o b p → Told (l.user ∷ []) b p c q →
     IsTelling links l.next row a o c q
@@ -174,14 +174,14 @@ chain_end : (links : List Link) (at : ℕ) (ns : List ℕ) → at ≤ 0 → Chai
 chain_end links at ns le end = refl
 chain_end links at ns le (link {k = k} here low rest) = absurd (omega (arith, le))
 
--- at the end of the list the whole row was told
+-- at the end of the list the whole row was processed
 pub telling_done : {links : List Link} {at : ℕ} {row a o b p : List ℕ} → at ≤ 0 → IsTelling links at row a o b p →
     Told row a o b p
 telling_done {links} {at} {row} {a} {o} {b} {p} le t =
     let none : t.rest ≡ [] = chain_end links at t.rest le t.list in
     subst (λ v. Told v a o b p) (sym (t.is ∙ ap (λ v. t.front ++ v) none ∙ append-nil t.front)) t.told
 
--- the list that is told goes on with a link
+-- the list that is processed goes on with a link
 pub telling_within : {links : List Link} {at : ℕ} {row a o b p : List ℕ} → IsTelling links at row a o b p →
     at ≤ length links
 telling_within {links} t = first_within links t.list

@@ -1,4 +1,4 @@
--- The numbers told before others, number by number.
+-- The predecessors, number by number.
 -- Serves: chains_from
 use Rattle.std.proofs.Common.{◌≡◌, ℕ, suc, ◌+◌, ◌<◌, List, [], ◌∷◌, ◌++◌, length, take, set, get_or}
 use Rattle.std.proofs.Common.{Option, Some, None, Contains, refl, sym, subst, ap, arith, ⊎_elim, inl, inr, ◌⊎◌, ◌∙◌}

@@ -18,7 +18,7 @@ use Rattle.fixpoint.proofs.OpensLemmas.{same_way}
 use Rattle.fixpoint.proofs.AtLemmas.{at_one, at_append_left, at_push, at_push_cases, at_take, take_at, drop_in, in_drop}
 use Rattle.fixpoint.proofs.AtLemmas.{at_some}
 
--- from the last part steps lead to what is done, or into it: behind, or to what is marked
+-- from the last part steps lead to what is done, or into it: later, or to what is marked
 module _ (rows : List (List ℕ)) (w : Way) (parts' : List Part) (last : Part) (g : IsWay rows w)
     (split : w.parts ≡ parts' ++ last ∷ []) (none_ahead : length w.ahead ≤ last.rest) where
   leads_from : (j m : ℕ) → last.first ≤ j → IsSeen rows w j m →

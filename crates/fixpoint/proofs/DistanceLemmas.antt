@@ -27,7 +27,7 @@ module _ (rows : List (List ℕ)) (s : ℕ) where
     least = λ m k. let l = d.least (suc m) (one_more k step) in omega (arith, l);
   }
 
-  -- a distance is told
+  -- a distance is recorded
   pub distance_told : (far : List (Option ℕ)) (v n : ℕ) → AreDistances rows s far → Distance rows s v n
       → At far v (Some n)
   distance_told far v n a d =

@@ -204,7 +204,7 @@ module _ (rows : List (List ℕ)) (s : ℕ) where
         let f : w.0 ≡ i = cc e in
         subst (λ z. At a v (Some z)) f w.1
 
-    -- the distance of a number that stands behind is the new one
+    -- the distance of a number that stands later is the new one
     new_told : (v i : ℕ) → Contains g.added v → At b v (Some i) → i ≡ d + 1
     new_told v i h t = let e : Some i ≡ Some (d + 1) = at_one b v (Some i) (Some (d + 1)) t (g.new v h) in cc e
 

@@ -18,7 +18,7 @@ module _ (rows : List (List ℕ)) (s : ℕ) (far : List (Option ℕ)) where
   before_next : (w i : ℕ) → w < i + 1 → (w ≡ i → ⊥) → w < i
   before_next w i lt other = ⊎_elim (λ less. less) (λ most. absurd (other (omega (arith, lt, most)))) (cases_lt w i)
 
-  -- the next number is none from which a step leads back, or not told how far
+  -- the next number is none from which a step leads back, or has no distance
   pub nearest_stays : (i : ℕ) (best : Option Near) → ((m : ℕ) → At far i (Some m) → Step rows i s → ⊥)
       → IsNearestIfAny rows s far i best → IsNearestIfAny rows s far (i + 1) best
   nearest_stays i None none h = λ w m lt at step.

@@ -1,4 +1,4 @@
--- The chain that is told.
+-- The chain that is returned.
 -- Serves: one_chain, chain_to
 use Rattle.std.proofs.Common.{◌≡◌, ℕ, suc, ◌+◌, List, [], ◌∷◌, ◌++◌, length, reverse, Option, Some}
 use Rattle.std.proofs.Common.{None, refl, sym, subst, ap, arith, ◌∙◌, length-append, append_assoc}

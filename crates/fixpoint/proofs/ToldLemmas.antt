@@ -102,7 +102,7 @@ queue_more left order k q = record {
       omega (arith, w, l, t);
 }
 
--- a number that needs nothing is told nothing
+-- a number that needs nothing is counted down by nothing
 pub told_done : (n : ℕ) (left order : List ℕ) → IsQueue left order → left_of left n ≡ 0 →
     Told (n ∷ []) left order left order
 told_done n left order q e = record {
@@ -202,7 +202,7 @@ told_none left order q = record {
   grows = sym (append-nil order);
 }
 
--- telling one more
+-- counting down by one more
 pub told_push : (users : List ℕ) (n : ℕ) (a o b p c q : List ℕ) → Told users a o b p → Told (n ∷ []) b p c q →
     Told (users ++ n ∷ []) a o c q
 told_push users n a o b p c q s t = record {

@@ -48,7 +48,7 @@ module _ (rows : List (List ℕ)) (s : ℕ) where
         → At far w (Some j) → i ≤ j
     pub near : (p v w i j : ℕ) → head ≤ p → At queue p v → At far v (Some i) → At far w (Some j) → j ≤ i + 1
 
-  -- the numbers below i are told as the ones before others
+  -- the numbers below i are recorded as predecessors of others
   pub record AreBacksTo (backs : List (Option ℕ)) (i : ℕ) : Type 0 where
     pub count : length backs ≡ length rows
     pub sound : (v u : ℕ) → At backs v (Some u) → Back rows s v u
@@ -60,7 +60,7 @@ pub record IsNext (far : List (Option ℕ)) (n m : ℕ) : Type 0 where
   pub first : At far n (Some d)
   pub second : At far m (Some (suc d))
 
--- n is told before each number of the row that is one step farther and had none
+-- n is recorded as the predecessor of each number of the row that is one step farther and had none
 pub record SetsBacks (far : List (Option ℕ)) (n : ℕ) (row : List ℕ) (backs backs' : List (Option ℕ)) : Type 0 where
   pub count : length backs' ≡ length backs
   pub kept : (v u : ℕ) → At backs v (Some u) → At backs' v (Some u)
@@ -68,7 +68,7 @@ pub record SetsBacks (far : List (Option ℕ)) (n : ℕ) (row : List ℕ) (backs
       → At backs v (Some u) ⊎ ((u ≡ n) × Contains row v × IsNext far n v × At backs v None)
   pub all : (v : ℕ) → Contains row v → IsNext far n v → (u : ℕ) × At backs' v (Some u)
 
--- of the numbers from n on down a chain to `at` each is the one behind the next; `at` itself is left out
+-- of the numbers from n down a chain to `at` each follows the next on the chain; `at` itself is left out
 pub data Down (rows : List (List ℕ)) (s n : ℕ) : ℕ → List ℕ → Type 0 where
   top : Down rows s n n []
   below : {at u : ℕ} {ns : List ℕ} → Down rows s n at ns → Back rows s at u → Down rows s n u (ns ++ at ∷ [])
@@ -91,6 +91,6 @@ abbrev pub IsNearestIfAny : List (List ℕ) → ℕ → List (Option ℕ) → �
 IsNearestIfAny rows s far i near = MatchOption near
     ((w m : ℕ) → w < i → At far w (Some m) → Step rows w s → ⊥) (λ u. IsNearestBelow rows s far i u.number u.far)
 
--- what a list tells of a number
+-- the entry of a number in a list
 abbrev pub EntryIs : List (Option ℕ) → ℕ → Option ℕ → Type 0
 EntryIs list n told = (u : ℕ) → At list n (Some u) ↔ (told ≡ Some u)

@@ -1,4 +1,4 @@
--- Of the shortest chains to a number the one that is told.
+-- The one of the shortest chains to a number that is returned.
 use Rattle.std.specs.Prelude.{◌≡◌, ℕ, suc, ◌≤◌, List, [], ◌∷◌, ◌++◌, length, Option, Some, MatchOption}
 use Rattle.fixpoint.specs.StepRows.{Step}
 use Rattle.fixpoint.specs.Way.{At}

@@ -51,7 +51,7 @@ pub record HoldUsers (needs : List Demand) (users : Users) : Type 0 where
   pub lists : AreLists users rows
   pub needed : AreUsers needs rows
 
--- of the row a front was told, and its list goes on with the rest
+-- a prefix of the row was processed, and its list goes on with the rest
 pub record IsTelling (links : List Link) (at : ℕ) (row left order left' order' : List ℕ) : Type 0 where
   pub front : List ℕ
   pub rest : List ℕ

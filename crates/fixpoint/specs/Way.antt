@@ -39,12 +39,12 @@ pub record Opens (n : ℕ) (row : List ℕ) (old new : Way) : Type 0 where
   pub parts : new.parts ≡ old.parts ++ record { first = length old.path; rest = length old.ahead } ∷ []
   pub marks : new.marks ≡ old.marks
 
--- no part begins behind place i and no later than place j
+-- no part begins after index i and at or before index j
 abbrev pub AreOfOnePart : List Part → ℕ → ℕ → Type 0
 AreOfOnePart parts i j = (k : ℕ) (s : Part) → At parts k s → i < s.first → s.first ≤ j → ⊥
 
 module _ (rows : List (List ℕ)) (w : Way) where
-  -- a step is done with: to a number that is done, or behind on the way, or to a marked one of the same part
+  -- a step is done with: to a number that is done, or later on the path, or to a marked one of the same part
   pub data IsSeen (j m : ℕ) : Type 0 where
     to_done : At w.places m place.Done → IsSeen j m
     to_later : (i : ℕ) → At w.path i m → j < i → IsSeen j m
@@ -95,7 +95,7 @@ module _ (rows : List (List ℕ)) (w : Way) where
     pub step : Step rows number t
     pub last : (k : ℕ) (s : Part) → At w.parts k s → s.first ≤ place
 
--- parts at the end that begin behind the place are gone
+-- parts at the end that begin after the index are gone
 pub record Drops (place : ℕ) (parts parts' : List Part) : Type 0 where
   pub gone : List Part
   pub is : parts ≡ parts' ++ gone
@@ -106,7 +106,7 @@ pub record Joins (place : ℕ) (parts parts' : List Part) : Type 0 where
   pub drops : Drops place parts parts'
   pub last : (ps : List Part) (s : Part) → parts' ≡ ps ++ s ∷ [] → s.first ≤ place
 
--- m, which stands at that place, is marked, and parts that begin behind it are one with its own
+-- m, which stands at that index, is marked, and parts that begin after it are one with its own
 pub record Meets (place m : ℕ) (old new : Way) : Type 0 where
   pub places : new.places ≡ old.places
   pub path : new.path ≡ old.path

@@ -34,7 +34,7 @@ pub fn chains_from(alloc: Global, steps: &[&[usize]], from: usize) -> Result<Cha
     Ok(Chains { far, backs })
 }
 
-/// Returns what a list tells of a number, if it tells anything.
+/// Returns the entry of a number in a list, if it has one.
 pub(crate) fn told(list: &[Option<usize>], n: usize) -> Option<usize>
     ensures { EntryIs list.now n result }
 {
@@ -71,8 +71,9 @@ impl Chains {
         Ok(Some(chain))
     }
 
-    /// Returns the numbers on the way from `from` back to itself, the first one at its beginning alone, if steps lead
-    /// back: of the shortest ways the one that has the least number before each. `steps` are those of the chains.
+    /// Returns the numbers of a shortest cycle through `from`, if steps lead back to it. It begins with `from`, and
+    /// does not repeat it. Of the shortest cycles it returns the one with the least number before each. `steps` are
+    /// those of the chains.
     ///
     /// # Errors
     /// `AllocError` if an allocation fails.

@@ -1,4 +1,4 @@
--- Blocks of heads, spot by spot, and that they are tables.
+-- Blocks of heads, one dotted rule at a time, and that they are tables.
 -- Serves: lower, judge.
 use Rattle.std.proofs.Common.{◌≡◌, ◌↔◌, ℕ, zero, suc, ◌+◌, ◌++◌, ◌<◌, ◌≤◌, ◌⊎◌, inl, inr, true, false, Option, Some}
 use Rattle.std.proofs.Common.{None, List, [], ◌∷◌, length, set, slice_get, refl, sym, ◌∙◌, ap, subst, arith}
@@ -94,7 +94,7 @@ module _ (flat : code_flat.Tables) (inners : List (Option Inner)) where
   iff_back : {A B : Type 0} → A ↔ B → B ↔ A
   iff_back e = (e.1, e.0)
 
-  -- one more spot
+  -- one more dotted rule
   pub grows_one : (p : Spot) (old new : Block) → new.spots ≡ old.spots ++ p ∷ []
       → ((t : ℕ) → In t new.calls ↔ (In t old.calls ⊎ IsCalled flat inners p t)) →
       ((r : Spot) → In r new.passes ↔ (In r old.passes ⊎ IsPast flat p r)) → Grows flat inners (λ q. q ≡ p) old new
@@ -113,7 +113,7 @@ module _ (flat : code_flat.Tables) (inners : List (Option Inner)) where
     different = λ d apart. d;
   }
 
-  -- further spots
+  -- further dotted rules
   pub grows_then : (P Q R : Spot → Type 0) (a b c : Block) → ((p : Spot) → R p ↔ (P p ⊎ Q p))
       → ((p : Spot) → P p → Q p → ⊥) → Grows flat inners P a b → Grows flat inners Q b c → Grows flat inners R a c
   grows_then P Q R a b c parts apart g h = record {

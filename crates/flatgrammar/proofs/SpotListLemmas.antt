@@ -1,4 +1,4 @@
--- Lists of spots that call or read.
+-- Lists of dotted rules that call or read.
 -- Serves: lower, judge.
 use Rattle.std.proofs.Common.{◌≡◌, ℕ, zero, suc, ◌+◌, ◌++◌, ◌<◌, ◌≤◌, ◌⊎◌, inl, inr, Option, Some, None, List, [], ◌∷◌}
 use Rattle.std.proofs.Common.{◌||◌, if◌then◌else◌, Bool, true, false, nat_lt, ltb-true}
@@ -43,7 +43,7 @@ last_in k xs d lt = let one : suc k ≡ k + 1 = omega arith in subst (λ v. In (
     by (suc k) [] lt = absurd (omega (arith, lt))
     by (suc k) (x ∷ xs) lt = on (by k xs (let less : k < length xs = omega (arith, lt) in less))
 
--- the last one of different spots stands once, and those before it are different
+-- the last one of different dotted rules stands once, and those before it are different
 front_differs : (k : ℕ) (xs : List Spot) (d : Spot) → k < length xs → AreDifferent (take (k + 1) xs)
     → AreDifferent (take k xs) × (In (slice_index_or xs k d) (take k xs) → ⊥)
 front_differs k xs d lt h = let one : k + 1 ≡ suc k = omega arith in by k xs lt
@@ -68,7 +68,7 @@ front_differs k xs d lt h = let one : k + 1 ≡ suc k = omega arith in by k xs l
         let rest = by k xs less h.1 in
         (((λ i. h.0 (next k xs (take_one_longer x k xs i))), rest.0), apart k x xs less h.0 rest.1)
 
--- one more spot, taken or left
+-- one more dotted rule, taken or left
 pub pick_one : (Q : Spot → Type 0) (spots list new : List Spot) (k : ℕ) (d : Spot) → k < length spots → new ≡ list
     ++ slice_index_or spots k d ∷ [] →
     Picks Q (take k spots) list → Picks Q (take (k + 1) spots) new
@@ -104,7 +104,7 @@ leave_one Q spots list new k d lt is never picks =
     to q (inl h) is_q = picks.1 q h is_q
     to q (inr same) is_q = absurd (never (subst (λ v. Q v) same is_q))
 
--- one more spot that asks
+-- one more dotted rule that asks
 pub pick_ask : (Q : Spot → Type 0) (spots : List Spot) (list new : List Ask) (k : ℕ) (d : Spot) (ask : Ask)
     → k < length spots → ask.spot ≡ slice_index_or spots k d → new ≡ list ++ ask ∷ [] →
     Picks Q (take k spots) (spots_of list) → Picks Q (take (k + 1) spots) (spots_of new)
@@ -183,7 +183,7 @@ lists_all flat lists n count all are h = by (cases_lt h n)
           (λ c p i r. elim i [ ]),
         ))
 
--- ends that are wider by one spot
+-- ends that are wider by one dotted rule
 pub ends_more : (flat : code_flat.Tables) (k : ℕ) (xs : List Spot) (d : Spot) (old new : Ends) → k < length xs
     → (new.least ≤ old.least) × (old.greatest ≤ new.greatest)
     → ((c : ℕ) → Reads flat c (slice_index_or xs k d) → (new.least ≤ c) × (c ≤ new.greatest))
@@ -221,7 +221,7 @@ within_ends flat spots lists c are true is list picks = (
   (λ d. tt),
 )
 
--- the spots that are tried on a letter are all that read it
+-- the dotted rules that are tried on a letter are all that read it
 pub readers_pick : (flat : code_flat.Tables) (h c : ℕ) → AreSpotLists flat
     → Picks (Reads flat c) (block_of flat h).spots (readers_of flat h c)
 readers_pick flat h c are =

@@ -36,11 +36,11 @@ block_of flat h = block_in (slice_get flat.blocks.items h)
 abbrev pub begin_count : code_flat.Tables → ℕ → ℕ
 begin_count flat t = count_in (slice_get flat.nodes.items t)
 
--- the root that a spot calls, and the step after it
+-- the root that a dotted rule calls, and the step after it
 abbrev pub call_at : code_flat.Tables → Spot → Option (ℕ × ℕ)
 call_at flat p = call_of flat (item_at 0 p)
 
--- the spots that begin wherever a root is predicted
+-- the dotted rules that begin wherever a root is predicted
 pub data Inside (flat : code_flat.Tables) (h : ℕ) : Spot → Type 0 where
   begun : {k : ℕ} → k < begin_count flat h → Inside flat h (record { node = h; step = k })
   called : {p : Spot} {t l k : ℕ} → Inside flat h p → call_at flat p ≡ Some (t, l) → k < begin_count flat t
@@ -111,7 +111,7 @@ pub record AreHomes (flat : code_flat.Tables) : Type 0 where
   pub passes : (h : ℕ) (p : Spot) → In p (block_of flat h).passes → home_of flat p.node ≡ h
   pub inners : (t : ℕ) (inner : Inner) → inner_of flat t ≡ Some inner → home_of flat inner.node ≡ inner.head
 
--- that spot of the head's block alone calls the node, and goes on elsewhere
+-- that dotted rule of the head's block alone calls the node, and goes on elsewhere
 pub record IsAlone (flat : code_flat.Tables) (t : ℕ) (inner : Inner) : Type 0 where
   pub stands : In (spot inner.node inner.step) (block_of flat inner.head).spots
   pub begins : inner.step < begin_count flat inner.node
@@ -122,18 +122,18 @@ pub record IsAlone (flat : code_flat.Tables) (t : ℕ) (inner : Inner) : Type 0 
 abbrev pub AreAlone : code_flat.Tables → Type 0
 AreAlone flat = (t : ℕ) (inner : Inner) → inner_of flat t ≡ Some inner → IsAlone flat t inner
 
--- a spot calls a root with a block of its own
+-- a dotted rule calls a root with a block of its own
 abbrev pub Asks : code_flat.Tables → Spot → Type 0
 Asks flat p = (t : ℕ) × (l : ℕ) × (call_at flat p ≡ Some (t, l)) × (inner_of flat t ≡ None)
 
--- a spot reads a letter
+-- a dotted rule reads a letter
 abbrev pub Reads : code_flat.Tables → ℕ → Spot → Type 0
 Reads flat c p = IfSomeSet (read_of flat (item_at 0 p)) c
 
 abbrev pub ReadsAny : code_flat.Tables → Spot → Type 0
 ReadsAny flat p = (c : ℕ) × Reads flat c p
 
--- a list has spots alone, and all of Q, each once where the spots are different
+-- a list has members of the other alone, and all of Q, each once where they are different
 abbrev pub Picks : (Spot → Type 0) → List Spot → List Spot → Type 0
 Picks Q spots list = ((p : Spot) → In p list → In p spots) × ((p : Spot) → In p spots → Q p → In p list)
     × (AreDifferent spots → AreDifferent list)
@@ -143,14 +143,14 @@ abbrev pub AreByLetter : code_flat.Tables → List Spot → List (Vec Spot Globa
 AreByLetter flat spots lists = (c : ℕ) (list : Vec Spot Global) → slice_get lists c ≡ Some list
     → Picks (Reads flat c) spots list.items
 
--- all letters that spots of a list read are between the ends
+-- all letters that dotted rules of a list read are between the ends
 abbrev pub AreEnds : code_flat.Tables → List Spot → Ends → Type 0
 AreEnds flat spots ends = (c : ℕ) (p : Spot) → In p spots → Reads flat c p → (ends.least ≤ c) × (c ≤ ends.greatest)
 
 abbrev pub spots_of : List Ask → List Spot
 spots_of asks = map (λ a. a.spot) asks
 
--- each spot calls what it is said to ask for
+-- each dotted rule calls what it is said to ask for
 abbrev pub AreAsks : code_flat.Tables → List Ask → Type 0
 AreAsks flat asks = (a : Ask) → In a asks → call_at flat a.spot ≡ Some (a.root, a.next)
 
@@ -180,12 +180,12 @@ abbrev pub list_or : Option (Vec Spot Global) → List Spot → List Spot
 list_or None all = all
 list_or (Some list) all = list.items
 
--- of lists the spots that are tried on a letter
+-- of lists the dotted rules that are tried on a letter
 abbrev pub readers_in : Lists → ℕ → List Spot
 readers_in lists c = if nat_lt c lists.ends.least || nat_lt lists.ends.greatest c then []
     else list_or (slice_get lists.by_letter c) lists.readers
 
--- of a block's spots those that are tried on a letter
+-- of a block's dotted rules those that are tried on a letter
 abbrev pub readers_of : code_flat.Tables → ℕ → ℕ → List Spot
 readers_of flat h c = readers_in (lists_of flat h) c
 
@@ -193,7 +193,7 @@ readers_of flat h c = readers_in (lists_of flat h) c
 abbrev pub AreSpotLists : code_flat.Tables → Type 0
 AreSpotLists flat = (h : ℕ) → IsSpotList flat (block_of flat h).spots (lists_of flat h)
 
--- the tables of a flat grammar tell what they are for
+-- the tables of a flat grammar are exact
 pub record AreExact (tables : code_flat.Tables) : Type 0 where
   pub roots : GiveRoots (flat_of tables) tables.roots.items
   pub nulls : AreNulls (flat_of tables) tables.nulls.items

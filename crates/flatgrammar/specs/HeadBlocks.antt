@@ -1,4 +1,4 @@
--- Blocks that are made spot by spot: each node's beginnings stand in the block of its head.
+-- Blocks that are made one dotted rule at a time: each node starts in the block of its head.
 use Rattle.std.specs.Prelude.{◌≡◌, ◌↔◌, ℕ, ◌<◌, ◌⊎◌, true, false, List, slice_get, Option, Some, None}
 use Rattle.flatgrammar.specs.declared.block.Spot.{Spot}
 use Rattle.flatgrammar.specs.declared.block.Block as code_block
@@ -9,13 +9,13 @@ use Rattle.flatgrammar.specs.Blocks.{Block, block_in, item_at, begin_count, call
 use Rattle.flatgrammar.specs.Inners.{inner_at, home_in}
 use Rattle.flatgrammar.specs.Places.{In, AreDifferent}
 
--- a spot calls a root that stands in no other block
+-- a dotted rule calls a root that stands in no other block
 pub record IsCalled (flat : code_flat.Tables) (inners : List (Option Inner)) (p : Spot) (t : ℕ) : Type 0 where
   pub next : ℕ
   pub call : call_at flat p ≡ Some (t, next)
   pub own : inner_at inners t ≡ None
 
--- one goes on at once from a spot to another
+-- one goes on at once from a dotted rule to another
 pub record IsPast (flat : code_flat.Tables) (p r : Spot) : Type 0 where
   pub root : ℕ
   pub call : call_at flat p ≡ Some (root, r.step)
@@ -29,7 +29,7 @@ pub record SomeOf (P Q : Spot → Type 0) : Type 0 where
   pub stands : P spot
   pub is : Q spot
 
--- new has what old has, and the spots of P with what they ask for
+-- new has what old has, and the dotted rules of P with what they ask for
 pub record Grows (flat : code_flat.Tables) (inners : List (Option Inner)) (P : Spot → Type 0) (old new : Block) : Type
     0 where
   pub spots : (p : Spot) → In p new.spots ↔ (In p old.spots ⊎ P p)

@@ -1,5 +1,6 @@
 pub mod Blocks
 pub mod Flat
+pub mod FlatVerdicts
 pub mod FlatViews
 pub mod HeadBlocks
 pub mod Holds

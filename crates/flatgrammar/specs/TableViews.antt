@@ -1,4 +1,4 @@
--- What the tables of a flat grammar tell, node by node.
+-- What the tables of a flat grammar hold, node by node.
 use Rattle.std.specs.Prelude.{◌≡◌, ℕ, ◌↔◌, Bool, true, false, List, slice_get, Option, Some, None}
 use Rattle.std.specs.Option.{option_flatten}
 use Rattle.flatgrammar.specs.declared.flat_item.Item.{Item}
@@ -51,7 +51,7 @@ takes_in (Some node) = takes (node_of node)
 abbrev pub takes_of : code_flat.Tables → Item → Bool
 takes_of flat item = takes_in (slice_get flat.nodes.items item.node)
 
--- the marks tell the nullable nodes
+-- the marks are those of the nullable nodes
 abbrev pub AreNulls : Flat → List Bool → Type 0
 AreNulls flat nulls = (t : ℕ) → (slice_get nulls t ≡ Some true) ↔ Nullable flat.nodes flat.bodies t
 

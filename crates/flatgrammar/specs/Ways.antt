@@ -24,7 +24,7 @@ pub record AreFirst (nodes : List Node) (bodies : List ℕ) (ways : List Way) : 
   pub count : length ways ≡ length nodes
   pub each : (s : ℕ) (node : Node) → slice_get nodes s ≡ Some node → slice_get ways s ≡ Some (first_way bodies s node)
 
--- the root that a way tells
+-- the root that a way leads to
 abbrev pub root_of : Way → Option ℕ
 root_of (On t) = None
 root_of (Found root) = root

@@ -7,8 +7,9 @@ pub struct Spot {
     pub step: usize,
 }
 
-/// Holds what follows from a root's prediction, whatever the line: the spots where something begins, the roots with
-/// blocks of their own that these spots call, and the spots behind calls of nullable roots that need not take a letter.
+/// Holds what follows from a root's prediction, whatever the line: the dotted rules where something begins, the roots
+/// with blocks of their own that these call, and the dotted rules after calls of nullable roots that need not take a
+/// letter.
 #[derive(Drop)]
 pub struct Block {
     pub spots: Vec<Spot>,

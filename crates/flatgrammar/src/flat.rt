@@ -112,7 +112,7 @@ impl Flat {
         }
     }
 
-    /// Tells whether that node is passed without a letter.
+    /// Returns whether that node is passed without a letter.
     pub fn is_nullable(&self, n: usize) -> bool
         ensures { IsTrue result ↔ Nullable self.now.nodes self.now.bodies n }
     {

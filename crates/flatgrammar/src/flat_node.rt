@@ -55,7 +55,7 @@ fn small(value: u32) -> u32
     }
 }
 
-/// Tells whether a set holds a letter.
+/// Returns whether a set holds a letter.
 pub(crate) fn has(set: &Set, value: u32) -> bool
     ensures { IsTrue result ↔ Has (set_of set.now) value }
 {
@@ -118,8 +118,8 @@ pub(crate) fn begins(node: &Node) -> usize
     }
 }
 
-// The operand and the step after a turn, if there is a turn at that step. Without a greatest number the turns behind
-// the least are not counted.
+// The operand and the step after a turn, if there is a turn at that step. Without a greatest number the turns after the
+// least are not counted.
 #[inline(always)]
 fn turn(least: u32, most: Option<u32>, operand: usize, step: usize) -> Option<(usize, usize)>
     ensures rep { result ≡ callee (Rep least most operand) step }
@@ -138,7 +138,7 @@ fn turn(least: u32, most: Option<u32>, operand: usize, step: usize) -> Option<(u
     }
 }
 
-// Tells whether a repetition is done at a step.
+// Returns whether a repetition is done at a step.
 #[inline(always)]
 fn is_enough(least: u32, most: Option<u32>, step: usize) -> bool
     ensures rep { (operand : ℕ) → result ≡ is_done (Rep least most operand) step }
@@ -236,7 +236,7 @@ pub(crate) fn turned(node: &Node) -> Option<usize>
     }
 }
 
-/// Tells whether each turn of a node takes a letter.
+/// Returns whether each turn of a node takes a letter.
 #[inline(always)]
 pub(crate) fn takes(node: &Node) -> bool
     ensures { result ≡ takes (node_of node.now) }
@@ -247,7 +247,7 @@ pub(crate) fn takes(node: &Node) -> bool
     }
 }
 
-/// Tells whether a step may read a letter.
+/// Returns whether a step may read a letter.
 #[inline(always)]
 pub(crate) fn may_read(node: &Node, step: usize) -> bool
     ensures { IsTrue result ↔ (read_at (node_of node.now) step ≢ None) }
@@ -258,7 +258,7 @@ pub(crate) fn may_read(node: &Node, step: usize) -> bool
     }
 }
 
-/// Tells whether a step reads a letter.
+/// Returns whether a step reads a letter.
 pub(crate) fn reads(node: &Node, step: usize, value: u32) -> bool
     ensures value { IsTrue result ↔ IfSomeSet (read_at (node_of node.now) step) value }
     ensures fits { IsTrue result → step + 1 < 2 ^ 64 }

@@ -14,7 +14,7 @@ use crate::tables::{Tables, call, null, takes_letter};
 use ruletable::Memory;
 use std::alloc::Global;
 
-// Adds the root that a spot calls, unless it stands in the block of another.
+// Adds the root that a dotted rule calls, unless it stands in the block of another.
 fn add_call(
     flat: &Tables,
     inners: &[Option<Inner>],
@@ -41,8 +41,8 @@ fn add_call(
     }
 }
 
-// Adds the spot behind a call of a nullable root, unless it is the spot that calls, or what is called has to take a
-// letter.
+// Adds the dotted rule after a call of a nullable root, unless it is the one that calls, or what is called has to take
+// a letter.
 fn add_pass(flat: &Tables, spot: Spot, passes: &mut Vec<Spot>) -> Result<(), Memory>
     ensures { IfOk result (λ _. (r : spots.Spot) → In r passes.new.items
         ↔ (In r passes.old.items ⊎ IsPast flat.now spot r)) }
@@ -68,7 +68,7 @@ fn add_pass(flat: &Tables, spot: Spot, passes: &mut Vec<Spot>) -> Result<(), Mem
     Ok(())
 }
 
-// Adds a spot, and what it asks for.
+// Adds a dotted rule, and what it asks for.
 fn add_spot(
     flat: &Tables,
     inners: &[Option<Inner>],

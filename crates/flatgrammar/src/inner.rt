@@ -51,7 +51,7 @@ pub(crate) fn home(inners: &[Option<Inner>], node: usize) -> usize
     }
 }
 
-// Tells whether a root is the whole's.
+// Returns whether a root is the whole's.
 fn is_whole(flat: &Tables, root: usize) -> bool
     ensures { IsTrue result ↔ (the_whole flat.now ≡ Some root) }
 {

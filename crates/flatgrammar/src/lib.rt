@@ -12,6 +12,7 @@ mod item_laws;
 mod roots;
 mod spot_list;
 mod tables;
+mod verdict;
 
 pub use block::{Block, Spot};
 pub use flat::Flat;
@@ -24,3 +25,4 @@ pub use tables::{
     Deed, Tables, asks, call, calls, deed_of, null, passes, readers, reads, sole_caller, spots,
     takes_letter, whole_root,
 };
+pub use verdict::Verdict;

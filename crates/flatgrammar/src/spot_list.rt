@@ -1,4 +1,4 @@
-//! Of the spots of a block those that call, and those that read.
+//! Of the dotted rules of a block those that call, and those that read.
 ghost use Rattle.std.specs.Prelude.{◌≡◌, ◌≤◌, ℕ, Some, IsTrue, IfOk, IfSome, IfNone, slice_get};
 ghost use Rattle.flatgrammar.specs.Blocks.{block_of, call_at, spots_of, Asks, AreAsks, Reads, ReadsAny, Picks};
 ghost use Rattle.flatgrammar.specs.Blocks.{AreByLetter, AreEnds, lists_in, IsSpotList};
@@ -10,10 +10,10 @@ use crate::tables::{Tables, call, reads, sole_caller, spots};
 use ruletable::Memory;
 use std::alloc::Global;
 
-// As many reading spots are walked without a table by letter.
+// Fewer dotted rules that read are walked without a table by letter.
 const FEW: usize = 4;
 
-/// A spot that calls a root with a block of its own: the root, and the step after the call.
+/// A dotted rule that calls a root with a block of its own: the root, and the step after the call.
 #[derive(Clone, Copy)]
 pub struct Ask {
     pub spot: Spot,
@@ -21,8 +21,8 @@ pub struct Ask {
     pub next: usize,
 }
 
-/// Holds of the spots of a block those that call a root with a block of its own, and those that read: all, and where
-/// they are many those of each letter below 256. All letters that they read are between the ends.
+/// Holds of the dotted rules of a block those that call a root with a block of its own, and those that read: all, and
+/// where they are many those of each letter below 256. All letters that they read are between the ends.
 #[derive(Drop)]
 pub struct SpotList {
     pub asks: Vec<Ask>,
@@ -31,7 +31,7 @@ pub struct SpotList {
     pub ends: Ends,
 }
 
-// Returns what a spot asks for, if it calls a root with a block of its own.
+// Returns what a dotted rule asks for, if it calls a root with a block of its own.
 fn ask_of(flat: &Tables, spot: Spot) -> Option<Ask>
     ensures spot { IfSome result (λ ask. ask.spot ≡ spot) }
     ensures call { IfSome result (λ ask. call_at flat.now spot ≡ Some (ask.root, ask.next)) }
@@ -49,7 +49,7 @@ fn ask_of(flat: &Tables, spot: Spot) -> Option<Ask>
     }
 }
 
-// Tells whether a spot may read a letter.
+// Returns whether a dotted rule may read a letter.
 fn reads_any(flat: &Tables, spot: Spot) -> bool
     ensures { ReadsAny flat.now spot → IsTrue result }
 {
@@ -59,7 +59,7 @@ fn reads_any(flat: &Tables, spot: Spot) -> bool
     }
 }
 
-// Tells whether a spot reads that letter.
+// Returns whether a dotted rule reads that letter.
 fn reads_it(flat: &Tables, spot: Spot, value: u32) -> bool
     ensures { Reads flat.now value spot → IsTrue result }
 {
@@ -98,7 +98,7 @@ fn readers_of(alloc: Global, flat: &Tables, from: &[Spot]) -> Result<Vec<Spot>, 
     Ok(list)
 }
 
-// Returns ends between which the letters are that a spot reads, and those between other ends.
+// Returns the ends of a range that has the letters of other ends and those that a dotted rule reads.
 fn widened_by(flat: &Tables, spot: Spot, ends: Ends) -> Ends
     ensures wider { (result.least ≤ ends.least) × (ends.greatest ≤ result.greatest) }
     ensures held { (c : ℕ) → Reads flat.now c spot → (result.least ≤ c) × (c ≤ result.greatest) }
@@ -109,7 +109,7 @@ fn widened_by(flat: &Tables, spot: Spot, ends: Ends) -> Ends
     }
 }
 
-// Returns ends between which all letters are that spots read.
+// Returns the ends of a range that has all letters that dotted rules read.
 fn ends_of(flat: &Tables, from: &[Spot]) -> Ends
     ensures { AreEnds flat.now from.now result }
 {

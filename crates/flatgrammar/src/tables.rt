@@ -48,7 +48,7 @@ pub fn call(flat: &Tables, item: Item) -> Option<(usize, usize)>
     rooted(flat, callee(node, item.step))
 }
 
-/// Tells whether what an item's place calls has to take a letter.
+/// Returns whether what an item's place calls has to take a letter.
 pub fn takes_letter(flat: &Tables, item: Item) -> bool
     ensures { result ≡ takes_of flat.now item }
 {
@@ -95,7 +95,7 @@ pub fn deed_of(flat: &Tables, item: Item) -> Deed
     }
 }
 
-/// Tells whether a root is nullable.
+/// Returns whether a root is nullable.
 pub fn null(flat: &Tables, root: usize) -> bool
     ensures { result ≡ null_of flat.now root }
 {
@@ -105,7 +105,7 @@ pub fn null(flat: &Tables, root: usize) -> bool
     }
 }
 
-/// Returns the spots of a root's block.
+/// Returns the dotted rules of a root's block.
 pub fn spots(flat: &Tables, head: usize) -> &[Spot]
     ensures { result.now ≡ (block_of flat.now head).spots }
 {
@@ -115,8 +115,8 @@ pub fn spots(flat: &Tables, head: usize) -> &[Spot]
     }
 }
 
-/// Returns of the spots of a root's block at least those that call a root with a block of its own, with what they ask
-/// for.
+/// Returns of the dotted rules of a root's block at least those that call a root with a block of its own, with what
+/// they ask for.
 pub fn asks(flat: &Tables, head: usize) -> &[Ask]
     ensures { result.now ≡ (lists_of flat.now head).asks }
 {
@@ -126,7 +126,7 @@ pub fn asks(flat: &Tables, head: usize) -> &[Ask]
     }
 }
 
-/// Returns of the spots of a root's block at least those that read a letter.
+/// Returns of the dotted rules of a root's block at least those that read a letter.
 pub fn readers(flat: &Tables, head: usize, value: u32) -> &[Spot]
     ensures { result.now ≡ the_readers_of flat.now head value }
 {
@@ -142,7 +142,7 @@ pub fn readers(flat: &Tables, head: usize, value: u32) -> &[Spot]
     }
 }
 
-/// Returns the roots with blocks of their own that the spots of a root's block call.
+/// Returns the roots with blocks of their own that the dotted rules of a root's block call.
 pub fn calls(flat: &Tables, head: usize) -> &[usize]
     ensures { result.now ≡ (block_of flat.now head).calls }
 {
@@ -152,7 +152,7 @@ pub fn calls(flat: &Tables, head: usize) -> &[usize]
     }
 }
 
-/// Returns the spots behind the nullable calls of a root's block.
+/// Returns the dotted rules after the nullable calls of a root's block.
 pub fn passes(flat: &Tables, head: usize) -> &[Spot]
     ensures { result.now ≡ (block_of flat.now head).passes }
 {
@@ -179,7 +179,7 @@ pub fn whole_root(flat: &Tables) -> Option<usize>
     }
 }
 
-/// Tells whether an item's place reads a letter.
+/// Returns whether an item's place reads a letter.
 pub fn reads(flat: &Tables, item: Item, value: u32) -> bool
     ensures value { IsTrue result ↔ IfSomeSet (read_of flat.now item) value }
     ensures fits { IsTrue result → item.step + 1 < 2 ^ 64 }

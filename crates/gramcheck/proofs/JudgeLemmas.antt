@@ -1,4 +1,4 @@
--- What the checks find of a grammar that no note refuses.
+-- What the checks find of a grammar that no note rejects.
 -- Serves: check_peg
 use Rattle.std.proofs.Common.{◌≡◌, ◌≢◌, ℕ, zero, suc, ◌<◌, Bool, true, false, ◌||◌, List, [], ◌∷◌, ◌++◌, length, map}
 use Rattle.std.proofs.Common.{get_or, Option, Some, None, refl, sym, subst, ap, ◌∙◌, arith, Contains}
@@ -191,7 +191,7 @@ neither_any : {X : Type 0} (p : X → Bool) (xs ys : List X) → list_any p (xs 
     × (list_any p ys ≡ false)
 neither_any p xs ys h = neither_true (list_any p xs) (list_any p ys) (sym (list_any-append p xs ys) ∙ h)
 
--- where each of them would refuse, there are none
+-- where each of them would reject, there are none
 none-mapped : {X : Type 0} (f : X → Said) (xs : List X) → ((x : X) → said_refuses (f x) ≡ true)
     → list_any said_refuses (map f xs) ≡ false → xs ≡ []
 none-mapped f [] h e = refl
@@ -262,13 +262,13 @@ named-id (rule ∷ rules) word (zero, lt, e) =
 named-id (rule ∷ rules) word (suc k, lt, e) = named-by rule rules word (bytes_eq rule.name word) refl
     (λ no. named-id rules word (k, omega arith, e))
 
--- no note refuses the grammar
+-- no note rejects the grammar
 module _ (rules : List Rule) (again : List (List ℕ)) (start : Option (List ℕ)) (notes : List Said)
     (are : AreNotes rules again start notes) (passes : is_refused notes ≡ false) where
   abbrev undefined : List (List ℕ)
   undefined = news Exact (rule_names rules) (option_to_list start ++ names_used rules)
 
-  -- none of the kinds that refuse is among them
+  -- none of the kinds that reject is among them
   record Passes : Type 0 where
     no_undefined : undefined ≡ []
     no_recursive : are.recursive ≡ []
@@ -341,7 +341,7 @@ module _ (rules : table.Rules Expr) (exact : rules.names ≡ Exact) where
       (sym none) refl in
       omega arith
 
-  -- a start name that is given is a rule's, where no note refuses the grammar
+  -- a start name that is given is a rule's, where no note rejects the grammar
   pub is-given : (start : Option (List ℕ)) → ((word : List ℕ) → start ≡ Some word → id_of (rules_of rules) word
       < length (rules_of rules)) → IsGiven start rules
   is-given None h = tt

@@ -44,7 +44,7 @@ mismatch_is_looked_at = bytes_fail refl
 end_is_not_looked_at : Gives [] (codes "ab") (Bytes (codes "abc")) 0 Fails 2
 end_is_not_looked_at = bytes_fail refl
 
--- `'a' {y} !'b'` on `ac` looks at the byte behind what it takes
+-- `'a' {y} !'b'` on `ac` looks at the byte after what it takes
 predicate_looks : Gives [] (codes "ac") (Seq (more (Bytes (codes "a"))
     (more (Act (codes "y")) (more (Not (Bytes (codes "b"))) none)))) 0
     (Takes 1 (Acted (codes "y") ∷ [])) 2

@@ -1,4 +1,4 @@
--- The marked nodes are those whose expressions may print, and other expressions leave no events behind.
+-- The marked nodes are those whose expressions may print, and other expressions leave no events.
 -- Serves: check_peg, is_silent, replay, silent_leaves_no_event
 use Rattle.std.proofs.Common.{◌≡◌, ℕ, List, [], ◌∷◌, ◌++◌, length, Contains, refl, sym, ap, subst, ◌∙◌, arith}
 use Rattle.std.proofs.Common.{⊎_elim, Bool}
@@ -192,7 +192,7 @@ bodies_below rules nodes bodies are m h =
     is_there rules nodes body.2
 
 module _ (rules : List Rule) (x : List ℕ) where
-  -- no events are left behind
+  -- no events are left
   abbrev IsBare : Outcome → Type 0
   IsBare Fails = Unit {0}
   IsBare (Takes end events) = events ≡ []
@@ -204,7 +204,7 @@ module _ (rules : List Rule) (x : List ℕ) where
   both_bare e f = rw (e, f) refl
 
   mutual
-    -- an expression that does not print leaves none behind
+    -- an expression that does not print leaves none
     pub gives_no_events : {e : Pattern} {p k : ℕ} {o : Outcome} → Gives rules x e p o k → (Prints rules e → ⊥)
         → IsBare o
     gives_no_events (gives.any_takes h) quiet = refl

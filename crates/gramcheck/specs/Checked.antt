@@ -7,7 +7,7 @@ use Rattle.pegread.specs.Pattern.{Rule}
 use Rattle.gramcheck.specs.GrammarNotes.{start_of}
 use Rattle.gramcheck.specs.Uses.{rule_names}
 
--- whether a grammar on which there are these notes is refused: one of them is no note on a rule that is not used
+-- whether these notes reject a grammar: whether one of them is no note on a rule that is not used
 abbrev pub is_refused : List Said → Bool
 is_refused notes = list_any said_refuses notes
 

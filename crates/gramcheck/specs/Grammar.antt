@@ -24,10 +24,10 @@ pub record Grammar : Type 0 where
 abbrev pub IsSoundGrammar : Grammar → Type 0
 IsSoundGrammar g = IsRanked (rules_of g.rules) g.start (shapes_of g.nodes) g.bodies g.ranks
 
--- what is no key is asked for at one place at most, or only where a key is that it is told from
+-- what is no key is asked for at one position at most, or only where a key is that determines it
 abbrev pub HasKeys : Grammar → Type 0
 HasKeys g = AreMarks g.start (shapes_of g.nodes) g.bodies (node_marks g.keys) (tail_marks g.keys)
 
--- the nodes are those of the rules, one behind the other
+-- the nodes are those of the rules, one after the other
 abbrev pub IsNumbered : Grammar → Type 0
 IsNumbered g = AreNumbered (rules_of g.rules) (shapes_of g.nodes) g.bodies

@@ -60,7 +60,7 @@ pub record AreRedefinitions (rules : List Rule) (again : List (List ℕ)) (notes
   pub are_redefined : Those (λ rule. Contains again rule.name) rules redefined
   pub all : notes ≡ map (λ rule. said Redefined rule.name) redefined
 
--- whether a note of that kind refuses the grammar: each does, but that on a rule that is not used
+-- whether a note of that kind rejects the grammar: each does, but that on a rule that is not used
 abbrev pub kind_refuses : NoteKind → Bool
 kind_refuses Redefined = true
 kind_refuses ExtendedEarly = true

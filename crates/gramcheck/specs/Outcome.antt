@@ -5,7 +5,7 @@ use Rattle.std.specs.Prelude.{drop, slice_get, Some, None, if◌then◌else◌, 
 use Rattle.pegread.specs.Pattern.{Pattern, Patterns, Any, Bytes, Set, Name, Seq, Choice, Star, Plus, Opt, And, Not, Act}
 use Rattle.pegread.specs.Pattern.{Open, Close, none, more, Rule, body_of}
 
--- what a success leaves behind: a capture's ends, with their places, and the template of an action
+-- what a success leaves: a capture's ends, with their positions, and the template of an action
 pub data Event : Type 0 where
   Opened : (place : ℕ) → Event
   Closed : (place : ℕ) → Event

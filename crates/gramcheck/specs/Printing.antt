@@ -1,4 +1,4 @@
--- Expressions whose successes may leave events behind.
+-- Expressions whose successes may leave events.
 use Rattle.std.specs.Prelude.{◌≡◌, ◌↔◌, ℕ, Bool, List, [], ◌∷◌, map, slice_get, Some, option_to_list}
 use Rattle.pegread.specs.Pattern.{Pattern, Patterns, Name, Seq, Choice, Star, Plus, Opt, Act, Open, Close, more, Rule}
 use Rattle.pegread.specs.Pattern.{body_of}
@@ -11,7 +11,7 @@ use Rattle.pegnodes.specs.Nodes.{Shape, Spells}
 module _ (rules : List Rule) where
   mutual
     -- The expression is an action or an end of a capture, or has one among its operands or in the body of a rule that
-    -- it names. What a predicate looks at leaves no event behind.
+    -- it names. What a predicate looks at leaves no event.
     pub data Prints : Pattern → Type 0 where
       by_act : {t : List ℕ} → Prints (Act t)
       by_open : Prints Open

@@ -37,7 +37,7 @@ names_used rules = flat_map (λ rule. names_in rule.body) rules
 abbrev pub rule_names : List Rule → List (List ℕ)
 rule_names rules = map (λ rule. rule.name) rules
 
--- the names are the rules' names and behind them those of the used ones that no rule has, and of each use there is the
+-- the names are the rules' names and after them those of the used ones that no rule has, and of each use there is the
 -- id of its name
 abbrev pub AreUses : List Rule → List (List ℕ) → Rules (Unit {0}) → List ℕ → Type 0
 AreUses rules used names ids = IsScanned Exact (rule_names rules) used used names ids

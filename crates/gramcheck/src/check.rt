@@ -30,22 +30,22 @@ use pegread::{Expr, Peg};
 use ruletable::{Memory, NameCase, Note, RuleTable};
 use std::alloc::Global;
 
-/// What the checks of a grammar gave.
+/// The result of the checks of a grammar.
 #[derive(Drop)]
 pub struct Checked<S> {
-    /// What there is to say of it, in order.
+    /// The notes on it, in order.
     pub notes: Vec<Note>,
-    /// The grammar, ready to run, unless a note refuses it.
+    /// The grammar, ready to run, unless a note rejects it.
     pub sound: Option<S>,
 }
 
-/// Checks a grammar: what there is to say of it, and where no note refuses it, the grammar ready to run from its start
-/// rule, which is that with the name `start`, or else the first.
+/// Checks a grammar. Returns the notes on it, and, if none of them rejects it, the grammar ready to run from its start
+/// rule: the rule with the name `start`, or else the first.
 ///
 /// The notes are, each kind by the order of the rules: rules that are defined again; names that no rule has, by first
-/// use, where `start` is a use before all others; rules that are not used, which alone don't refuse the grammar; rules
-/// that may come back to themselves without taking a byte (Ford 2004, section 3.6); and rules that repeat what may take
-/// nothing.
+/// use, where `start` is a use before all others; rules that are not used; left-recursive rules, which may call
+/// themselves without taking a byte (Ford 2004, section 3.6); and rules that repeat what may take nothing. All but "not
+/// used" reject the grammar.
 ///
 /// The grammar has one node for each occurrence of an expression in the rules' bodies, and one more for each `+`.
 ///
@@ -84,7 +84,7 @@ struct Judged {
     ranks: Vec<usize>,
 }
 
-// Cuts a grammar into nodes, and finds what there is to say of it. Where nothing refuses it, the ranks make it sound.
+// Cuts a grammar into nodes, and finds the notes on it. If none rejects it, the ranks make it sound.
 fn judge(
     alloc: Global,
     rules: &RuleTable<Expr>,

@@ -27,7 +27,7 @@ pub fn events_rise()
         p ≤ length x → Gives rules x e p (Outcome.Takes q events) k → Rise p q events × (q ≤ length x) }
 {}
 
-/// An expression that may not print leaves no event behind, wherever it succeeds.
+/// Says that an expression that may not print leaves no event wherever it succeeds.
 pub fn silent_leaves_no_event()
     ensures { (rules : List Rule) (x : List ℕ) (e : Pattern) (p q k : ℕ) (events : List Event) →
         (Prints rules e → ⊥) → Gives rules x e p (Outcome.Takes q events) k → events ≡ [] }

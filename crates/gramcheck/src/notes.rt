@@ -121,8 +121,7 @@ fn refuses(note: &Note) -> bool
     note.kind != NoteKind::Unused
 }
 
-/// Returns whether a grammar on which there are these notes is refused: one of them is no note on a rule that is not
-/// used.
+/// Returns whether these notes reject a grammar: whether one of them is not "not used".
 pub(crate) fn refused(notes: &[Note]) -> bool
     ensures { result ≡ list_any said_refuses (map said_of notes.now) }
 {

@@ -190,9 +190,9 @@ impl SoundPeg {
         self.ranks[n]
     }
 
-    /// Tells whether the node of that number is silent: whether no action and no end of a capture is in it, in its
-    /// operands or in the rules that these name, but for those of predicates. The law
-    /// `silent_leaves_no_event` says what that means for a success. The number must be less than `nodes()`.
+    /// Returns whether the node of that number is silent: whether no action and no end of a capture is in it, in its
+    /// operands or in the rules that these name, except those of predicates. The law `silent_leaves_no_event` says what
+    /// that means for a success. The number must be less than `nodes()`.
     pub fn is_silent(&self, n: usize) -> bool
         requires { n < length self.now.nodes }
         ensures { (e : Pattern) → Spells (rules_of self.now.rules) (shapes_of self.now.nodes) n e →
@@ -204,16 +204,15 @@ impl SoundPeg {
         }
     }
 
-    /// Tells whether the node of that number is a key: whether it may be asked for twice at a place where it is not
-    /// told from a key that is.
+    /// Returns whether the node of that number is a key: whether its result must be memoized.
     pub fn is_key_node(&self, n: usize) -> bool
         ensures { result ≡ node_marks self.now.keys n }
     {
         mark_or(&self.keys.nodes, n, true)
     }
 
-    /// Tells whether what is left of a node from member `i` on is a key, likewise. Only what is left of a sequence
-    /// behind its first member is.
+    /// Returns whether the result of a node's tail from member `i` on must be memoized. Only a tail of a sequence after
+    /// its first member is a key.
     pub fn is_key_tail(&self, n: usize, i: usize) -> bool
         ensures { result ≡ tail_marks self.now.keys n i }
     {

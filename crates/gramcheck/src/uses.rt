@@ -13,7 +13,7 @@ use std::alloc::Global;
 /// The names of a grammar, and its uses of them.
 #[derive(Drop)]
 pub(crate) struct Uses {
-    /// The rules' names, and behind them the names that no rule has, in order of first use.
+    /// The rules' names, and after them the names that no rule has, in order of first use.
     pub(crate) names: RuleTable<()>,
     /// Of each use the id of its name.
     pub(crate) ids: Vec<usize>,

@@ -341,7 +341,7 @@ module _ (tables : code_flat.Tables) (samples : List ℕ) (conts : List Cont) (s
       subst (λ v. IsCell tables d conts states v cell) (sym (row_is s k (length samples) i lt at_i))
       (is d (subst (λ v. slice_get samples v ≡ Some d) (class_is s k (length samples) i lt at_i) sample))) cached
 
--- a state was added behind others
+-- a state was added after others
 module _ (tables : code_flat.Tables) (samples : List ℕ) (conts mid new : List Cont) (states more : List State)
     (cells filled : List Cell) (from : State) (next : List ℕ) (ended : Bool) (s t : ℕ)
     (cached : AreCached tables samples conts states cells) (kept : AreKept conts mid) (same : new ≡ mid)

@@ -144,7 +144,7 @@ split_front flat last x j P Q part below f is reads =
     back stack r plain (inl l) = (plain.reading stack r).1 l
     back stack r plain (inr h) = absurd (let e = h.0 in cc e)
 
--- behind a set that nothing reaches nothing is reached
+-- after a set that nothing reaches nothing is reached
 reach_past : (flat : Flat) (last : Place → Bool) (x : List ℕ) (j : ℕ) {k : ℕ} {a : List Place}
     → Reach flat last x k a → j < k → (b : List Place) × Reach flat last x (j + 1) b
 reach_past flat last x j (st.begins h) lt = absurd (omega (arith, lt))

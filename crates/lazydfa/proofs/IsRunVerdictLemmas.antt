@@ -1,24 +1,19 @@
--- What a run over a line tells of it.
+-- The verdict of a run over a line.
 -- Serves: judge, viable.
 use Rattle.std.proofs.Common.{◌≡◌, ℕ, ◌<◌, ◌≤◌, Bool, true, false, List, [], ◌∷◌, length, refl, sym, ◌∙◌, ap}
 use Rattle.std.proofs.Common.{subst, arith, inl, ◌↔◌, map, get_or, if◌then◌else◌}
 use Rattle.std.proofs.lemmas.Option.{slice_get-get_or, slice_get-map}
 use Rattle.std.specs.Prelude.{slice_get, Option, Some, None, IfSome, option_map}
-use Rattle.abnfread.specs.Element.{Rule}
-use Rattle.abnfcheck.specs.Derivable.{AreLetters, RuleDerives}
 use Rattle.flatgrammar.specs.Flat.{Flat, Place, Concat}
-use Rattle.lowering.specs.Lowered.{IsLowered}
+use Rattle.flatgrammar.specs.FlatVerdicts.{IsFlatVerdict}
 use Rattle.flatgrammar.specs.FlatViews.{node_of}
 use Rattle.flatgrammar.specs.declared.flat_node.Node as code_node
 use Rattle.flatgrammar.proofs.CallOfLemmas.{get_map}
 use Rattle.flatgrammar.specs.NodeSteps.{flat_of}
 use Rattle.flatgrammar.specs.TableViews.{GiveRoots}
-use Rattle.lowering.specs.ToldBeginnings.{TellsBeginnings}
-use Rattle.lowering.specs.Verdicts.{IsVerdict}
 use Rattle.flatgrammar.specs.declared.tables.Tables as code_flat
-use Rattle.lowering.specs.declared.verdict.Verdict.{Verdict}
-use Rattle.lowering.specs.declared.verdict.Verdict.TheVariants.{Yes, No}
-use Rattle.lowering.proofs.RuleDerivesLemmas.{derives_exactly}
+use Rattle.flatgrammar.specs.declared.verdict.Verdict.{Verdict}
+use Rattle.flatgrammar.specs.declared.verdict.Verdict.TheVariants.{Yes, No}
 use Rattle.letterclasses.specs.Stacks.{Accepts, AreUncounted}
 use Rattle.letterclasses.proofs.StacksLemmas.{accepted_holds, holds_accepted, reached_item, item_reached}
 use Rattle.lazydfa.specs.declared.conts.Cont.{Cont}
@@ -35,7 +30,7 @@ number_at f xs k a v lt is value =
     slice_get-map f xs k ∙ (ap (λ o. option_map f o) (slice_get-get_or xs k a lt ∙ ap (λ b. Some b) (sym is))
     ∙ ap (λ b. Some b) (sym value))
 
--- nothing is reached behind one more letter
+-- one more symbol reaches nothing
 pub dead_verdict : (flat : Flat) (last : Place → Bool) (x : List ℕ) (j : ℕ) → j < length x
     → (0 < j → IsReached flat last x j) → ((m : ℕ) → j < m → IsReached flat last x m → ⊥)
     → IsRunVerdict flat last x (No j)
@@ -66,72 +61,31 @@ end_verdict tables conts states s x j below at_j plain end reached n is_n false 
   },
 )
 
--- what that tells of the rules
+-- the flat grammar's verdict
 module _ (tables : code_flat.Tables) (roots : GiveRoots (flat_of tables) tables.roots.items)
-    (uncounted : AreUncounted (flat_of tables)) (has : ℕ → Bool) (rules : List Rule) (judged : ℕ) (x : List ℕ)
-    (short : length x ≤ tables.limit) (letters : AreLetters has x) where
-  pub verdict_derives : IsLowered rules judged (flat_of tables) → (told : Verdict)
-      → IsRunVerdict (flat_of tables) (last_of tables) x told → (told ≡ Yes) ↔ RuleDerives has rules judged x
-  verdict_derives lowered Yes a = (
-    λ _. (derives_exactly has rules judged (flat_of tables) lowered x short letters).0
-        (accepted_holds (flat_of tables) uncounted x (last_of tables) (tells_last tables roots) lowered.body
-        lowered.whole a),
-    λ _. refl,
+    (uncounted : AreUncounted (flat_of tables)) (one : IsOne (flat_of tables)) (x : List ℕ) where
+  verdict_of_run : (verdict : Verdict) → IsRunVerdict (flat_of tables) (last_of tables) x verdict
+      → IsFlatVerdict (flat_of tables) x verdict
+  verdict_of_run Yes accepts =
+      accepted_holds (flat_of tables) uncounted x (last_of tables) (tells_last tables roots) one.0 one.1 accepts
+  verdict_of_run (No n) is = (
+    λ derives. is.0 (holds_accepted (flat_of tables) uncounted x (last_of tables) (tells_last tables roots) one.0 one.1
+        derives),
+    record {
+      within = is.1.within;
+      item = λ some.
+          let r = is.1.reached some in
+          reached_item (flat_of tables) uncounted x (last_of tables) (tells_last tables roots) r.0 r.1;
+      last = λ m past most item.
+          is.1.last_is m past most
+          (item_reached (flat_of tables) uncounted x (last_of tables) (tells_last tables roots) item);
+    },
   )
-  verdict_derives lowered (No n) h = (
-    λ yes. cc yes,
-    λ d. absurd (h.0 (holds_accepted (flat_of tables) uncounted x (last_of tables) (tells_last tables roots)
-        lowered.body lowered.whole
-        ((derives_exactly has rules judged (flat_of tables) lowered x short letters).1 d))),
-  )
 
-  module _ (one : IsOne (flat_of tables)) (tells : TellsBeginnings has rules judged (flat_of tables)) where
-    pub verdict_begins : (told : Verdict) → IsRunVerdict (flat_of tables) (last_of tables) x told
-        → IsVerdict has rules judged x told
-    verdict_begins Yes a =
-        (tells.tells x short letters).0
-        (accepted_holds (flat_of tables) uncounted x (last_of tables) (tells_last tables roots) one.0 one.1 a)
-    verdict_begins (No n) h = (
-      λ d. h.0 (holds_accepted (flat_of tables) uncounted x (last_of tables) (tells_last tables roots) one.0 one.1
-          ((tells.tells x short letters).1 d)),
-      record {
-        within = h.1.within;
-        begins = λ some.
-            let r = h.1.reached some in
-            (tells.viable x n short letters some h.1.within).0
-            (reached_item (flat_of tables) uncounted x (last_of tables) (tells_last tables roots) r.0 r.1);
-        last = λ m past most begins.
-            h.1.last_is m past most
-            (item_reached (flat_of tables) uncounted x (last_of tables) (tells_last tables roots)
-            ((tells.viable x m short letters (omega (arith, past)) most).1 begins));
-      },
-    )
-
-module _ (has : ℕ → Bool) (x : List ℕ) (count : ℕ) where
-  abbrev pub Derives : Verdict → Flat → Type 0
-  Derives told flat = (rules : List Rule) (judged : ℕ) → IsLowered rules judged flat → count ≤ flat.limit
-      → (told ≡ Yes) ↔ RuleDerives has rules judged x
-
-  abbrev pub Begins : Verdict → Flat → Type 0
-  Begins told flat = (rules : List Rule) (judged : ℕ) → TellsBeginnings has rules judged flat → count ≤ flat.limit
-      → IsVerdict has rules judged x told
-
-module _ (tables : code_flat.Tables) (flat : Flat) (roots : GiveRoots (flat_of tables) tables.roots.items)
-    (uncounted : AreUncounted (flat_of tables)) (is : flat_of tables ≡ flat) (has : ℕ → Bool) (x : List ℕ)
-    (letters : AreLetters has x) (count : ℕ) (size : length x ≡ count) where
-  pub run_derives : (told : Option Verdict) → IfSome told (IsRunVerdict (flat_of tables) (last_of tables) x)
-      → IfSome told (λ v. Derives has x count v flat)
-  run_derives None h = h
-  run_derives (Some told) h =
-      subst (λ v. Derives has x count told v) is (λ rules judged lowered short.
-      verdict_derives tables roots uncounted has rules judged x (omega (arith, size, short)) letters lowered told h)
-
-  pub run_begins : IsOne (flat_of tables) → (told : Option Verdict)
-      → IfSome told (IsRunVerdict (flat_of tables) (last_of tables) x) → IfSome told (λ v. Begins has x count v flat)
-  run_begins one None h = h
-  run_begins one (Some told) h =
-      subst (λ v. Begins has x count told v) is (λ rules judged tells short.
-      verdict_begins tables roots uncounted has rules judged x (omega (arith, size, short)) letters one tells told h)
+  pub run_verdict : (flat : Flat) → flat_of tables ≡ flat → (told : Option Verdict)
+      → IfSome told (IsRunVerdict (flat_of tables) (last_of tables) x) → IfSome told (IsFlatVerdict flat x)
+  run_verdict flat is None h = h
+  run_verdict flat is (Some verdict) h = subst (λ v. IsFlatVerdict v x verdict) is (verdict_of_run verdict h)
 
 -- a list of one
 one_member : (ms : List ℕ) → length ms ≡ 1 → (body : ℕ) × (ms ≡ body ∷ [])

@@ -1,4 +1,4 @@
--- What the tables tell are the moves of stacks.
+-- What the tables hold are the moves of stacks.
 -- Serves: judge.
 use Rattle.std.proofs.Common.{◌≡◌, ℕ, ◌<◌, Bool, true, false, List, [], ◌∷◌, refl, sym, ◌∙◌, ap}
 use Rattle.std.proofs.Common.{subst, ◌⊎◌, inl, inr}

@@ -22,7 +22,7 @@ pub record IsBegun (tables : code_flat.Tables) (stack : List Place) : Type 0 whe
   pub is : whole_root tables ≡ Some root
   pub begun : Begun root (begin_count tables root) [] stack
 
--- what the whole's beginnings lead to without a letter
+-- what the whole's starts lead to without a letter
 pub record IsStart (tables : code_flat.Tables) (conts : List Cont) (tops : List ℕ) (ended : Bool) : Type 0 where
   pub within : (id : ℕ) → Contains tops id → id ≤ length conts
   pub tops_are : (stack : List Place) → IsStackOf conts tops stack
@@ -113,7 +113,7 @@ pub record IsStartAt (tables : code_flat.Tables) (conts : List Cont) (states : L
   pub is : slice_get states t ≡ Some state
   pub start : IsStart tables conts state.tops.items state.ended
 
--- the number of a state that is the front behind the first j letters, over what is below
+-- the number of a state that is the front after the first j letters, over what is below
 pub record IsAt (tables : code_flat.Tables) (conts : List Cont) (states : List State) (s : ℕ) (x : List ℕ) (j : ℕ)
     (below : List Place) : Type 0 where
   pub state : State

@@ -45,7 +45,7 @@ pub record IsMemo (tables : code_flat.Tables) (samples : List ℕ) (memo : Memo)
   pub unfolds : AreUnfolds tables memo.cache.conts.items.items memo.cache.states.items memo.unfolds.items
   pub hops : AreHops tables samples memo.cache.conts.items.items memo.cache.states.items memo.hops.items
 
--- a state is the front behind the first j letters, over the parts
+-- a state is the front after the first j letters, over the parts
 pub record IsOver (tables : code_flat.Tables) (conts : List Cont) (states : List State) (parts : List ℕ) (s : ℕ)
     (x : List ℕ) (j : ℕ) : Type 0 where
   pub parts_are : AreParts conts parts
@@ -86,7 +86,7 @@ Glides low samples memo x from to = (tables : code_flat.Tables) → GiveRoots (f
     → AreClasses (flat_of tables) low samples → IsMemo tables samples memo → IsStand tables memo x from
     → IsStand tables memo x to
 
--- what the letter behind the first j leads to
+-- what the letter after the first j leads to
 abbrev pub IsStepTaken : code_flat.Tables → Memo → List ℕ → ℕ → Step → Type 0
 IsStepTaken tables memo x j (To t) = RunsAt tables memo t x (j + 1)
     × IsReached (flat_of tables) (last_of tables) x (j + 1)

@@ -1,8 +1,8 @@
--- What a run over a line tells of its stacks.
+-- The verdict of a run over a line, by its stacks.
 use Rattle.std.specs.Prelude.{◌≡◌, ℕ, ◌<◌, ◌≤◌, Bool, List, [], ◌∷◌, length, slice_get, Some}
 use Rattle.flatgrammar.specs.Flat.{Flat, Place, Concat}
-use Rattle.lowering.specs.declared.verdict.Verdict.{Verdict}
-use Rattle.lowering.specs.declared.verdict.Verdict.TheVariants.{Yes, No}
+use Rattle.flatgrammar.specs.declared.verdict.Verdict.{Verdict}
+use Rattle.flatgrammar.specs.declared.verdict.Verdict.TheVariants.{Yes, No}
 use Rattle.letterclasses.specs.Stacks.{Reach, Accepts}
 
 -- the whole is a concatenation of one
@@ -20,7 +20,7 @@ module _ (flat : Flat) (last : Place → Bool) (x : List ℕ) where
     pub reached : 0 < n → IsReached n
     pub last_is : (m : ℕ) → n < m → m ≤ length x → IsReached m → ⊥
 
-  -- yes: the whole may end behind the line; no: it may not, and n letters are the most that lead to some stack
+  -- yes: the whole may end after the line; no: it may not, and n symbols are the most that lead to some stack
   abbrev pub IsRunVerdict : Verdict → Type 0
   IsRunVerdict Yes = Accepts flat last x (length x)
   IsRunVerdict (No n) = (Accepts flat last x (length x) → ⊥) × IsLastReached n

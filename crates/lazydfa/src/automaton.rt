@@ -1,15 +1,10 @@
 //! A lazily built automaton.
-ghost use Rattle.std.specs.Prelude.{◌≡◌, ◌↔◌, ◌≤◌, ◌∷◌, ℕ, List, [], IsTrue, IfOk, IfSome, length, map};
+ghost use Rattle.std.specs.Prelude.{◌≡◌, ◌↔◌, ◌∷◌, ℕ, [], IsTrue, IfOk, IfSome, map};
 ghost use Rattle.std.specs.Prelude.{Some};
-ghost use Rattle.abnfread.specs.Element.{Rule};
-ghost use Rattle.abnfcheck.specs.Derivable.{RuleDerives};
 ghost use Rattle.flatgrammar.specs.Flat.{Concat, Turns};
+ghost use Rattle.flatgrammar.specs.FlatVerdicts.{DerivesLine, IsFlatVerdict};
 ghost use Rattle.flatgrammar.specs.FlatViews.{node_of};
-ghost use Rattle.lowering.specs.Lowered.{IsLowered};
 ghost use Rattle.flatgrammar.specs.NodeSteps.{flat_of};
-ghost use Rattle.lowering.specs.ToldBeginnings.{TellsBeginnings};
-ghost use Rattle.lowering.specs.Verdicts.{IsVerdict};
-ghost use Rattle.letters.specs.Letters.{has};
 ghost use Rattle.letterclasses.specs.Stacks.{AreUncounted};
 ghost use Rattle.lazydfa.specs.RunVerdicts.{IsOne};
 
@@ -20,10 +15,9 @@ use crate::close::Ids;
 use crate::conts::Conts;
 use crate::memo::Memo;
 use crate::run::run;
-use flatgrammar::{Flat, Node, Tables};
+use flatgrammar::{Flat, Node, Tables, Verdict};
 use letterclasses::{Classes, find_classes};
 use letters::Letter;
-use lowering::{Verdict, values_are_letters};
 use ruletable::Memory;
 use std::alloc::Global;
 use std::marker::Model;
@@ -56,7 +50,7 @@ impl Model for Automaton {
         a.classes.low.items a.classes.samples.items) × (IsMemo a.tables.value a.classes.samples.items a.memo) };
 }
 
-// Tells whether turns that take a letter are counted at a node.
+// Returns whether turns that take a letter are counted at a node.
 fn counts_turns(node: &Node) -> bool
     ensures { IsTrue result ↔ ((b : ℕ) × (m : ℕ) × (node_of node.now ≡ Turns (Some b) m)) }
 {
@@ -69,7 +63,7 @@ fn counts_turns(node: &Node) -> bool
     }
 }
 
-// Tells whether no turns that take a letter are counted.
+// Returns whether no turns that take a letter are counted.
 fn are_uncounted(tables: &Tables) -> bool
     ensures { IsTrue result → AreUncounted (flat_of tables.now) }
 {
@@ -81,7 +75,7 @@ fn are_uncounted(tables: &Tables) -> bool
     true
 }
 
-// Tells whether the whole is a concatenation of one.
+// Returns whether the whole is a concatenation of one.
 fn is_one(tables: &Tables) -> bool
     ensures { IsTrue result → IsOne (flat_of tables.now) }
 {
@@ -91,16 +85,17 @@ fn is_one(tables: &Tables) -> bool
     }
 }
 
-fn is_yes(told: Verdict) -> bool
-    ensures { IsTrue result ↔ (told ≡ Verdict.Yes) }
+// Returns whether a verdict is yes.
+fn is_yes(verdict: Verdict) -> bool
+    ensures { IsTrue result ↔ (verdict ≡ Verdict.Yes) }
 {
-    match told {
+    match verdict {
         Verdict::Yes => true,
         Verdict::No(_) => false,
     }
 }
 
-// Tells whether an automaton may judge by these tables.
+// Returns whether an automaton may judge by these tables.
 fn are_served(tables: &Tables) -> bool
     ensures { IsTrue result → AreUncounted (flat_of tables.now) × IsOne (flat_of tables.now) }
 {
@@ -159,7 +154,7 @@ impl Automaton {
     }
 
     /// Returns an automaton as `new` does, which fills no more once it keeps so many tops of states, continuations,
-    /// cells and unfolds. With no room it tells nothing, and with little it tells of some lines.
+    /// cells and unfolds. With no room it answers nothing, and with little it answers for some lines.
     pub fn with_room(alloc: Global, flat: &Flat, room: usize) -> Result<Option<Automaton>, Memory>
         ensures { IfOk result (λ made. IfSome made (λ automaton. automaton ≡ flat.now)) }
     {
@@ -177,18 +172,24 @@ impl Automaton {
         }))
     }
 
-    // Tells whether the judged rule derives a line, or else its longest viable beginning: the first by a flat grammar
-    // that spells the rules, both by one that tells beginnings.
-    fn told<L: Letter>(&mut self, line: &[L]) -> Result<Option<Verdict>, Memory>
+    /// Returns whether the flat grammar derives a line, as `earley::judge` does; `None` if that takes more time or
+    /// memory than there is for states. `Memory` if an allocation fails; what earlier lines found out may be lost then.
+    pub fn judge<L: Letter>(&mut self, line: &[L]) -> Result<Option<bool>, Memory>
         ensures same { self.new ≡ self.old }
-        ensures derives { IfOk result (λ told. IfSome told (λ verdict. (rules : List Rule) (judged : ℕ) →
-            IsLowered rules judged self.old → length line.now ≤ self.old.limit →
-            (verdict ≡ Verdict.Yes) ↔ RuleDerives (has L.ALPHABET) rules judged (map L.number line.now))) }
-        ensures begins { IfOk result (λ told. IfSome told (λ verdict. (rules : List Rule) (judged : ℕ) →
-            TellsBeginnings (has L.ALPHABET) rules judged self.old → length line.now ≤ self.old.limit →
-            IsVerdict (has L.ALPHABET) rules judged (map L.number line.now) verdict)) }
+        ensures answer { IfOk result (λ told. IfSome told (λ yes. IsTrue yes ↔ DerivesLine self.old
+            (map L.number line.now))) }
     {
-        values_are_letters(line);
+        match self.viable(line)? {
+            Some(verdict) => Ok(Some(is_yes(verdict))),
+            None => Ok(None),
+        }
+    }
+
+    /// Returns the verdict of the flat grammar on a line, as `earley::viable` does; `None` and `Memory` as `judge`.
+    pub fn viable<L: Letter>(&mut self, line: &[L]) -> Result<Option<Verdict>, Memory>
+        ensures same { self.new ≡ self.old }
+        ensures verdict { IfOk result (λ told. IfSome told (IsFlatVerdict self.old (map L.number line.now))) }
+    {
         let classes = &self.classes;
         let told = run(
             self.alloc,
@@ -198,33 +199,6 @@ impl Automaton {
             &mut self.memo,
             line,
         )?;
-        Ok(told)
-    }
-
-    /// Tells whether the judged rule derives a line, by the alphabet of its letters; `None` if that takes more time or
-    /// memory than there is for states. `Memory` if an allocation fails; what was found out of earlier lines may be
-    /// lost then.
-    pub fn judge<L: Letter>(&mut self, line: &[L]) -> Result<Option<bool>, Memory>
-        ensures same { self.new ≡ self.old }
-        ensures derives { IfOk result (λ told. IfSome told (λ yes. (rules : List Rule) (judged : ℕ) →
-            IsLowered rules judged self.old → length line.now ≤ self.old.limit →
-            IsTrue yes ↔ RuleDerives (has L.ALPHABET) rules judged (map L.number line.now))) }
-    {
-        match self.told(line)? {
-            Some(told) => Ok(Some(is_yes(told))),
-            None => Ok(None),
-        }
-    }
-
-    /// Tells whether the judged rule derives a line, or else its longest viable beginning, if the flat grammar is that
-    /// of `lower_viable` for the alphabet of the letters; `None` and `Memory` as `judge`.
-    pub fn viable<L: Letter>(&mut self, line: &[L]) -> Result<Option<Verdict>, Memory>
-        ensures same { self.new ≡ self.old }
-        ensures verdict { IfOk result (λ told. IfSome told (λ verdict. (rules : List Rule) (judged : ℕ) →
-            TellsBeginnings (has L.ALPHABET) rules judged self.old → length line.now ≤ self.old.limit →
-            IsVerdict (has L.ALPHABET) rules judged (map L.number line.now) verdict)) }
-    {
-        let told = self.told(line)?;
         Ok(told)
     }
 }

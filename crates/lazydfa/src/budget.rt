@@ -43,7 +43,7 @@ impl Budget {
         self.is_shut = true;
     }
 
-    /// Tells whether so many turns may be spent while there are so many continuations and cells.
+    /// Returns whether so many turns may be spent while there are so many continuations and cells.
     pub(crate) fn allows(&self, turns: usize, entries: usize) -> bool {
         !self.is_shut && turns <= self.turns && self.tops.saturating_add(entries) < self.room
     }

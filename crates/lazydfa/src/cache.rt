@@ -58,7 +58,7 @@ pub(crate) fn forget(cache: &mut Cache)
     cache.cells.clear();
 }
 
-/// Tells whether a continuation reads a letter.
+/// Returns whether a continuation reads a letter.
 fn cont_reads(tables: &Tables, id: usize, value: u32, conts: &Conts) -> bool
     requires within { id ≤ length conts.now.items.items }
     requires older { AreOlder conts.now.items.items }
@@ -82,7 +82,7 @@ fn cont_reads(tables: &Tables, id: usize, value: u32, conts: &Conts) -> bool
     )
 }
 
-/// Tells whether one of the continuations reads a letter.
+/// Returns whether one of the continuations reads a letter.
 pub(crate) fn any_reads(tables: &Tables, tops: &[usize], value: u32, conts: &Conts) -> bool
     requires within { (id : ℕ) → Contains tops.now id → id ≤ length conts.now.items.items }
     requires older { AreOlder conts.now.items.items }
@@ -105,7 +105,7 @@ fn is_same(state: &State, tops: &[usize], ended: bool) -> bool
     state.ended == ended && state.tops.as_slice() == tops
 }
 
-/// Tells whether the whole may end where a state is.
+/// Returns whether the whole may end where a state is.
 #[inline(always)]
 pub(crate) fn has_ended(cache: &Cache, state: usize) -> bool
     ensures { (got : State) → slice_get cache.now.states.items state ≡ Some got → result ≡ got.ended }

@@ -59,7 +59,7 @@ impl Chains {
         self.heads.clear();
     }
 
-    /// Tells whether there are fewer chains than entries.
+    /// Returns whether there are fewer chains than entries.
     pub(crate) fn is_crowded(&self) -> bool {
         self.heads.len() <= self.links.len()
     }

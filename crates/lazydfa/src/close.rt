@@ -89,7 +89,7 @@ pub(crate) fn enter(
     Ok(())
 }
 
-/// Tells whether nothing is left to do at a place.
+/// Returns whether nothing is left to do at a place.
 fn is_last(tables: &Tables, node: usize, step: usize) -> bool
     ensures { result ≡ last_of tables.now (Place.at node step) }
 {
@@ -167,7 +167,7 @@ pub(crate) fn cont_at(conts: &Conts, id: usize) -> Cont
     conts.items[id - 1]
 }
 
-/// Adds what a continuation goes on to without a letter, and tells whether it is a place alone whose node is done.
+/// Adds what a continuation goes on to without a letter, and returns whether it is a place alone whose node is done.
 fn expand(tables: &Tables, id: usize, conts: &mut Conts, ids: &mut Ids) -> Result<bool, Memory>
     requires within { id ≤ length conts.old.items.items }
     requires older { AreOlder conts.old.items.items }
@@ -205,7 +205,7 @@ fn either(a: bool, b: bool) -> bool
     a || b
 }
 
-/// Adds all that ids go on to without a letter, and tells whether one of them is a place alone whose node is done;
+/// Adds all that ids go on to without a letter, and returns whether one of them is a place alone whose node is done;
 /// `None` if that goes over more of them than there may be. `Memory` if an allocation fails.
 pub(crate) fn close(
     tables: &Tables,

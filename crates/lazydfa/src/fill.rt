@@ -109,7 +109,7 @@ fn lead(
     Ok(Cell::To(t))
 }
 
-/// Tells whether a cell may be filled.
+/// Returns whether a cell may be filled.
 pub(crate) fn may_fill(cache: &Cache) -> bool {
     let entries = cache.conts.items.len().saturating_add(cache.cells.len());
     cache.budget.allows(cache.ids.most, entries)

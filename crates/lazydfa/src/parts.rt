@@ -64,7 +64,7 @@ fn common_part(conts: &Conts, tops: &[usize]) -> usize {
     part
 }
 
-// Tells whether the place of a continuation stands again below it.
+// Returns whether the place of a continuation stands again below it.
 fn stands_again(conts: &Conts, cont: Cont) -> bool {
     let mut id = cont.next;
     for _ in 0..DEPTH {
@@ -79,7 +79,7 @@ fn stands_again(conts: &Conts, cont: Cont) -> bool {
     false
 }
 
-// Tells whether some place stands twice in a part.
+// Returns whether some place stands twice in a part.
 fn repeats(conts: &Conts, part: usize) -> bool {
     let mut id = part;
     for _ in 0..DEPTH {
@@ -94,7 +94,7 @@ fn repeats(conts: &Conts, part: usize) -> bool {
     false
 }
 
-// Tells whether something is read on top of each continuation.
+// Returns whether something is read on top of each continuation.
 fn all_read(tables: &Tables, ids: &[usize], conts: &Conts) -> bool
     requires within { (id : ℕ) → Contains ids.now id → id ≤ length conts.now.items.items }
     requires older { AreOlder conts.now.items.items }
@@ -108,7 +108,7 @@ fn all_read(tables: &Tables, ids: &[usize], conts: &Conts) -> bool
     true
 }
 
-// Tells whether a part may be split off a front.
+// Returns whether a part may be split off a front.
 fn may_split(conts: &Conts, front: &Front, part: usize) -> bool
     ensures { IsTrue result → (front.now.ended ≡ false) × (0 < part) × (part ≤ length conts.now.items.items) }
 {

@@ -18,10 +18,9 @@ use crate::glide::{Stand, glide};
 use crate::hops::note_hop;
 use crate::memo::{Memo, forget_all, unfolded};
 use crate::transition::{Front, readers};
-use flatgrammar::{Tables, whole_root};
+use flatgrammar::{Tables, Verdict, whole_root};
 use letterclasses::class_of;
 use letters::Letter;
-use lowering::Verdict;
 use ruletable::Memory;
 use std::alloc::Global;
 
@@ -188,7 +187,7 @@ fn prepare(memo: &mut Memo, letters: usize)
     memo.cache.budget.earn(letters);
 }
 
-// Returns what a run tells that came to a line's end.
+// Returns the verdict of a run that came to a line's end.
 fn verdict_at_end(ended: bool, letters: usize) -> Verdict
     ensures { result ≡ (if ended then Verdict.Yes else Verdict.No letters) }
 {
@@ -199,7 +198,7 @@ fn verdict_at_end(ended: bool, letters: usize) -> Verdict
     }
 }
 
-/// Goes over a line, and tells whether the whole may end behind it, or else how many of its letters lead to something;
+/// Goes over a line, and returns whether the whole may end after it, or else how many of its letters lead to something;
 /// `None` if that takes more than there may be. `Memory` if an allocation fails.
 fn follow<L: Letter>(
     alloc: Global,
@@ -246,7 +245,7 @@ fn follow<L: Letter>(
     Ok(Some(verdict_at_end(has_ended(&memo.cache, stand.state), line.len())))
 }
 
-/// Tells what `follow` tells. All is forgotten if an allocation fails.
+/// Returns what `follow` returns. It forgets all if an allocation fails.
 pub(crate) fn run<L: Letter>(
     alloc: Global,
     tables: &Tables,

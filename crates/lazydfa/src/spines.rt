@@ -14,7 +14,7 @@ pub(crate) struct Move {
     pub(crate) on: usize,
 }
 
-/// Takes the places of a continuation down to one below it, from the top on; tells whether it stands on that one.
+/// Takes the places of a continuation down to one below it, from the top on; returns whether it stands on that one.
 /// `Memory` if an allocation fails.
 fn take_spine(conts: &Conts, top: usize, off: usize, spine: &mut Vec<Cont>) -> Result<bool, Memory>
     requires within { top ≤ length conts.now.items.items }
@@ -60,7 +60,7 @@ fn put_spine(conts: &mut Conts, spine: &mut Vec<Cont>, on: usize) -> Result<usiz
     Ok(id)
 }
 
-/// Moves a continuation, and adds the id of what comes of it; tells whether it stands on what it is to be taken off.
+/// Moves a continuation, and adds the id of what comes of it; returns whether it stands on what it is to be taken off.
 /// `Memory` if an allocation fails.
 fn move_one(
     conts: &mut Conts,
@@ -84,7 +84,7 @@ fn move_one(
     Ok(true)
 }
 
-/// Moves continuations, and adds the ids of what comes of them; tells whether all stand on what they are to be taken
+/// Moves continuations, and adds the ids of what comes of them; returns whether all stand on what they are to be taken
 /// off. `Memory` if an allocation fails.
 pub(crate) fn move_all(
     conts: &mut Conts,

@@ -78,7 +78,7 @@ fn read_all(
     Ok(())
 }
 
-/// Tells whether something is read on top of a continuation.
+/// Returns whether something is read on top of a continuation.
 pub(crate) fn top_reads(tables: &Tables, id: usize, conts: &Conts) -> bool
     requires within { id ≤ length conts.now.items.items }
     requires older { AreOlder conts.now.items.items }

@@ -1,4 +1,4 @@
--- Classes of letters that the sets of a grammar do not tell apart.
+-- Classes of letters that each set of a grammar takes or rejects together.
 -- Serves: new, judge, viable.
 use Rattle.std.proofs.Common.{◌≡◌, ℕ, zero, suc, ◌+◌, ◌-◌, ◌<◌, ◌≤◌, ◌^◌, true, false, List, [], ◌∷◌, ◌++◌}
 use Rattle.std.proofs.Common.{length, map, refl, sym, ◌∙◌, ap, subst, arith, ◌⊎◌, inl, inr, ◌↔◌, get_or, leb, leb-true}
@@ -78,7 +78,7 @@ module _ {A B : Type 0} (f : A → B) (P : List ℕ → B → Type 0)
       let size = length-map xs f in
       before i b (omega (arith, within, size, le)) is
 
--- numbers that are not told apart
+-- numbers that are taken or rejected together
 module _ (flat : Flat) (bounds : List ℕ) (split : AreNodesSplit bounds flat.nodes) where
   next_alike : (c : ℕ) → c + 1 < 2 ^ 32 → IsFree bounds (c + 1) → {q r : Place} {set : Set} → Reads flat q set r
       → Has set c ↔ Has set (c + 1)

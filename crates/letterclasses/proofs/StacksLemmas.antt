@@ -1,4 +1,4 @@
--- Stacks of places tell what item sets tell.
+-- Stacks and item sets hold the same places, and accept the same lines.
 -- Serves: stacks_tell, judge.
 use Rattle.std.proofs.Common.{◌≡◌, ℕ, ◌+◌, ◌<◌, ◌≤◌, List, [], ◌∷◌, refl, sym, ◌∙◌, ap, subst, arith}
 use Rattle.std.proofs.Common.{◌⊎◌, inl, inr}

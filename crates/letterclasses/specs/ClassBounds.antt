@@ -17,7 +17,7 @@ AreMoreBounds old new = (i : ℕ) → IsFree new i → IsFree old i
 abbrev pub IsBoundAdded : List ℕ → List ℕ → ℕ → Type 0
 IsBoundAdded old new n = (i : ℕ) → IsFree new i → IsFree old i × (i ≡ n → ⊥)
 
--- .. and so were the first number of a range and the one behind its last, if that is below 2 ^ 32
+-- .. and so were the first number of a range and the one after its last, if that is below 2 ^ 32
 abbrev pub AreEndsAdded : List ℕ → List ℕ → ℕ → ℕ → Type 0
 AreEndsAdded old new low high = (i : ℕ) → IsFree new i → IsFree old i × (i ≡ low → ⊥)
     × (i < 2 ^ 32 → i ≡ high + 1 → ⊥)
@@ -39,11 +39,11 @@ IsNodeSplit bounds node = (sets : List Set) → node ≡ Letters sets → AreSpl
 abbrev pub AreNodesSplit : List ℕ → List Node → Type 0
 AreNodesSplit bounds nodes = (s : ℕ) (node : Node) → slice_get nodes s ≡ Some node → IsNodeSplit bounds node
 
--- from behind d on to c no class begins
+-- after d and up to c no class begins
 abbrev pub AreJoined : List ℕ → ℕ → ℕ → Type 0
 AreJoined bounds d c = (d ≤ c) × ((i : ℕ) → d < i → i ≤ c → IsFree bounds i)
 
--- a class whose sample no set tells from that letter
+-- a class whose sample is in exactly the sets that have that letter
 pub record IsClassOf (flat : Flat) (samples : List ℕ) (c k : ℕ) : Type 0 where
   pub sample : ℕ
   pub is : slice_get samples k ≡ Some sample

@@ -1,4 +1,4 @@
-//! Classes of letters that the sets of a grammar do not tell apart.
+//! Classes of letters that each set of a grammar takes or rejects together.
 ghost use Rattle.std.specs.Prelude.{IfOk, map};
 ghost use Rattle.std.specs.List.Sorted.{IsNonDecreasing};
 ghost use Rattle.flatgrammar.specs.Flat.{Flat, EitherCase};
@@ -20,7 +20,7 @@ pub struct Classes {
     pub samples: Vec<u32>,
 }
 
-// Adds the first number of a range and the one behind its last. `Memory` if an allocation fails.
+// Adds the first number of a range and the one after its last. `Memory` if an allocation fails.
 fn add_ends(low: u32, high: u32, bounds: &mut Bounds) -> Result<(), Memory>
     ensures { IfOk result (λ done. AreEndsAdded bounds.old.numbers.items bounds.new.numbers.items low high) }
 {
@@ -142,7 +142,7 @@ pub fn class_of(low: &[usize], samples: &[u32], value: u32) -> usize
     }
 }
 
-/// Returns classes of letters that the sets of a grammar do not tell apart. `Memory` if an allocation fails.
+/// Returns classes of letters that each set of a grammar takes or rejects together. `Memory` if an allocation fails.
 pub fn find_classes(alloc: Global, tables: &Tables) -> Result<Classes, Memory>
     ensures { IfOk result (λ classes. AreClasses (flat_of tables.now) classes.low.items classes.samples.items) }
 {

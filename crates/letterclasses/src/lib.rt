@@ -1,4 +1,5 @@
-//! Classes of letters that no set of a flat grammar tells apart. An automaton has one transition for a whole class.
+//! Classes of letters that each set of a flat grammar takes or rejects together. An automaton has one transition for a
+//! whole class.
 #![tactic(auto)]
 
 mod bounds;

@@ -1,14 +1,14 @@
 -- A text is cut into tokens in one way, where the first token is found in one way.
 -- Serves: TokenIter::next, one_list, have_tokens, abnf_tokens, read_peg, read_abnf
 use Rattle.std.proofs.Common.{◌≡◌, ℕ, ◌+◌, ◌-◌, ◌≤◌, Bool, true, false, cond, Some, None, List, [], ◌∷◌, ◌++◌, length}
-use Rattle.std.proofs.Common.{take, refl, sym, ap, arith, length-append, ◌∙◌}
+use Rattle.std.proofs.Common.{take, refl, sym, ap, arith, append_assoc, append-nil, length-append, ◌∙◌}
 use Rattle.std.proofs.lemmas.List.{take_at, append_cancel_right}
 use Rattle.ruletable.specs.declared.span.Span.{Span}
 use Rattle.lexer.specs.SliceEnds.{IsEnd}
 use Rattle.lexer.specs.declared.token_iter.Token.{Token}
 use Rattle.lexer.specs.declared.token_iter.TokenIter.{TokenIter}
 use Rattle.lexer.specs.TokenLists.{Tok, tok, kind_of, slice_of, start_of, end_of, tok_of, Next, AreTokens, last_one}
-use Rattle.lexer.specs.TokenLists.{one_more, total_of, IsAtStart, GivesToken, AreLeft, GivesFirst}
+use Rattle.lexer.specs.TokenLists.{one_more, total_of, IsAtStart, GivesToken, AreLeft, GivesFirst, LeadsTo}
 
 pub end-shorter : {t r : List ℕ} → IsEnd t r → length r ≤ length t
 end-shorter {t} {r} h = let e = ap length h.whole in omega (arith, length-append h.front r)
@@ -123,7 +123,7 @@ module _ {K : Type 0} (White : List ℕ → List ℕ → Type 0) (First : K → 
       let steps = g.1 in
       rw (steps.0) (left-then t.ended steps.2 steps.1 (let same : total_of t ≡ total_of s = g.0 in rw same at h))
 
-  pub left-none : (s t : TokenIter K) → GivesToken White First is_end s None t → AreLeft White First is_end s []
+  left-none : (s t : TokenIter K) → GivesToken White First is_end s None t → AreLeft White First is_end s []
   left-none s t g = let ended = g.1 in rw (ended.0) refl
 
   pub left-first : (s : TokenIter K) (t : List ℕ) (items : List (Tok K)) → IsAtStart s t
@@ -139,3 +139,37 @@ module _ {K : Type 0} (White : List ℕ → List ℕ → Type 0) (First : K → 
   left-at_start s {t} at_start h =
       let total : total_of s ≡ length t = omega (arith, ap length at_start.0) in
       rw (at_start.2, total, at_start.0) h
+
+  -- no token leads to the whole text
+  pub leads-first : (s : TokenIter K) {t : List ℕ} → IsAtStart s t → LeadsTo White First is_end t [] s
+  leads-first s at_start = record {
+    joins = λ items h. left-first s _ items at_start h;
+    splits = λ all h. (all, refl, left-at_start s at_start h);
+  }
+
+  module _ {text : List ℕ} {ts : List (Tok K)} (s t : TokenIter K) (h : LeadsTo White First is_end text ts s) where
+    -- one token more
+    pub leads-snoc : (x : Token K) → GivesFirst White First is_end s (Some x) t
+        → LeadsTo White First is_end text (ts ++ tok_of x ∷ []) t
+    leads-snoc x g = record {
+      joins = λ items k. rw (append_assoc ts (tok_of x ∷ []) items)
+          (h.joins (tok_of x ∷ items) (left-step s t x items g.step k));
+      splits = λ all k.
+          let p = h.splits all k in
+          let q = g.first p.0 p.2 in
+          (q.0, p.1 ∙ ap (λ (us : List (Tok K)). ts ++ us) q.1 ∙ sym (append_assoc ts (tok_of x ∷ []) q.0), q.2);
+    }
+
+    -- where none is left, the text has a list of tokens
+    pub leads-end : GivesFirst White First is_end s None t → AreTokens White First is_end (length text) text ts
+    leads-end g = simp append-nil at (h.joins [] (left-none s t g.step))
+
+    -- where the text has one, the next token follows there
+    pub leads-next : (x : Token K) → GivesFirst White First is_end s (Some x) t → (all : List (Tok K))
+        → AreTokens White First is_end (length text) text all → (others : List (Tok K))
+        × AreTokens White First is_end (length text) text (ts ++ tok_of x ∷ others)
+    leads-next x g all k =
+        let p = h.splits all k in
+        let q = g.first p.0 p.2 in
+        let e : all ≡ ts ++ tok_of x ∷ q.0 = p.1 ∙ ap (λ (us : List (Tok K)). ts ++ us) q.1 in
+        (q.0, rw e at k)

@@ -134,7 +134,7 @@ module _ {T W : Type 0} (Says : T → W → Type 0) where
     pub begins-front : (ws vs : List W) → Begins Spells (ws ++ vs) → Begins Spells ws
     begins-front ws vs (s, g, h) = (vs ++ s, g, rw (← append_assoc ws vs s) h)
 
-    -- a shorter beginning
+    -- a shorter prefix
     pub viable-front : (ts us : List T) → Viable Says Spells (ts ++ us) → Viable Says Spells ts
     viable-front ts us (ws, say, begins) =
         let s = say-split ts us say in

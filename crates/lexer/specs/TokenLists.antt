@@ -28,8 +28,8 @@ module _ {K : Type 0} where
   tok_of t = tok t.kind t.slice.now t.span
 
 module _ {K : Type 0} (White : List ℕ → List ℕ → Type 0) (First : K → List ℕ → List ℕ → Type 0) where
-  -- White space and then the token's slice begin t, and r stands behind it. The whole text has `total` bytes, of which
-  -- t are the last.
+  -- White space and then the token's slice begin t, and r follows. The whole text has `total` bytes, of which t are the
+  -- last.
   pub record Next (total : ℕ) (t : List ℕ) (x : Tok K) (r : List ℕ) : Type 0 where
     pub token : List ℕ
     pub white : White t token
@@ -80,3 +80,11 @@ module _ {K : Type 0} (White : List ℕ → List ℕ → Type 0) (First : K → 
   pub record GivesFirst (s : TokenIter K) (r : Option (Token K)) (t : TokenIter K) : Type 0 where
     pub step : GivesToken s r t
     pub first : TakesFirst s r t
+
+  -- The tokens ts lead from the text to what the iterator has left. Whichever tokens are left, the text has ts and then
+  -- these; and if the text has a list of tokens, that is ts and then what is left.
+  pub record LeadsTo (text : List ℕ) (ts : List (Tok K)) (s : TokenIter K) : Type 0 where
+    pub joins : (items : List (Tok K)) → AreLeft s items
+        → AreTokens White First is_end (length text) text (ts ++ items)
+    pub splits : (all : List (Tok K)) → AreTokens White First is_end (length text) text all → (items : List (Tok K))
+        × (all ≡ ts ++ items) × AreLeft s items

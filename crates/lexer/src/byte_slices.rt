@@ -2,7 +2,7 @@
 ghost use Rattle.std.specs.Prelude.{◌≡◌, ℕ, List, [], ◌∷◌, ◌++◌, MatchOption};
 ghost use Rattle.lexer.specs.SliceEnds.{Lacks};
 
-/// Returns what stands behind the byte `b`, if that begins the text.
+/// Returns what follows the byte `b`, if that begins the text.
 pub fn after_byte(text: &[u8], b: u8) -> Option<&[u8]>
     ensures { MatchOption result (Lacks b text.now) (λ rest. text.now ≡ b ∷ rest.now) }
 {

@@ -7,16 +7,16 @@ pub trait Kind: Copy {
     /// Whether it ends a list of tokens.
     ghost is_end: { Self → Bool };
 
-    /// White space, and what stands behind it.
+    /// White space, and what follows it.
     ghost white: { List ℕ → List ℕ → Type 0 };
 
     /// No white space begins the text.
     ghost dark: { List ℕ → Type 0 };
 
-    /// A token of the kind, and what stands behind it.
+    /// A token of the kind, and what follows it.
     ghost stands: { Self → List ℕ → List ℕ → Type 0 };
 
-    /// The first token of a text that no white space begins, and what stands behind it.
+    /// The first token of a text that no white space begins, and what follows it.
     ghost first: { Self → List ℕ → List ℕ → Type 0 };
 
     fn is_last(self) -> bool
@@ -30,9 +30,9 @@ pub trait Kind: Copy {
         requires { dark text.now }
         ensures { first result.0 text.now result.1.now };
 
-    /// Says that what stands behind white space and a token is found in one way. White space before a token is white
-    /// space by itself too. The first token is the longest that stands there, or none stands there. A token that ends a
-    /// list stands where the text ends.
+    /// Says that what follows white space and a token is found in one way. White space before a token is white space by
+    /// itself too. The first token is the longest that stands there, or none stands there. A token that ends a list
+    /// stands where the text ends.
     fn are_cut()
         ensures white { (t r : List ℕ) → white t r → StandsAlone white t r }
         ensures ends { (k : Self) (t r : List ℕ) → first k t r → IsEnd t r }

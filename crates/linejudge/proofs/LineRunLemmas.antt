@@ -47,7 +47,7 @@ module _ (Told : List ℕ → Answer → Type 0) (asked : Bool) (Refusal : List 
       (Tells Told asked Refusal form input) (WhyStopped Told asked Refusal form input)
       (MayLack Told asked Refusal form input) at last ending
 
-  -- where it is not asked, nothing is told of lines
+  -- where it is not asked, no line is explained
   untold_lines : asked ≡ false → (at : At) (told : List ℕ) → Refusals Told asked Refusal form input at told → told ≡ []
   untold_lines not at told none_told = refl
   untold_lines not at told (one_told before first line n said text lines stands says tells) =
@@ -73,7 +73,7 @@ module _ (Told : List ℕ → Answer → Type 0) (asked : Bool) (Refusal : List 
       Appends-join old mid new text (answer_text said) wrote writes,
     )
 
-    -- what is told there, where it is asked
+    -- the explanations there, where it is asked
     all_told : asked ≡ true → (all : List ℕ) → all ≡ told ++ more_refused (count_untold true at.refused)
         → Tells Told asked Refusal form input at all
     all_told is all same = record { first = told; refusals = refusals; is = same ∙ rw is refl }
@@ -168,7 +168,7 @@ module _ (Told : List ℕ → Answer → Type 0) (asked : Bool) (Refusal : List 
       (place_taken form.limit input at) text
   goes_on input at text lines = lines_go_on Told form input decided at text lines
 
-  -- nothing is told before the first line
+  -- nothing is explained before the first line
   nothing_yet : (b : Bool) → asked ≡ b → (input : Input) → Tells Told asked Refusal form input at_front []
   nothing_yet true is input = record { first = []; refusals = none_told; is = rw is refl }
   nothing_yet false is input = record { first = []; refusals = none_told; is = rw is refl }
@@ -195,7 +195,7 @@ module _ (Told : List ℕ → Answer → Type 0) (asked : Bool) (Refusal : List 
       (WhyStopped Told asked Refusal form) (MayLack Told asked Refusal form) remaining failed ended old now final out
       left flow r is told run flag
 
-  -- memory was refused before the first line
+  -- an allocation failed before the first line
   pub no_line_was_run : (r0 s0 : Option (List ℕ)) (r_was r_failed o_was : Bool) →
       let r : Result Ending WriteFault = Ok (Plain NoMemory) in
       Fulfils (LinesStates Told asked Refusal form) (record { old = r0; new = r0; was = r_was; failed = r_failed })

@@ -38,7 +38,7 @@ split_line end (x ∷ xs) = elim (cases_eq x end) [
   ]
 ]
 
--- an answer refuses one line at most
+-- an answer rejects one line at most
 pub refused_by-one : (said : Answer) → refused_by said ≤ 1
 refused_by-one Yes = omega arith
 refused_by-one No = omega arith
@@ -99,7 +99,7 @@ module _ (Told : List ℕ → Answer → Type 0) (form : LineForm) (input : Inpu
     goes_at_end at text lines empty fine = goes_from at.place at.place text [] (omega arith)
         (goes_to_stop at text [] (Quiet (status_after at.refused)) lines (finished (empty, fine)))
 
-    -- behind the last line it does
+    -- after the last line it does
     goes_behind_last : (at : At) (text : List ℕ) → Lines Told form input at text → HasNoEnd form.end (rest at.place)
         → 0 < length (rest at.place) → length (rest at.place) ≤ form.limit → input.fault ≡ false → Goes at.place text
     goes_behind_last at text lines free some le fine =
@@ -161,7 +161,7 @@ module _ (Told : List ℕ → Answer → Type 0) (form : LineForm) (input : Inpu
     pub lines_go_on : (at : At) (text : List ℕ) → Lines Told form input at text → Goes at.place text
     lines_go_on at text lines = lines_go (suc (length (rest at.place))) at text lines (omega arith)
 
-    -- behind one more line no fewer bytes are taken
+    -- after one more line no fewer bytes are taken
     pub goes_behind : (at : At) (text line : List ℕ) (n : ℕ) (said : Answer) → Lines Told form input at text
         → StandsAt form input at.place line n → Told line said → Goes at.place (text ++ answer_text said)
     goes_behind at text line n said lines stands says =

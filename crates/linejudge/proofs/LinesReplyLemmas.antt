@@ -1,4 +1,4 @@
--- The lines of an input, what is told of refused ones, and how a run of them ends are one, and so is its reply.
+-- The lines of an input, the explanations of rejected ones, and how a run of them ends are one, and so is its reply.
 -- Serves: one_reply_of_abnf, one_statement_of_abnf
 use Rattle.std.proofs.Common.{◌≡◌, ◌≢◌, ℕ, suc, ◌+◌, ◌<◌, ◌≤◌, Bool, List, [], ◌∷◌, ◌++◌, length, take, drop, get_or}
 use Rattle.std.proofs.Common.{refl}
@@ -179,7 +179,7 @@ module _ (Told : List ℕ → Answer → Type 0) (one_answer : (line : List ℕ)
     }
   ]
 
-  -- no run ends behind fewer lines than another run answers
+  -- no run ends after fewer lines than another run answers
   no_earlier_end : (at other : At) (text more last : List ℕ) (why : Stop) → LinesTo at text
       → LinesEnd form input at last why → LinesTo other more → at.count < other.count → ⊥
   no_earlier_end at other text more last why lines ends further lt =
@@ -204,7 +204,7 @@ module _ (Told : List ℕ → Answer → Type 0) (one_answer : (line : List ℕ)
         (subst (λ (v : At). LinesEnd form input v q.last q.stop) (sym same.places) q.ends);
   }
 
-  -- one reply, but for what is told and explained
+  -- one reply, but for what is explained
   one_plain_reply : (a b : Reply) (r : HasReply a) (q : HasReply b) → OneReply a b r q
   one_plain_reply a b r q = elim (cases_lt r.point.count q.point.count) [
     | inl lt ↦ absurd (no_earlier_end r.point q.point r.before q.before r.last r.stop r.steps r.ends q.steps lt)
@@ -234,7 +234,7 @@ module _ (Told : List ℕ → Answer → Type 0) (one_answer : (line : List ℕ)
     abbrev ToldTo : At → List ℕ → Type 0
     ToldTo at text = Refusals Told asked Refusal form input at text
 
-    -- both go on by a line, of which one text is told
+    -- both go on by a line, which one text explains
     tells_next : (at other : At) (text more line next : List ℕ) (n m : ℕ) (said told : Answer) (why lines : List ℕ)
         → Same at other text more → StandsAt form input at.place line n → StandsAt form input other.place next m
         → Told line said → Told next told
@@ -258,7 +258,7 @@ module _ (Told : List ℕ → Answer → Type 0) (one_answer : (line : List ℕ)
         let words = same.texts in
         record { places = step.places; texts = cc }
 
-    -- one text is told of the lines to a place
+    -- one text explains the lines to a position
     same_told : (at : At) (text : List ℕ) → ToldTo at text → (other : At) (more : List ℕ) → ToldTo other more
         → at.count ≡ other.count → Same at other text more
     same_told at text none_told other more none_told e = record { places = refl; texts = refl }

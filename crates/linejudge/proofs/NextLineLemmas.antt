@@ -54,7 +54,7 @@ found_has_end end k xs (before, found) none =
     let here : get_or xs k 0 ≡ end = grind (arith, nat_tests, found) in
     All-get_or (λ b. b ≢ end) xs k 0 (omega (arith, before.high)) none here
 
--- what is held is the beginning of the rest
+-- what is held is a prefix of the rest
 pub held_front : (before items : List ℕ) (more bytes : List ℕ) (k start : ℕ) → bytes ≡ (before ++ items) ++ more
     → length before ≡ start → k ≤ length items →
     take k items ≡ take k (drop start bytes)

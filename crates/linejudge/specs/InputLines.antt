@@ -32,13 +32,13 @@ says_yes Yes = true
 says_yes No = false
 says_yes (NoAfter n) = false
 
--- how many lines an answer refuses
+-- how many lines an answer rejects
 abbrev pub refused_by : Answer → ℕ
 refused_by Yes = 0
 refused_by No = 1
 refused_by (NoAfter n) = 1
 
--- how a run ends behind so many refused lines
+-- how a run ends after so many rejected lines
 abbrev pub status_after : ℕ → Status
 status_after refused = if refused == 0 then Done else NoMatch
 
@@ -46,7 +46,7 @@ status_after refused = if refused == 0 then Done else NoMatch
 abbrev pub at_front : At
 at_front = record { place = 0; count = 0; refused = 0 }
 
--- behind a line that takes n bytes
+-- after a line that takes n bytes
 abbrev pub behind : At → ℕ → Answer → At
 behind at n said = record {
   place = at.place + n;

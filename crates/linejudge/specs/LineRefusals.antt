@@ -1,4 +1,4 @@
--- What is told of the refused lines of an input, and what a run of its lines states.
+-- The explanations of the rejected lines of an input, and what a run of its lines states.
 use Rattle.std.specs.Prelude.{◌≡◌, ℕ, ◌+◌, ◌-◌, nat_lt, ◌&&◌, not, ⊤, Bool, true, List, [], ◌++◌, codes}
 use Rattle.std.specs.Prelude.{if◌then◌else◌}
 use Rattle.toolrun.specs.Explained.{ExplainedIf}
@@ -14,12 +14,12 @@ use Rattle.linejudge.specs.declared.answers.Answer.{Answer}
 use Rattle.linejudge.specs.declared.line.LineForm.{LineForm}
 use Rattle.linejudge.specs.declared.reached.At.{At}
 
--- Whether a line with that answer, behind so many refused ones, is explained, where that is asked: the first 16
--- refused lines are.
+-- Whether a line with that answer, after so many rejected ones, is explained, where that is asked: the first 16
+-- rejected lines are.
 abbrev pub is_told : Bool → ℕ → Answer → Bool
 is_told asked refused said = asked && (not (says_yes said) && nat_lt refused 16)
 
--- how many refused lines are not explained, where that is asked
+-- how many rejected lines are not explained, where that is asked
 abbrev pub count_untold : Bool → ℕ → ℕ
 count_untold asked refused = if asked then refused - 16 else 0
 
@@ -49,22 +49,22 @@ stop_lines NoMemory = []
 stop_lines (Refused fault) = []
 stop_lines Unreadable = []
 
--- Told says which answer is that of a line, asked whether refused lines are explained, and Refusal by what, where a
+-- Told says which answer is that of a line, asked whether rejected lines are explained, and Refusal by what, where a
 -- line has that number.
 module _ (Told : List ℕ → Answer → Type 0) (asked : Bool) (Refusal : List ℕ → ℕ → List ℕ → Type 0) where
-  -- what is told of a line with that answer at a place
+  -- the explanation of a line with that answer at a position
   abbrev pub TellsLine : At → List ℕ → Answer → List ℕ → Type 0
   TellsLine at line said text = ExplainedIf (is_told asked at.refused said) (Refusal line (at.count + 1)) text
 
   module _ (form : LineForm) (input : Input) where
-    -- what is told of the lines up to a place
+    -- the explanations of the lines up to a position
     pub data Refusals : At → List ℕ → Type 0 where
       none_told : Refusals at_front []
       one_told : (at : At) (before line : List ℕ) (n : ℕ) (said : Answer) (text : List ℕ) → Refusals at before
           → StandsAt form input at.place line n → Told line said → TellsLine at line said text
           → Refusals (behind at n said) (before ++ text)
 
-    -- and how many more are refused
+    -- and how many more are rejected
     pub record Tells (at : At) (told : List ℕ) : Type 0 where
       pub first : List ℕ
       pub refusals : Refusals at first
@@ -78,7 +78,7 @@ module _ (Told : List ℕ → Answer → Type 0) (asked : Bool) (Refusal : List 
     abbrev pub MayLack : At → Stop → Type 0
     MayLack at stop = (asked ≡ true) × IsLong stop
 
-    -- the lines of the input in turn, what is told of those that are refused, and how the run ends
+    -- the lines of the input in turn, the explanations of those that are rejected, and how the run ends
     abbrev pub LinesReply : Reply → Type 0
     LinesReply reply = steps.RepliesTold (Lines Told form input) (LinesEnd form input) (place_taken form.limit input)
         Tells WhyStopped MayLack reply

@@ -17,7 +17,7 @@ use Rattle.linejudge.specs.declared.line_loop.Step.{Step}
 use Rattle.linejudge.specs.declared.line_loop.Step.TheVariants.{Answers, Stops}
 use Rattle.linejudge.specs.declared.reached.At.{At}
 
--- the text behind what was told
+-- the text after that of the lines before
 pub record Adds (P : List ℕ → Type 0) (old new : List ℕ) : Type 0 where
   pub text : List ℕ
   pub is : P text
@@ -34,7 +34,7 @@ abbrev pub FitsIn : ℕ → Result Step WriteFault → Type 0
 FitsIn len (Ok (Answers said n)) = (0 < n) × (n ≤ len)
 FitsIn len _ = ⊤
 
--- how a run ends behind what was told, where it is explained
+-- how a run ends after the explanations of lines, where it is explained
 abbrev pub IsToldEnding : List ℕ → Stop → Ending → Type 0
 IsToldEnding text stop (Plain is) = ⊥
 IsToldEnding text stop (Explained told is why) = (refusals_text told ≡ text) × (is ≡ stop)
@@ -42,7 +42,7 @@ IsToldEnding text stop (Explained told is why) = (refusals_text told ≡ text) �
 IsToldEnding text stop (Unexplained told is) = (refusals_text told ≡ text) × (is ≡ stop) × IsLong stop
 
 module _ (Told : List ℕ → Answer → Type 0) (asked : Bool) (Refusal : List ℕ → ℕ → List ℕ → Type 0) where
-  -- a line was answered, and what is told of it was added; or nothing was written and told for want of memory
+  -- a line was answered, and its explanation was added; or an allocation failed, and nothing was written and added
   abbrev pub Answered : At → List ℕ → Option (List ℕ) → Option (List ℕ) → List ℕ → List ℕ
       → Result (Option Answer) WriteFault → Type 0
   Answered at line old new told more (Ok (Some said)) = Told line said
@@ -51,7 +51,7 @@ module _ (Told : List ℕ → Answer → Type 0) (asked : Bool) (Refusal : List 
   Answered at line old new told more (Err fault) = (said : Answer) × Told line said
       × Adds (TellsLine Told asked Refusal at line said) told more × AppendsPart old new (answer_text said)
 
-  -- a line was answered, or the run ends here, or memory was refused and nothing was written
+  -- a line was answered, or the run ends here, or an allocation failed and nothing was written
   module _ (form : LineForm) (input : Input) where
     abbrev pub IsStep : At → Option (List ℕ) → Option (List ℕ) → List ℕ → List ℕ → Result Step WriteFault → Type 0
     IsStep at old new told more (Ok (Answers said n)) = (line : List ℕ) × StandsAt form input at.place line n

@@ -28,9 +28,9 @@ pub enum Answer {
 pub trait Judge<W> {
     /// Which answer is that of a line.
     ghost told: { Self → List ℕ → Answer → Type 0 };
-    /// Whether refused lines are explained.
+    /// Whether rejected lines are explained.
     ghost explains: { Self → Bool };
-    /// What explains a refused line that has a number.
+    /// What explains a rejected line that has a number.
     ghost refusal: { Self → List ℕ → ℕ → List ℕ → Type 0 };
     /// How many bytes a line may have that is answered.
     ghost served: { Self → ℕ };
@@ -44,11 +44,11 @@ pub trait Judge<W> {
         ensures work { works_in self.now work.new }
         ensures told { IfOk result (told self.now line.now) };
 
-    /// Returns whether refused lines are explained.
+    /// Returns whether rejected lines are explained.
     fn is_explained(&self) -> bool
         ensures { result ≡ explains self.now };
 
-    /// Returns the lines that explain a refused line of that number. `Memory` if an allocation fails.
+    /// Returns the lines that explain a rejected line of that number. `Memory` if an allocation fails.
     fn explain(&self, work: &mut W, line: &[u8], number: usize) -> Result<Vec<u8>, Memory>
         requires asked { explains self.now ≡ true }
         requires served { length line.now ≤ served self.now }
@@ -72,14 +72,14 @@ fn is_yes(said: Answer) -> bool
     }
 }
 
-/// Returns whether a line with that answer, behind so many refused ones, is explained, where that is asked.
+/// Returns whether a line with that answer, after so many rejected ones, is explained, where that is asked.
 fn is_told(asked: bool, refused: usize, said: Answer) -> bool
     ensures { result ≡ may_tell asked refused said }
 {
     asked && !is_yes(said) && refused < MAX_TOLD
 }
 
-/// Adds the lines that explain a refused line of that number; nothing if an allocation fails.
+/// Adds the lines that explain a rejected line of that number; nothing if an allocation fails.
 fn push_refusal<W, J: Judge<W>>(
     judge: &J,
     work: &mut W,
@@ -99,7 +99,7 @@ fn push_refusal<W, J: Judge<W>>(
     Ok(())
 }
 
-/// Adds what is told of a line with that answer; nothing if an allocation fails.
+/// Adds the explanation of a line with that answer, if it has one; nothing if an allocation fails.
 fn tell_line<W, J: Judge<W>>(
     judge: &J,
     work: &mut W,
@@ -123,7 +123,7 @@ fn tell_line<W, J: Judge<W>>(
     Ok(())
 }
 
-/// Judges a line, and adds what is told of it; nothing if an allocation fails.
+/// Judges a line, and adds its explanation, if it has one; nothing if an allocation fails.
 fn judge_line<W, J: Judge<W>>(
     judge: &J,
     work: &mut W,
@@ -145,8 +145,8 @@ fn judge_line<W, J: Judge<W>>(
     Ok(said)
 }
 
-/// Judges the first `n` bytes that are held, and adds what is told of them; nothing if an allocation fails. They are
-/// put in one piece only where the first piece is shorter.
+/// Judges the first `n` bytes that are held, and adds their explanation, if they have one; nothing if an allocation
+/// fails. They are put in one piece only where the first piece is shorter.
 fn judge_held<W, J: Judge<W>, R: Source>(
     judge: &J,
     work: &mut W,
@@ -199,8 +199,8 @@ fn write_answer<O: Sink>(said: Answer, out: &mut O) -> Result<(), WriteFault>
     }
 }
 
-/// Judges the first `n` bytes that are held, adds what is told of them, and writes the answer. `None` if an allocation
-/// fails; then nothing is added and written.
+/// Judges the first `n` bytes that are held, adds their explanation, if they have one, and writes the answer. `None` if
+/// an allocation fails; then nothing is added and written.
 pub fn answer_held<W, J: Judge<W>, R: Source, O: Sink>(
     judge: &J,
     work: &mut W,

@@ -41,7 +41,7 @@ fn step_of(answered: Result<Option<Answer>, WriteFault>, len: usize) -> Result<S
     }
 }
 
-/// Answers the line at a place and adds what is told of it, or returns how the run ends there.
+/// Answers the line at a position and adds its explanation, or returns how the run ends there.
 fn next_step<W, J: Judge<W>, R: Source, O: Sink>(
     judge: &J,
     work: &mut W,
@@ -98,7 +98,7 @@ fn lines_of_stop(alloc: Global, stop: Stop) -> Result<Vec<u8>, Memory>
     }
 }
 
-/// Returns how a run ends that stopped so, behind what was told, with the lines that explain it.
+/// Returns the ending of a run: the explanations of lines, the stop, and the lines that explain it.
 fn told_ending(alloc: Global, reached: Reached, stop: Stop) -> Ending
     ensures { IsToldEnding (reached.told.items ++ more_refused (count_untold true reached.at.refused)) stop result }
 {
@@ -181,7 +181,7 @@ fn answer_lines<W, J: Judge<W>, R: Source, O: Sink>(
 }
 
 /// Judges the lines of what a reader gives, and writes the answer to each: `yes`, `no`, or `no` and a number. The
-/// reader may neither have failed nor have told its end before, and the judge must serve lines of `form.limit` bytes
+/// reader may neither have failed nor have given its end before, and the judge must serve lines of `form.limit` bytes
 /// and be able to work in that memory.
 ///
 /// - A line ends before a byte `form.end`, and a last piece without one is a line if it is not empty. All other bytes
@@ -189,11 +189,11 @@ fn answer_lines<W, J: Judge<W>, R: Source, O: Sink>(
 /// - The first line of more than `form.limit` bytes ends the run: `LongLine` with its number from 1 and the limit. So
 ///   it is with more than `form.limit` bytes of which none is `form.end`.
 /// - After a fault of the reader a line is judged only if its end was given; then `Broken`.
-/// - Behind the last line the run ends with `Done` if all answers are yes, else with `NoMatch`.
-/// - If the judge explains refused lines, the run tells what explains the first `MAX_TOLD` of them, and how many more
-///   there are, before its message; and behind that of a line that is too long, how long one may be at most.
-/// - `NoMemory` if an allocation fails; the answers before stand whole, and what is told of them. `WriteFault` if the
-///   output fails; then a beginning is written.
+/// - After the last line the run ends with `Done` if all answers are yes, else with `NoMatch`.
+/// - If the judge explains rejected lines, the ending has the explanations of the first `MAX_TOLD` of them, and how
+///   many more there are. For a line that is too long it has the greatest length that `-l` allows.
+/// - `NoMemory` if an allocation fails; the answers before stand whole, and so do the explanations of those lines.
+///   `WriteFault` if the output fails; then a prefix is written.
 pub fn run_lines<W, J: Judge<W>, R: Source, O: Sink>(
     alloc: Global,
     judge: &J,

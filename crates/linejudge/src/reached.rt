@@ -1,32 +1,32 @@
-//! A place behind some lines, and what is told of those that were refused.
+//! A position after some lines, and the explanations of those that were rejected.
 ghost use Rattle.std.specs.Prelude.{◌≡◌, ◌<◌, ◌+◌, ◌^◌};
 ghost use Rattle.linejudge.specs.InputLines.{behind as the_place, refused_by as count_of, status_after};
 
 use crate::answers::Answer;
 use toolrun::Status;
 
-/// How many refused lines are explained.
+/// How many rejected lines are explained.
 pub const MAX_TOLD: usize = 16;
 
-/// A place behind some lines, how many they are, and how many of them were refused.
+/// A position after some lines, how many they are, and how many of them were rejected.
 #[derive(Clone, Copy)]
 pub struct At {
     /// How many bytes stand before it.
     pub place: usize,
     /// How many lines stand before it.
     pub count: usize,
-    /// How many of them were refused.
+    /// How many of them were rejected.
     pub refused: usize,
 }
 
-/// A place behind some lines, and what is told of those that were refused.
+/// A position after some lines, and the explanations of those that were rejected.
 #[derive(Drop)]
 pub struct Reached {
     pub at: At,
     pub told: Vec<u8>,
 }
 
-/// Returns how many lines an answer refuses.
+/// Returns how many lines an answer rejects.
 fn refused_by(said: Answer) -> usize
     ensures { result ≡ count_of said }
 {
@@ -38,7 +38,7 @@ fn refused_by(said: Answer) -> usize
 }
 
 impl At {
-    /// Returns the place behind a line that takes so many bytes.
+    /// Returns the position after a line that takes so many bytes.
     pub(crate) fn behind(self, len: usize, said: Answer) -> At
         requires place { self.place + len < 2 ^ 64 }
         requires count { self.count + 1 < 2 ^ 64 }

@@ -1,7 +1,7 @@
 -- The bodies of a grammar's rules, cut one by one.
 -- Serves: lower.
-use Rattle.std.proofs.Common.{◌≡◌, ℕ, zero, suc, ◌+◌, Bool, List, [], ◌∷◌, ◌++◌, length, map, take, Some, refl, sym, ap}
-use Rattle.std.proofs.Common.{subst, arith, ⊎_elim, ◌⊎◌, inl, inr, length-append}
+use Rattle.std.proofs.Common.{◌≡◌, ℕ, zero, suc, ◌+◌, Bool, List, [], ◌∷◌, ◌++◌, map, take, Some, refl, sym, ap}
+use Rattle.std.proofs.Common.{subst, arith, ⊎_elim, length-append}
 use Rattle.std.specs.Prelude.{slice_get}
 use Rattle.ruletable.specs.Rules as table
 use Rattle.abnfread.specs.Element.{Element, Rule, bodies}

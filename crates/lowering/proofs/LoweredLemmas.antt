@@ -69,7 +69,7 @@ module _ (rules : List Rule) (limit : ℕ) (judged count n b d : ℕ) (old new :
       ap (sizes limit) (take_all (bodies rules) count (omega (arith, all, size))) in
       rw shapes_of_whole (omega (arith, whole, before, taken))
 
--- the whole stands behind its one member
+-- the whole comes after its one member
 pub are_ordered : (rules : List Rule) (limit judged count b d : ℕ) (old new : List declared.Node)
     (members : Vec ℕ Global) (marks : List Bool)
     (numbers : List ℕ) → AreCut rules limit count (nodes_of old) marks numbers → count ≡ length rules →
@@ -111,7 +111,7 @@ whole_tells rules judged null el at is = concat_tells rules null (e.more el e.no
       no = λ m has d. let yes = (is has).1 (record { body = el; is = at; derives = d }) in absurd (cc (yes, m));
     }))
 
--- the marks of the nodes tell the nullable ones
+-- the marks of the nodes are those of the nullable ones
 pub nulls_told : (rules : List Rule) (limit judged count b d whole : ℕ) (old new : List declared.Node)
     (members : Vec ℕ Global) (marks more : List Bool) (null : Bool) (numbers : List ℕ)
     → AreCut rules limit count (nodes_of old) marks numbers → count ≡ length rules →

@@ -1,4 +1,4 @@
--- The line's items tell whether the rule derives it.
+-- The flat grammar derives a line exactly if the rule does.
 -- Serves: items_tell, lower, judge.
 use Rattle.std.proofs.Common.{◌≡◌, ℕ, ◌≤◌, List, [], ◌∷◌, length, refl, sym, subst, ◌↔◌, append-nil}
 use Rattle.std.specs.Prelude.{Bool}

@@ -1,7 +1,7 @@
 -- Names, the bodies of their rules, and the nodes of these.
 -- Serves: items_tell, lower, judge.
-use Rattle.std.proofs.Common.{◌≡◌, ℕ, zero, suc, ◌<◌, List, [], ◌∷◌, length, Some}
-use Rattle.std.proofs.Common.{refl, ◌∙◌, subst, arith}
+use Rattle.std.proofs.Common.{◌≡◌, ℕ, List, Some}
+use Rattle.std.proofs.Common.{◌∙◌, subst, arith}
 use Rattle.std.specs.Prelude.{slice_get}
 use Rattle.std.proofs.lemmas.List.{length-map}
 use Rattle.abnfread.specs.Element.{Element, Rule, bodies, body_of, id_of}

@@ -10,12 +10,12 @@ module _ (rules : List Rule) where
   abbrev pub IsNeverEmpty : Element → Type 0
   IsNeverEmpty el = (has : ℕ → Bool) → Derives has rules el [] → ⊥
 
-  -- a mark tells whether the element derives the empty list
+  -- a mark is true exactly if the element derives the empty list
   pub record Tells (mark : Bool) (el : Element) : Type 0 where
     pub yes : mark ≡ true → IsEmpty el
     pub no : mark ≡ false → IsNeverEmpty el
 
-  -- .. whether all members do, or one of them
+  -- .. if all members do, or one of them
   pub record TellsAll (mark : Bool) (es : Elements) : Type 0 where
     pub yes : mark ≡ true → (has : ℕ → Bool) → DerivesAll has rules es []
     pub no : mark ≡ false → (has : ℕ → Bool) → DerivesAll has rules es [] → ⊥
@@ -24,7 +24,7 @@ module _ (rules : List Rule) where
     pub yes : mark ≡ true → (has : ℕ → Bool) → DerivesSome has rules es []
     pub no : mark ≡ false → (has : ℕ → Bool) → DerivesSome has rules es [] → ⊥
 
--- of each rule a mark that tells whether it derives the empty list
+-- of each rule a mark that is true exactly if it derives the empty list
 pub record AreNullRules (rules : List Rule) (marks : List Bool) : Type 0 where
   pub count : length marks ≡ length rules
   pub each : (id : ℕ) (mark : Bool) → slice_get marks id ≡ Some mark → (has : ℕ → Bool) → (mark ≡ true)

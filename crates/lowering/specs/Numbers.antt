@@ -1,20 +1,20 @@
 -- Nodes numbered from elements, operands first.
-use Rattle.std.specs.Prelude.{◌≡◌, ℕ, ◌+◌, ◌<◌, ◌≤◌, Bool, false, List, ◌++◌, length, take, slice_get, get_or, Some}
+use Rattle.std.specs.Prelude.{◌≡◌, ℕ, ◌+◌, ◌≤◌, Bool, false, List, ◌++◌, length, take, slice_get, get_or, Some}
 use Rattle.abnfread.specs.Element as e
 use Rattle.abnfread.specs.Element.{Element, Elements, Rule, bodies, id_of}
-use Rattle.flatgrammar.specs.Flat.{Node, Letters, Concat, Alt, Rep, Turns, Opt, Name, Nothing}
+use Rattle.flatgrammar.specs.Flat.{Node}
 use Rattle.lowering.specs.Lowered.{Spells, SpellAll}
 use Rattle.lowering.specs.NullElements.{Tells, TellsAll, TellsSome}
 use Rattle.flatgrammar.specs.Places.{places}
 use Rattle.flatgrammar.specs.Operands.{AreOrdered}
 use Rattle.lowering.specs.Sizes.{size, size_all, sizes}
 
--- the marks tell which names derive the empty list
+-- the marks are true of the names that derive the empty list
 abbrev pub NamesTell : List Rule → List Bool → Type 0
 NamesTell rules marks = (n : List ℕ) → Tells rules (get_or marks (id_of rules n) false) (e.Name n)
 
 module _ (rules : List Rule) (limit : ℕ) where
-  -- a mark tells whether what a node spells derives the empty list
+  -- a mark is true exactly if what a node spells derives the empty list
   pub record IsNodeTold (nodes : List Node) (s : ℕ) (mark : Bool) : Type 0 where
     pub el : Element
     pub spelled : Spells rules limit nodes s el

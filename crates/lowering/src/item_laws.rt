@@ -1,17 +1,23 @@
-//! A law of items.
+//! The law of flat grammars and rules.
 ghost use Rattle.std.specs.Prelude.{◌↔◌, ℕ, ◌≤◌, List, Bool, length};
 ghost use Rattle.abnfread.specs.Element.{Rule};
 ghost use Rattle.abnfcheck.specs.Derivable.{AreLetters, RuleDerives};
-ghost use Rattle.flatgrammar.specs.Flat.{Flat, Place};
-ghost use Rattle.flatgrammar.specs.Holds.{Holds};
+ghost use Rattle.flatgrammar.specs.Flat.{Flat};
+ghost use Rattle.flatgrammar.specs.FlatVerdicts.{DerivesLine, IsFlatVerdict};
+ghost use Rattle.flatgrammar.specs.declared.verdict.Verdict.{Verdict as the_verdict};
 ghost use Rattle.lowering.specs.Lowered.{IsLowered};
+ghost use Rattle.lowering.specs.ToldBeginnings.{TellsBeginnings};
+ghost use Rattle.lowering.specs.Verdicts.{IsVerdict};
 
-/// Returns nothing. Its contract is a law: set n of the items of n letters, where n is within the limit, holds the
-/// whole's end exactly where the judged rule derives them.
+/// Returns nothing. Its contract is a law: on lines within its limit a flat grammar answers for the judged rule.
+///
+/// The flat grammar of `lower` derives a line exactly if the rule does. The verdict of the flat grammar of
+/// `lower_viable` is that of the rule, with the longest viable prefix.
 pub fn items_tell()
-    ensures { (has : ℕ → Bool) (rules : List Rule) (judged : ℕ) (flat : Flat) (x : List ℕ) →
-        IsLowered rules judged flat →
-        length x ≤ flat.limit →
-        AreLetters has x →
-        Holds flat x (length x) (Place.at flat.whole 1) 0 ↔ RuleDerives has rules judged x }
+    ensures derives { (has : ℕ → Bool) (rules : List Rule) (judged : ℕ) (flat : Flat) (x : List ℕ) →
+        IsLowered rules judged flat → length x ≤ flat.limit → AreLetters has x →
+        DerivesLine flat x ↔ RuleDerives has rules judged x }
+    ensures verdict { (has : ℕ → Bool) (rules : List Rule) (judged : ℕ) (flat : Flat) (x : List ℕ)
+        (verdict : the_verdict) → TellsBeginnings has rules judged flat → length x ≤ flat.limit → AreLetters has x →
+        IsFlatVerdict flat x verdict → IsVerdict has rules judged x verdict }
 {}

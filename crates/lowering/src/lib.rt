@@ -5,9 +5,7 @@ mod item_laws;
 mod letter_law;
 mod lower_elem;
 mod lowered;
-mod verdict;
 
 pub use item_laws::items_tell;
 pub use letter_law::values_are_letters;
 pub use lowered::{lower, lower_rules};
-pub use verdict::Verdict;

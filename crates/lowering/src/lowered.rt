@@ -3,8 +3,7 @@ ghost use Rattle.std.specs.Prelude.{◌≡◌, ◌↔◌, ℕ, ◌+◌, ◌≤�
 ghost use Rattle.abnfcheck.specs.Derivable.{AreLetters, RuleDerives};
 ghost use Rattle.abnfread.specs.Element.{bodies};
 ghost use Rattle.abnfread.specs.AbnfViews.{rules_of};
-ghost use Rattle.flatgrammar.specs.Flat.{Place};
-ghost use Rattle.flatgrammar.specs.Holds.{Holds};
+ghost use Rattle.flatgrammar.specs.FlatVerdicts.{DerivesLine};
 ghost use Rattle.lowering.specs.Lowered.{IsLowered};
 ghost use Rattle.lowering.specs.NullElements.{AreNullAlike, AreNullRules};
 ghost use Rattle.flatgrammar.specs.Places.{places};
@@ -62,14 +61,13 @@ pub fn lower_rules(
     Ok(flat)
 }
 
-/// Lowers a grammar to numbered nodes, for lines of at most `limit` letters. The judged rule derives a list of so many
-/// letters exactly if the set after them holds the whole's end with origin 0. `Memory` if an allocation fails.
+/// Lowers a grammar to numbered nodes, for lines of at most `limit` symbols. The flat grammar derives such a line
+/// exactly if the judged rule does. `Memory` if an allocation fails.
 pub fn lower(alloc: Global, grammar: &SoundAbnf, limit: usize) -> Result<Flat, Memory>
     ensures limit { IfOk result (λ flat. flat.limit ≡ limit) }
     ensures lowered { IfOk result (IsLowered (rules_of grammar.now.rules) grammar.now.judged) }
-    ensures tells { IfOk result (λ flat. (has : ℕ → Bool) (x : List ℕ) → length x ≤ limit → AreLetters has x →
-        Holds flat x (length x) (Place.at flat.whole 1) 0 ↔ RuleDerives has (rules_of grammar.now.rules)
-        grammar.now.judged x) }
+    ensures derives { IfOk result (λ flat. (has : ℕ → Bool) (x : List ℕ) → length x ≤ limit → AreLetters has x →
+        DerivesLine flat x ↔ RuleDerives has (rules_of grammar.now.rules) grammar.now.judged x) }
     ensures places { IfOk result (λ flat. places flat.nodes ≤ sizes limit (bodies (rules_of grammar.now.rules)) + 2) }
 {
     // The contract of `judged` says that names compare without case.

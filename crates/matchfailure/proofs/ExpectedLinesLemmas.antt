@@ -1,4 +1,4 @@
--- The lines of what was expected, of the first ones that are told.
+-- The lines of what was expected, of the first ones that are reported.
 -- Serves: explain_no_match
 use Rattle.std.proofs.Common.{◌≡◌, ℕ, zero, suc, ◌+◌, ◌-◌, ◌<◌, min, List, [], ◌∷◌, ◌++◌, length, take, ap}
 use Rattle.std.proofs.Common.{append_assoc, arith, slice_get, Some, ◌∙◌, get_or, add-one}
@@ -19,7 +19,7 @@ first-told vs k e = ap (λ (n : ℕ). take n vs) (e ∙ min-turned (length vs) 1
 left-over : (vs : List Visit) (k : ℕ) → k ≡ min (length vs) 16 → length vs - k ≡ length vs - 16
 left-over vs k e = omega (arith, e)
 
--- the lines of the first ones, and behind them how many more there are
+-- the lines of the first ones, and after them how many more there are
 pub expected-join : (f : Visit → List ℕ) (vs : List Visit) (k : ℕ) (o a b : List ℕ)
     → k ≡ min (length vs) 16 → a ≡ o ++ flat_map f (take k vs) → b ≡ a ++ more_expected (length vs - k)
     → b ≡ o ++ (flat_map f (take 16 vs) ++ more_expected (length vs - 16))
@@ -41,7 +41,7 @@ pub first-fit : (nodes unit : ℕ) (vs : List Visit) (k : ℕ) → AreFitting no
     → AreFitting nodes unit (take k vs)
 first-fit nodes unit vs k fit v (i, e) = fit v (i, in-front vs k i v e)
 
--- behind the lines of the first ones, the line of the next
+-- after the lines of the first ones, the line of the next
 pub next-line : (f : Visit → List ℕ) (vs : List Visit) (i : ℕ) (d : Visit) (o a b : List ℕ) → i < length vs
     → a ≡ o ++ flat_map f (take i vs) → b ≡ a ++ f (get_or vs i d) → b ≡ o ++ flat_map f (take (i + 1) vs)
 next-line f vs i d o a b l g h =

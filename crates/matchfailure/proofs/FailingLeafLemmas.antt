@@ -14,7 +14,7 @@ use Rattle.pegnodes.specs.NodeWays.{way_of, Leaf}
 use Rattle.pegnodes.proofs.HasShapeLemmas.{has_shape}
 use Rattle.matchfailure.specs.Farthest.{PartsAt, StopsBy, LeafStops, IsLeafNode}
 
--- what stands behind the first p bytes
+-- what follows the first p bytes
 pub get_drop : (x : List ℕ) (p i : ℕ) → slice_get (drop p x) i ≡ slice_get x (p + i)
 get_drop x zero i = let e : 0 + i ≡ i = omega arith in sym (ap (λ v. slice_get x v) e)
 get_drop [] (suc p) i = refl

@@ -1,7 +1,6 @@
 -- The farthest failing place lies within the text, and so does what fails there.
 -- Serves: farthest_is_within
-use Rattle.std.proofs.Common.{◌≡◌, ℕ, zero, suc, ◌+◌, ◌<◌, ◌≤◌, List, length, Some, sym, ◌∙◌, arith}
-use Rattle.std.specs.Prelude.{slice_get}
+use Rattle.std.proofs.Common.{ℕ, zero, suc, ◌+◌, ◌≤◌, List, length, ◌∙◌, arith}
 use Rattle.std.proofs.lemmas.Option.{slice_get_within, slice_get-get_or}
 use Rattle.pegread.specs.Pattern.{Rule}
 use Rattle.pegnodes.specs.Nodes as node
@@ -9,8 +8,8 @@ use Rattle.pegnodes.specs.Nodes.{Shape}
 use Rattle.gramcheck.specs.Sound.{IsRanked}
 use Rattle.pegmatch.proofs.AsksLemmas.{visited_there}
 use Rattle.matchfailure.specs.declared.farthest.visit.Visit.{Visit}
-use Rattle.matchfailure.specs.Farthest.{PartsAt, StopsBy, LeafStops, IsFarthest}
-use Rattle.matchfailure.specs.VisitLists.{ListsVisit, AreWithin}
+use Rattle.matchfailure.specs.Farthest.{PartsAt, StopsBy, IsFarthest}
+use Rattle.matchfailure.specs.VisitLists.{AreWithin}
 use Rattle.matchfailure.proofs.OutsideLemmas.{is_visited}
 
 parts_within : (x bs : List ℕ) (p k : ℕ) → PartsAt x p bs k → p ≤ length x → p + k ≤ length x

@@ -1,4 +1,4 @@
--- What is seen of an input behind its front.
+-- What is seen of an input after its front.
 -- Serves: explain_no_match
 use Rattle.std.proofs.Common.{◌≡◌, ℕ, ◌+◌, List, ◌++◌, length, take, drop, sym, ap, ◌∙◌, arith, ◌-◌, length-drop}
 use Rattle.std.proofs.Math.Seq.{drop-append-add, take-append-add, take-length}
@@ -25,7 +25,7 @@ taken-to front seen at offset place e =
     let sum : (at.byte + offset) + place ≡ length front + (offset + place) = omega (arith, byte) in
     ap (λ (n : ℕ). take n (front ++ seen)) sum ∙ take-append-add front seen (offset + place)
 
--- what is told of what is seen of a unit, and of a place of that, is told of the input
+-- what holds of what is seen of a unit, and of a position of that, holds of the input
 pub told-of-input : (told : List ℕ → TextPlace → List ℕ) (front seen : List ℕ) (at failing : TextPlace)
     (offset place : ℕ) → at ≡ place_behind front → failing ≡ place_behind (front ++ take (offset + place) seen)
     → told (drop offset seen) failing ≡ told (drop (at.byte + offset) (front ++ seen))

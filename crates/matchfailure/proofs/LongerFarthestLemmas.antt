@@ -44,7 +44,7 @@ parts_compared (c ∷ t) (b ∷ bs) (suc k) lt within agree differ =
     let rest = parts_compared t bs k (omega arith) (omega arith) (λ i less. agree (suc i) (omega arith)) differ in
     one_more c b (compared t bs) same ∙ (omega (arith, rest))
 
--- one that a literal goes on behind is compared to its end
+-- a literal that goes on after it is compared to its end
 all_compared : (t bs : List ℕ) → length t < length bs → ((i : ℕ) → i < length t → slice_get t i ≡ slice_get bs i)
     → compared t bs ≡ length t
 all_compared t [] lt agree = absurd (omega arith)

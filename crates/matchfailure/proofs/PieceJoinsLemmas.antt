@@ -1,4 +1,4 @@
--- Pieces of a text, one behind the other.
+-- Pieces of a text, one after the other.
 -- Serves: explain_no_match, explain_long_unit
 use Rattle.std.proofs.Common.{◌≡◌, ℕ, List, [], ◌++◌, refl, ◌∙◌, append_assoc}
 

@@ -1,4 +1,4 @@
--- Lines and columns behind two texts, one behind the other.
+-- Lines and columns after two texts, one after the other.
 -- Serves: TextPlace::behind, explain_no_match
 use Rattle.std.proofs.Common.{◌≡◌, ℕ, zero, suc, ◌+◌, ◌-◌, ◌<◌, ◌≤◌, ◌==◌, cond, Bool, not, List, [], ◌∷◌}
 use Rattle.std.proofs.Common.{◌++◌, length, reverse, refl, ap, ◌∙◌, arith, length-append, take}
@@ -28,7 +28,7 @@ suffix-behind : (p : ℕ → Bool) (front bytes : List ℕ) → suffix_len p (fr
 suffix-behind p front bytes =
     rw (reverse-append front bytes, prefix_len-append p (reverse bytes) (reverse front), length-reverse bytes) refl
 
--- the column behind a text that is of one line
+-- the column after a text that is of one line
 pub same-line : (front bytes : List ℕ) (at : TextPlace) (b : ℕ) → at ≡ place_behind front
     → b ≡ bytes_before Lf (take (length bytes) bytes) → length bytes ≤ b
     → at.column + b ≡ bytes_before Lf (front ++ bytes) + 1
@@ -40,7 +40,7 @@ same-line front bytes at b g e l =
     let whole = suffix-behind (λ b. not (breaks Lf b)) front bytes in
     grind (arith, whole, all, is, column)
 
--- the column behind a text that ends a line
+-- the column after a text that ends a line
 pub later-line : (front bytes : List ℕ) (b : ℕ) → b ≡ bytes_before Lf (take (length bytes) bytes) → b < length bytes
     → b + 1 ≡ bytes_before Lf (front ++ bytes) + 1
 later-line front bytes b e l =
@@ -52,7 +52,7 @@ same-place : (a b c d e f : ℕ) → a ≡ d → b ≡ e → c ≡ f
     → ◌≡◌ {A = TextPlace} (record { byte = a; line = b; column = c }) (record { byte = d; line = e; column = f })
 same-place a b c d e f g h k = cc
 
--- the place behind both
+-- the position after both
 pub moved-place : (front bytes : List ℕ) (at : TextPlace) (n c : ℕ) → at ≡ place_behind front
     → n ≡ line_at Lf bytes (length bytes) → c ≡ bytes_before Lf (front ++ bytes) + 1
     → ◌≡◌ {A = TextPlace} (record { byte = at.byte + length bytes; line = at.line + (n - 1); column = c })

@@ -39,7 +39,7 @@ rule-here : (rule : Rule) (rules : List Rule) (n : ℕ) → n < node_count rule.
     → rule_of_node (rule ∷ rules) n ≡ rule.name
 rule-here rule rules n l = grind (arith, l)
 
--- behind a rule's body
+-- after a rule's body
 rule-behind : (rule : Rule) (rules : List Rule) (n : ℕ) → node_count rule.body ≤ n
     → rule_of_node (rule ∷ rules) n ≡ rule_of_node rules (n - node_count rule.body)
 rule-behind rule rules n l = grind (arith, l)

@@ -75,7 +75,7 @@ module _ (g : Grammar) (x : List ℕ) (more : Bool) where
     pub cells : AreVisitedCells (rules_of g.rules) g.start (shapes_of g.nodes) g.bodies x more d.cells
     pub count : d.begun ≡ length d.cells
 
-  -- the last frame's own comparison reaches the last byte of the window, behind which there is more
+  -- the last frame's own comparison reaches the last byte of the window, and more bytes follow it
   pub record Reaches (d : View) : Type 0 where
     pub behind : more ≡ true
     pub top : Frame
@@ -85,7 +85,7 @@ module _ (g : Grammar) (x : List ℕ) (more : Bool) where
     pub outcome : Outcome
     pub gives : NodeGives (rules_of g.rules) (shapes_of g.nodes) g.bodies x top.node top.place outcome (length x)
 
-  -- the start rule's outcome, which did not look at the last byte of a window behind which there is more
+  -- the start rule's outcome, which did not look at the last byte of a window that more bytes follow
   pub record Answers (f : Found) : Type 0 where
     pub events : List Event
     pub looked : ℕ

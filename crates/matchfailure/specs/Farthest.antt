@@ -17,7 +17,7 @@ IsDenial nodes n = (k : ℕ) × (slice_get nodes n ≡ Some (Not k))
 abbrev pub IsLeafNode : List Shape → ℕ → Type 0
 IsLeafNode nodes n = (shape : Shape) × (slice_get nodes n ≡ Some shape) × (way_of n shape ≡ Leaf)
 
--- from p on the input has the literal's first k bytes, and behind them another byte than the literal, or its end
+-- from p on the input has the literal's first k bytes, and after them another byte than the literal, or its end
 pub record PartsAt (x : List ℕ) (p : ℕ) (literal : List ℕ) (k : ℕ) : Type 0 where
   pub inside : k < length literal
   pub agree : (i : ℕ) → i < k → slice_get x (p + i) ≡ slice_get literal i

@@ -4,7 +4,7 @@ use Rattle.matchfailure.specs.VisitLists.{ListsVisit}
 use Rattle.matchfailure.specs.declared.farthest.failures.Farthest.{Farthest}
 use Rattle.matchfailure.specs.declared.farthest.visit.Visit.{Visit}
 
--- the nodes are there, and the places of the input too, where the unit begins behind so many bytes
+-- the nodes are there, and the positions of the input too, where the unit begins after so many bytes
 abbrev pub AreFitting : ℕ → ℕ → List Visit → Type 0
 AreFitting nodes unit vs = (v : Visit) → ListsVisit vs v → (v.node < nodes) × (unit + v.place < 2 ^ 63)
 

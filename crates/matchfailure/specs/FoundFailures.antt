@@ -6,7 +6,7 @@ use Rattle.pegnodes.specs.Nodes.{Shape}
 use Rattle.pegread.specs.Pattern.{Rule}
 use Rattle.matchfailure.specs.NoMatches.{UnitFailure}
 
--- what the find stands for, of a unit that begins behind so many bytes
+-- the failure that was found, of a unit that begins after so many bytes
 abbrev pub failure_found : ℕ → Option Farthest → Option UnitFailure
 failure_found unit None = None
 failure_found unit (Some far) = Some (record { unit = unit; place = far.place; expected = far.expected.items })
@@ -17,7 +17,7 @@ module _ (rules : List Rule) (start : ℕ) (nodes : List Shape) (bodies seen : L
   IsFound None = NoneFails rules nodes bodies seen start
   IsFound (Some far) = IsFarthest rules nodes bodies seen start far.place far.expected.items
 
-  -- likewise of the unit before the last one, which begins so many bytes behind it; none is there if it is no byte
+  -- likewise of the unit before the last one, which begins so many bytes after it; there is none if it is no byte
   abbrev pub IsFoundBefore : ℕ → Option Farthest → Type 0
   IsFoundBefore zero found = found ≡ None
   IsFoundBefore (suc last) found = IsFound found

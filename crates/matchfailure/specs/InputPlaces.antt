@@ -1,11 +1,11 @@
--- Where the byte behind a text stands. Lines end with LF.
+-- The position after a text. Lines end with LF.
 use Rattle.std.specs.Prelude.{ℕ, ◌+◌, List, length}
 use Rattle.diagnostics.specs.LinesAround.{bytes_before}
 use Rattle.ruletable.specs.Lines.{line_at}
 use Rattle.ruletable.specs.declared.lines.LineRule.TheVariants.{Lf}
 use Rattle.matchfailure.specs.declared.explain.place.TextPlace.{TextPlace}
 
--- behind these bytes of an input: how many they are, the line, and the column, which counts the bytes of the line
+-- after these bytes of an input: how many they are, the line, and the column, which counts the bytes of the line
 -- from 1
 abbrev pub place_behind : List ℕ → TextPlace
 place_behind front = record {

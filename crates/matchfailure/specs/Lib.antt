@@ -11,5 +11,6 @@ pub mod InputPlaces
 pub mod NodeTexts
 pub mod NoMatchLines
 pub mod NoMatches
+pub mod FailureSearches
 pub mod FittingFailures
 pub mod FoundFailures

@@ -1,4 +1,4 @@
--- The lines that tell where a unit fails farthest, and what was expected there.
+-- The lines that report where a unit fails farthest, and what was expected there.
 use Rattle.std.specs.Prelude.{ℕ, zero, suc, ◌+◌, ◌-◌, ◌==◌, List, [], ◌++◌, length, slice_get, take, codes}
 use Rattle.std.specs.Prelude.{decimal, if◌then◌else◌}
 use Rattle.std.specs.List.{flat_map}
@@ -12,7 +12,7 @@ use Rattle.ruletable.specs.declared.lines.LineRule.TheVariants.{Lf}
 use Rattle.matchfailure.specs.declared.explain.place.TextPlace.{TextPlace}
 use Rattle.matchfailure.specs.NodeTexts.{leaf_text, rule_of_node}
 
--- where it fails, in the unit that begins behind so many bytes
+-- where it fails, in the unit that begins after so many bytes
 abbrev pub failing_place : TextPlace → ℕ → List ℕ
 failing_place at unit = codes "  byte " ++ (decimal at.byte ++ (codes ", line " ++ (decimal at.line
     ++ (codes ", column " ++ (decimal at.column ++ (codes ", in the unit at byte " ++ (decimal unit
@@ -22,8 +22,8 @@ failing_place at unit = codes "  byte " ++ (decimal at.byte ++ (codes ", line " 
 abbrev pub failing_picture : List ℕ → ℕ → List ℕ
 failing_picture text place = picture (line_text Lf text place) (bytes_before Lf (take place text))
 
--- Where an expression begins that fails at a place, if it does not begin there. Both count from the beginning of the
--- unit, which begins behind so many bytes.
+-- Where an expression begins that fails at a position, if it does not begin there. Both count from the first byte of
+-- the unit, which begins after so many bytes.
 abbrev pub begun_at : ℕ → ℕ → ℕ → List ℕ
 begun_at unit place begin = if begin == place then [] else codes " from byte " ++ decimal (unit + begin)
 
@@ -43,17 +43,17 @@ expected_lines rules nodes unit place expected =
     flat_map (expected_line rules nodes unit place) (take 16 expected)
     ++ more_expected (length expected - 16)
 
--- The lines of a failure at a place of a text, which is what is seen of a unit from its beginning on: the unit begins
--- behind so many bytes, and the failing byte stands there in the input.
+-- The lines of a failure at a position of a text, which is what is seen of a unit from its first byte on. The unit
+-- begins after so many bytes, and the failing byte stands there in the input.
 abbrev pub failure_lines : List Rule → List Shape → List ℕ → TextPlace → ℕ → ℕ → List Visit → List ℕ
 failure_lines rules nodes text at unit place expected =
     failing_place at unit ++ (failing_picture text place ++ expected_lines rules nodes unit place expected)
 
--- what is told where no comparison fails outside of `!`
+-- the line where no comparison fails outside of `!`
 abbrev pub nothing_failed : List ℕ
 nothing_failed = codes "  no comparison failed outside of \"!\"\n"
 
--- what is told of a unit that would look at too many bytes: where it begins
+-- the lines of a unit that would look at too many bytes: where it begins
 abbrev pub long_unit_lines : TextPlace → List ℕ
 long_unit_lines at = codes "  the unit begins on line " ++ (decimal at.line ++ (codes ", column "
     ++ (decimal at.column ++ codes "\n  -l allows at most 16777216\n")))

@@ -26,7 +26,7 @@ abbrev pub failing_byte : Option UnitFailure → Option ℕ
 failing_byte None = None
 failing_byte (Some f) = Some (f.unit + f.place)
 
--- the failure that is told, of those of the unit before and of the last one
+-- the failure that is reported, of those of the unit before and of the last one
 abbrev pub failure_of : Told → Option UnitFailure → Option UnitFailure → Option UnitFailure
 failure_of Last before last = last
 failure_of Before before last = before
@@ -34,7 +34,7 @@ failure_of Before before last = before
 abbrev pub told_failure : Option UnitFailure → Option UnitFailure → Option UnitFailure
 told_failure before last = failure_of (told_unit_of (failing_byte before) (failing_byte last)) before last
 
--- the place of the unit before the last one, where that begins so many bytes behind a byte; none if it is no byte
+-- the position of the unit before the last one, which begins so many bytes after it; none if it is no byte
 abbrev pub unit_before : ℕ → ℕ → Option ℕ
 unit_before byte zero = None
 unit_before byte (suc n) = Some byte
@@ -58,7 +58,7 @@ lines_of_failure rules nodes text (Some f) =
     failure_lines rules nodes (drop f.unit text) (place_behind (take (f.unit + f.place) text)) f.unit f.place
     f.expected
 
--- The lines explain that no unit goes on behind the last one of an input, of which these bytes are taken.
+-- The lines explain that no unit goes on after the last one of an input, of which these bytes are taken.
 pub record IsNoMatchTold (rules : List Rule) (start : ℕ) (text : List ℕ) (before : Option ℕ) (last : ℕ)
     (lines : List ℕ) : Type 0 where
   pub nodes : List Shape

@@ -1,4 +1,4 @@
--- How a grammar's nodes are told: the expression of a leaf, and the rule in whose body a node stands.
+-- How a grammar's nodes are written: the expression of a leaf, and the rule in whose body a node stands.
 use Rattle.std.specs.Prelude.{ℕ, ◌-◌, nat_lt, List, [], ◌∷◌, Option, Some, if◌then◌else◌}
 use Rattle.pegread.specs.Canon.{text_of}
 use Rattle.pegread.specs.Pattern as e
@@ -13,7 +13,7 @@ leaf_text (Some (Bytes bytes)) = text_of (e.Bytes bytes)
 leaf_text (Some (Set s)) = text_of (e.Set s)
 leaf_text _ = []
 
--- the name of the rule in whose body node n stands, where the nodes of the rules' bodies are numbered one behind the
+-- the name of the rule in whose body node n stands, where the nodes of the rules' bodies are numbered one after the
 -- other
 abbrev pub rule_of_node : List Rule → ℕ → List ℕ
 rule_of_node [] n = []

@@ -1,4 +1,4 @@
--- Of which of two units the farthest failure is told.
+-- The one of two units whose farthest failure is reported.
 use Rattle.std.specs.Prelude.{ℕ, nat_lt, Option, Some, None, if◌then◌else◌}
 use Rattle.matchfailure.specs.declared.farthest.told.Told.{Told}
 use Rattle.matchfailure.specs.declared.farthest.told.Told.TheVariants.{Last, Before}

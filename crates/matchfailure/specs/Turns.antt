@@ -33,7 +33,7 @@ not_turn m p None = Ask m p 0 p
 not_turn m p (Some Failed) = Answer (Took p)
 not_turn m p (Some (Took q)) = Answer Failed
 
--- what the node that goes on with a repetition gives behind one turn of it, handed on
+-- what the node that goes on with a repetition gives after one iteration of it, passed on
 abbrev pub again_turn : ℕ → ℕ → Option Found → Turn
 again_turn n q None = Ask n q 1 q
 again_turn n q (Some f) = Answer f
@@ -48,8 +48,8 @@ plus_turn cells s m p None = Ask m p 0 p
 plus_turn cells s m p (Some Failed) = Answer Failed
 plus_turn cells s m p (Some (Took q)) = again_turn s q (found_at cells s q)
 
--- what was found without operands stands, unless the comparison reached the last byte of a window behind which there is
--- more
+-- what was found without operands is the answer, unless the comparison reached the last byte of a window that more
+-- bytes follow
 abbrev pub IsLeafTurn : Tried → ℕ → Bool → Turn → Type 0
 IsLeafTurn tried n more (Ask m q i r) = ⊥
 IsLeafTurn tried n more (Answer f) = (f ≡ tried.found) × (more ≡ true → tried.looked ≡ n → ⊥)

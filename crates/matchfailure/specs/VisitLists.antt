@@ -10,7 +10,7 @@ ListsVisit vs v = (k : ℕ) × (slice_get vs k ≡ Some v)
 abbrev pub StandsBefore : Visit → Visit → Type 0
 StandsBefore v w = (v.node < w.node) ⊎ ((v.node ≡ w.node) × (v.place < w.place))
 
--- each pair stands before those behind it
+-- each pair is less than those after it
 abbrev pub Ascends : List Visit → Type 0
 Ascends vs = (i j : ℕ) (v w : Visit) → i < j → slice_get vs i ≡ Some v → slice_get vs j ≡ Some w → StandsBefore v w
 
@@ -22,7 +22,7 @@ AreOnce vs = (i j : ℕ) (v : Visit) → slice_get vs i ≡ Some v → slice_get
 abbrev pub AreWithin : ℕ → ℕ → List Visit → Type 0
 AreWithin nodes length vs = (v : Visit) → ListsVisit vs v → (v.node < nodes) × (v.place ≤ length)
 
--- The pairs of a set are added to a list, each once, behind what it has.
+-- The pairs of a set are added to a list, each once, after what it has.
 pub record AddsVisits (Added : ℕ → ℕ → Type 0) (old new : List Visit) : Type 0 where
   pub kept : (k : ℕ) (v : Visit) → slice_get old k ≡ Some v → slice_get new k ≡ Some v
   pub only : (v : Visit) → ListsVisit new v → ListsVisit old v ⊎ Added v.node v.place

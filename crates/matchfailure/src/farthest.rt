@@ -1,4 +1,4 @@
-//! Where the comparisons of a unit fail, outside of what stands behind a `!`: the farthest such place, and what was
+//! Finds where the comparisons of a unit fail outside of the operands of `!`: the farthest such position, and what was
 //! expected there.
 
 mod asked;

@@ -7,9 +7,7 @@ mod explain;
 mod farthest;
 
 pub use desk::Desk;
-pub use explain::{
-    TextPlace, explain_long_unit, explain_no_match, fails_so_in_input, one_no_match,
-};
+pub use explain::{FailureSearch, TextPlace, explain_long_unit, fails_so_in_input, one_no_match};
 pub use farthest::{
     Farthest, Told, Visit, failing_leaf_stops, farthest_failure, farthest_is_within,
     farthest_or_none, one_farthest, same_on_longer, stops_fail, told_unit,

@@ -1,4 +1,4 @@
--- An evaluation that remembers its keys stores exactly those that are reached, and begins each spot once.
+-- An evaluation that remembers its keys stores exactly those that are reached, and begins each task once.
 -- Serves: evaluated_once
 use Rattle.std.proofs.Common.{◌≡◌, ◌⊎◌, inl, inr, ℕ, ◌+◌, Bool, true, false, List, [], ◌∷◌, ◌++◌, refl, sym, subst}
 use Rattle.std.proofs.Common.{arith, append-nil}
@@ -239,7 +239,7 @@ module _ (V : Type 0) (Edge : V → V → Type 0) (root : V) (Kids : V → List 
           ];
         }
 
-  -- a reached spot is under a stored key
+  -- a reached task is under a stored key
   record UnderStored (ks : List V) (x : V) : Type 0 where
     pub top : V
     pub there : IsIn top ks

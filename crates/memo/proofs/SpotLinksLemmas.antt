@@ -104,7 +104,7 @@ linked_added cells firsts c at next l last is next_is =
     rw (length-set firsts at next, is, next_is)
     (linked_push (bucket_of_cell (length firsts)) cells firsts c l (rw (← is) last))
 
--- the same in place: the cell at index i is linked behind those before it
+-- the same in place: the cell at index i is linked after those before it
 pub linked_set : (count : ℕ) (cells : List IndexCell) (firsts : List ℕ) (i b : ℕ) (c : IndexCell) → i < length cells
     → count ≡ length firsts → AreLinkedCells (bucket_of_cell count) (take i cells) firsts
     → IsLastCell (bucket_of_cell count) (take i cells) (length (take i cells)) b c.link → bucket_of_cell count c ≡ b

@@ -292,7 +292,7 @@ impl Entry {
     }
 }
 
-// Tells whether a node at a place is that node, at a place from `from` on, short of `end`.
+// Returns whether a node at a position is that node, at a position from `from` on, before `end`.
 #[inline(always)]
 fn is_within(node: usize, place: usize, own: u32, from: u32, end: usize) -> bool
     ensures yes { result ≡ true → (node ≡ own) × (from ≤ place) × (place < end) }

@@ -139,7 +139,7 @@ fn grow(cells: &mut [IndexCell], heads: &mut Vec<u32>) -> Result<(), Memory>
     Ok(())
 }
 
-// Adds a cell behind the last one of its bucket.
+// Adds a cell after the last one of its bucket.
 fn add(
     cells: &mut Vec<IndexCell>,
     heads: &mut [u32],

@@ -186,7 +186,7 @@ impl KeyLog {
         }
     }
 
-    /// Tells whether a place is at the mark of a row or beyond: no key of the row is stored at the place or beyond.
+    /// Returns whether a position is at the mark of a row or after it: no key of the row is stored there or after it.
     #[inline(always)]
     pub fn is_new(&self, row: usize, place: usize) -> bool
         ensures { result ≡ true → (s : Stored) → IsIn s self.now.stored → row_of s.spot ≡ row → place_of s.spot

@@ -1,5 +1,5 @@
--- No more pairs are begun than there are cells of all visited pairs, nor than nodes at places.
--- Serves: steps_hold, Packrat::match_unit
+-- No more pairs are begun than there are nodes at positions.
+-- Serves: Packrat::match_unit
 use Rattle.std.proofs.Common.{◌≡◌, inl, inr, ℕ, ◌+◌, ◌*◌, ◌≤◌, Bool, true, false, if◌then◌else◌, List, [], ◌∷◌}
 use Rattle.std.proofs.Common.{length, Some, None, Option, refl, sym, subst, arith}
 use Rattle.std.specs.Prelude.{slice_get}
@@ -19,33 +19,12 @@ use Rattle.memo.specs.declared.spot.Spot.{Spot}
 use Rattle.memo.specs.declared.spot.Spot.TheVariants.{Pair, Tail}
 use Rattle.packrat.specs.Spots.{Leads, Kids, is_key}
 use Rattle.packrat.specs.View.{weight, IsVisitedPair, AreVisitedPairs}
-use Rattle.pegmatch.specs.VisitedCells.{AreVisitedCells}
 use Rattle.packrat.proofs.EndsLemmas.{reached_ends}
 use Rattle.packrat.proofs.SpotReachLemmas.{reached_is_visited}
 use Rattle.packrat.specs.MachineSteps.{State, held, start_at}
 use Rattle.packrat.specs.SpotSteps.{NextOf, SpotSteps}
-use Rattle.packrat.proofs.GoodLemmas.{in_front, not_in, steps_are_good, weigh_less}
+use Rattle.packrat.proofs.GoodLemmas.{in_front, not_in, steps_are_good}
 use Rattle.packrat.proofs.NextOfLemmas.{is_next, forest_of}
-
-abbrev pairs : List Entry → List Spot
-pairs [] = []
-pairs (c ∷ cells) = Pair c.node c.place ∷ pairs cells
-
-module _ (n p : ℕ) (f : Found) where
-  in_pairs : (cells : List Entry) → found_at cells n p ≡ Some f → IsIn (Pair n p) (pairs cells)
-  in_pairs [] h = absurd (cc h)
-  in_pairs (c ∷ cells) h = by (is_of c n p) refl h (λ k. in_pairs cells k)
-    where
-      by : (v : Bool) → is_of c n p ≡ v → (if v then Some c.found else found_at cells n p) ≡ Some f
-          → (found_at cells n p ≡ Some f → IsIn (Pair n p) (pairs cells))
-          → IsIn (Pair n p) (Pair c.node c.place ∷ pairs cells)
-      by true same is rec =
-          let both = is_own c n p same in
-          let one : c.node ≡ n = both.0 in
-          let two : c.place ≡ p = both.1 in
-          subst (λ v. IsIn (Pair v p) (Pair c.node c.place ∷ pairs cells)) one
-          (subst (λ v. IsIn (Pair c.node v) (Pair c.node c.place ∷ pairs cells)) two in_here)
-      by false same is rec = in_later (rec is)
 
 abbrev evals : List Spot → List Spot
 evals [] = []
@@ -87,7 +66,7 @@ eval_among n p (Tail m k q ∷ xs) i = elim (in_front i) [
   | inr j ↦ eval_among n p xs j
 ]
 
--- a cell for each pair among spots, whatever it holds
+-- a cell for each pair among tasks, whatever it holds
 abbrev cells_for : List Spot → List Entry
 cells_for [] = []
 cells_for (Pair n p ∷ xs) = record { node = n; place = p; found = Failed } ∷ cells_for xs
@@ -126,37 +105,6 @@ module _ (rules : List Rule) (start : ℕ) (nodes : List Shape) (bodies ranks x 
     (marks : ℕ → Bool) (tails : ℕ → ℕ → Bool) (are : AreMarks start nodes bodies marks tails) where
   abbrev T : List Spot → ℕ
   T xs = total Spot (Kids rules nodes bodies x) (is_key marks tails) weight xs
-
-  evals_weigh : (xs : List Spot) → T (evals xs) ≡ T xs
-  evals_weigh [] = refl
-  evals_weigh (Pair n p ∷ xs) = let h = evals_weigh xs in omega (arith, h)
-  evals_weigh (Tail n i p ∷ xs) = let h = evals_weigh xs in omega (arith, h)
-
-  pairs_weigh : (cells : List Entry) → T (pairs cells) ≡ length cells
-  pairs_weigh [] = refl
-  pairs_weigh (c ∷ cells) = let h = pairs_weigh cells in omega (arith, h)
-
-  pub begun_in_cells : (s : State Spot) → SpotSteps rules nodes bodies x marks tails (start_at Spot (Pair root 0)) s
-      → (cells : List Entry) → AreVisitedCells rules start nodes bodies x more cells
-      → T (held Spot s).begun ≤ length cells
-  begun_in_cells s steps cells every =
-      let forest = forest_of rules start nodes bodies ranks x more sound root is_root marks tails are in
-      let next = is_next rules start nodes bodies ranks x more sound root is_root marks tails are in
-      let g = steps_are_good Spot (Leads rules nodes bodies x) (Pair root 0) (Kids rules nodes bodies x)
-      (NextOf rules nodes bodies x) (is_key marks tails) forest next
-      (λ a r. reached_ends rules start nodes bodies ranks x sound root is_root r) s steps in
-      let le = weigh_less Spot (Leads rules nodes bodies x) (Pair root 0) (Kids rules nodes bodies x)
-      (NextOf rules nodes bodies x) (is_key marks tails) forest next
-      (λ a r. reached_ends rules start nodes bodies ranks x sound root is_root r) weight
-      (evals (held Spot s).begun) (pairs cells) (evals_distinct g.once) (λ a i.
-      let h = is_eval (held Spot s).begun a i in
-      let v = reached_is_visited rules start nodes bodies x root is_root h.node h.place
-      (g.reached (Pair h.node h.place) h.there) in
-      let c = every.whole h.node h.place v in
-      subst (λ v. IsIn v (pairs cells)) (sym h.is) (in_pairs h.node h.place c.0 cells c.1)) in
-      let one = evals_weigh (held Spot s).begun in
-      let two = pairs_weigh cells in
-      omega (arith, le, one, two)
 
   evals_length : (xs : List Spot) → length (evals xs) ≡ T xs
   evals_length [] = refl

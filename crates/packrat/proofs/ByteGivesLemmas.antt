@@ -1,5 +1,5 @@
 -- What a pair gives where the byte at its place decides it.
--- Serves: one_byte_decides, turns_run, turns_close, turns_give, turns_whole
+-- Serves: one_byte_decides, Packrat::match_unit
 use Rattle.std.proofs.Common.{◌≡◌, ℕ, zero, suc, ◌+◌, ◌<◌, ◌≤◌, max, Bool, true, false, List, [], ◌∷◌, length}
 use Rattle.std.proofs.Common.{drop, Some, None, refl, sym, subst, ap, arith, ◌∙◌}
 use Rattle.std.specs.Prelude.{slice_get, ◌==◌}

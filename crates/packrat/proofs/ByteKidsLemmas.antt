@@ -1,5 +1,5 @@
 -- The evaluation of a pair that the byte at its place decides stores nothing but itself.
--- Serves: one_byte_decides, turns_run, turns_whole
+-- Serves: one_byte_decides, Packrat::match_unit
 use Rattle.std.proofs.Common.{◌≡◌, inl, inr, ℕ, zero, suc, ◌+◌, Bool, true, false, List, [], ◌∷◌, Some, None, Option}
 use Rattle.std.proofs.Common.{refl, sym, subst, arith}
 use Rattle.std.specs.Prelude.{slice_get}
@@ -66,7 +66,7 @@ module _ (rules : List Rule) (start : ℕ) (nodes : List Shape) (bodies ranks x 
   itself_of : (a : Spot) (ks : List Spot) (c : ℕ) → K a ks → QuietAll ks c → Itself a (weight a + c)
   itself_of a ks c k q = record { kids = ks; are = k; below = c; runs = q; whole = refl }
 
-  -- a spot that is no key
+  -- a task that is no key
   quiet_plain : (a : Spot) (ks : List Spot) (c : ℕ) → is_key marks tails a ≡ false → K a ks → QuietAll ks c
       → Quiet a (weight a + c)
   quiet_plain a ks c f k q old = run_plain f k (q old)
@@ -74,7 +74,7 @@ module _ (rules : List Rule) (start : ℕ) (nodes : List Shape) (bodies ranks x 
   pub itself_quiet : (a : Spot) (c : ℕ) → is_key marks tails a ≡ false → Itself a c → Quiet a c
   itself_quiet a c f h old = run_as h.whole (quiet_plain a h.kids h.below f h.are h.runs old)
 
-  -- any spot that is not stored yet
+  -- any task that is not stored yet
   pub itself_runs : (a : Spot) (c : ℕ) (old : List Spot) → (is_key marks tails a ≡ true → IsIn a old → ⊥) → Itself a c
       → R old a (store Spot (is_key marks tails a) a old) c
   itself_runs a c old fresh h = run_as h.whole (by (is_key marks tails a) refl)
@@ -108,7 +108,7 @@ module _ (rules : List Rule) (start : ℕ) (nodes : List Shape) (bodies ranks x 
     below_by : {m c : ℕ} {v : Verdict} → Below' m v c → Has m → GivesBy rules nodes bodies x m p v
     below_by (below t h) s = gives_by rules start nodes bodies ranks x sound marks tails b p here h s
 
-    -- behind the last member no pair begins
+    -- after the last member no pair begins
     no_members : {n i c : ℕ} {ms : List ℕ} {v : Verdict} → ByMembers nodes bodies marks tails b n ms i v c
         → slice_get ms i ≡ None → c ≡ 0
     no_members (members_end e) none = refl

@@ -1,4 +1,4 @@
--- What an evaluation of the start rule's body from an empty log gives and leaves behind.
+-- What an evaluation of the start rule's body from an empty log gives and leaves.
 -- Serves: Packrat::match_unit
 use Rattle.std.proofs.Common.{◌≡◌, ℕ, ◌+◌, ◌*◌, ◌≤◌, Bool, true, List, [], ◌∷◌, length, Option, Some, None, refl, sym}
 use Rattle.std.proofs.Common.{subst, arith, ◌∙◌, ◌<◌, ◌-◌}
@@ -18,7 +18,7 @@ use Rattle.gramcheck.proofs.RiseLemmas.{Rise-upper}
 use Rattle.gramcheck.proofs.StartRuleLemmas.{rises_of_start, same_of_start}
 use Rattle.pegmatch.proofs.CodeLemmas.{some_cell}
 use Rattle.pegmatch.specs.Visits.{first}
-use Rattle.packrat.specs.EventLog.{IsHead, kept_at}
+use Rattle.packrat.specs.EventLog.{kept_at}
 use Rattle.packrat.proofs.KeptAtLemmas.{none_kept}
 use Rattle.pegmatch.specs.KeptEvents.{outcome_of, StandFor, no_event}
 use Rattle.pegmatch.specs.declared.event.Kept.{Kept}
@@ -140,7 +140,7 @@ module _ (g : Grammar) (x : List ℕ) (sound : IsSoundGrammar g) where
         (λ a r. reached_ends Rs g.start Ns g.bodies g.ranks x sound root at r)
         (Works (record { levels = n.levels; stored = spots_of stored; begun = n.spot ∷ n.begun })) n.steps
 
-    -- a spot that needs more is reached, so the start rule looks as far
+    -- a task that needs more is reached, so the start rule looks as far
     need_given : (stored : List Stored) (begun : ℕ) → NeedsMore g x more marks (Pair root 0) stored begun
         → (more ≡ true) × ((o : Outcome) × StartGives g x o (length x))
     need_given stored begun n = by n.spot refl n.reaches
@@ -259,11 +259,6 @@ module _ (g : Grammar) (x : List ℕ) (sound : IsSoundGrammar g) where
         → IsAnswer g x more (Holds c g x) (unit_of_match v c.begun)
     answer_of_match c None links kept h = need_given c.stored c.begun h.0
     answer_of_match c (Some given) links kept h = answered_as given.found c given links refl kept h
-
-    pub head_of_match : (v : Option Given) (frames : List Frame) (stored : List Stored) (links : List Link)
-        (begun : ℕ) → IsEvaluated g x more marks (Pair root 0) v frames stored links begun → IsHead links (head_of v)
-    head_of_match None frames stored links begun h = omega arith
-    head_of_match (Some given) frames stored links begun h = h.gives.head.is
 
     -- no more are begun than nodes at places up to where the start rule looked
     pub unit_bounded : (c : Contents) → IsDone g x more marks c → (o : Outcome) (k : ℕ) → StartGives g x o k

@@ -1,4 +1,4 @@
--- Where a reached spot leads, step by step, comes to an end.
+-- Where a reached task leads, step by step, comes to an end.
 -- Serves: evaluated_once
 use Rattle.std.proofs.Common.{◌≡◌, inl, inr, ℕ, zero, suc, ◌+◌, ◌<◌, List, [], ◌∷◌, Some, drop, refl, sym}
 use Rattle.std.proofs.Common.{subst, arith}

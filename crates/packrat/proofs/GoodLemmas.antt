@@ -1,10 +1,10 @@
 -- On its way the machine begins reached vertices, each once, of which none that is stored is on the stack.
--- Serves: steps_hold, Packrat::match_unit
-use Rattle.std.proofs.Common.{◌≡◌, ◌⊎◌, inl, inr, ℕ, suc, ◌+◌, ◌≤◌, Bool, true, false, List, []}
-use Rattle.std.proofs.Common.{◌∷◌, ◌++◌, length, refl, sym, subst, arith}
+-- Serves: Packrat::match_unit
+use Rattle.std.proofs.Common.{◌≡◌, ◌⊎◌, inl, inr, ◌+◌, Bool, true, false, List, []}
+use Rattle.std.proofs.Common.{◌∷◌, ◌++◌, refl, sym, subst}
 use Rattle.memo.specs.Parts.{IsIn, in_here, in_later, Distinct, distinct_none, distinct_more, Reach, reach_root}
 use Rattle.memo.specs.Parts.{reach_edge, IsForest}
-use Rattle.memo.specs.Run.{total, Ends, ends}
+use Rattle.memo.specs.Run.{Ends, ends}
 use Rattle.memo.proofs.PartsLemmas.{in_left, in_right}
 use Rattle.packrat.specs.MachineSteps.{Level, Held, State, Asks, Works, held, stack_of, store, Step, step_stored}
 use Rattle.packrat.specs.MachineSteps.{step_begin}
@@ -22,10 +22,6 @@ first_fresh (distinct_more f d) = f
 
 pub rest_distinct : {V : Type 0} {a : V} {xs : List V} → Distinct (a ∷ xs) → Distinct xs
 rest_distinct (distinct_more f d) = d
-
-pub length_snoc : {V : Type 0} (xs : List V) (k : V) → length (xs ++ k ∷ []) ≡ suc (length xs)
-length_snoc [] k = refl
-length_snoc (a ∷ xs) k = let h = length_snoc xs k in omega (arith, h)
 
 module _ (V : Type 0) (Edge : V → V → Type 0) (root : V) (Kids : V → List V → Type 0) (Next : V → List V → V → Type 0)
     (key : V → Bool) (forest : IsForest V Edge root Kids key) (next : IsNext V Edge root Kids Next)
@@ -307,44 +303,3 @@ module _ (V : Type 0) (Edge : V → V → Type 0) (root : V) (Kids : V → List 
 
   pub steps_are_good : (s : State V) → Steps V Kids Next key (start_at V root) s → IsGood V Edge root key (held V s)
   steps_are_good s r = good_of s (at_steps r)
-
-  -- what is distinct and among others weighs no more
-  module _ (weight : V → ℕ) where
-    abbrev T : List V → ℕ
-    T xs = total V Kids key weight xs
-
-    record Without (a : V) (ys : List V) : Type 0 where
-      pub rest : List V
-      pub weighs : T ys ≡ weight a + T rest
-      pub others : (b : V) → IsIn b ys → (b ≡ a) ⊎ IsIn b rest
-
-    without_one : {a : V} {ys : List V} → IsIn a ys → Without a ys
-    without_one (in_here {xs = xs}) = record { rest = xs; weighs = refl; others = λ b i. in_front i }
-    without_one (in_later {b = c} {xs = xs} i) =
-        let h = without_one i in
-        let is = h.weighs in
-        record {
-          rest = c ∷ h.rest;
-          weighs = omega (arith, is);
-          others = λ b j. elim (in_front j) [
-            | inl same ↦ inr (subst (λ v. IsIn v (c ∷ h.rest)) (sym same) in_here)
-            | inr k ↦ elim (h.others b k) [ inl same ↦ inl same | inr l ↦ inr (in_later l) ]
-          ];
-        }
-
-    pub weigh_less : (xs ys : List V) → Distinct xs → ((a : V) → IsIn a xs → IsIn a ys) → T xs ≤ T ys
-    weigh_less [] ys d among = omega arith
-    weigh_less (a ∷ xs) ys d among =
-        let h = without_one (among a in_here) in
-        let le = weigh_less xs h.rest (rest_distinct d) (λ b i. elim (h.others b (among b (in_later i))) [
-          | inl same ↦ absurd (first_fresh d (subst (λ v. IsIn v xs) same i))
-          | inr j ↦ j
-        ]) in
-        let is = h.weighs in
-        omega (arith, le, is)
-
-    pub begun_at_most : (every : List V) → ((a : V) → R a → IsIn a every) → (s : State V)
-        → Steps V Kids Next key (start_at V root) s → T (held V s).begun ≤ T every
-    begun_at_most every all s r =
-        let g = steps_are_good s r in
-        weigh_less (held V s).begun every g.once (λ a i. all a (g.reached a i))

@@ -39,12 +39,6 @@ grown_by link older head low = (omega arith, kept_before link older head low)
 pub grown_same : (links : List Link) → AreGrown links links
 grown_same links head low = (low, refl)
 
-pub grown_then : (old mid new : List Link) → AreGrown old mid → AreGrown mid new → AreGrown old new
-grown_then old mid new one two head low =
-    let h = one head low in
-    let k = two head h.0 in
-    (k.0, k.1 ∙ h.1)
-
 module _ {E : Type 0} (link : Link) (old new : List Link) where
   pub added_grows : (r : Result ℕ E) → OnOk r (new ≡ link ∷ old) → OnErr r (new ≡ old) → AreGrown old new
   added_grows (Ok head) is none = subst (AreGrown old) (sym is) (grown_by link old)

@@ -147,13 +147,13 @@ module _ (g : Grammar) (x : List ℕ) where
   waits_some First (Pair n p) = omega arith
   waits_some First (Tail n i p) = omega arith
 
-  -- a spot that is stored
+  -- a task that is stored
   pub less_stored : (a : Spot) (f : Given) (fs : List Frame) (begun : ℕ) → IsWell g x a
       → left g x (Answer f) fs begun < left g x (Ask a) fs begun
   unfolding left
   less_stored a f fs begun w = let some = costs_some a w in omega arith
 
-  -- a spot that begins, and gives something at once
+  -- a task that begins, and gives something at once
   pub less_leaf : (a : Spot) (f : Given) (fs : List Frame) (begun now : ℕ) → now ≡ begun + weight a
       → now ≤ most_begun g x → IsWell g x a → left g x (Answer f) fs now < left g x (Ask a) fs begun
   unfolding left
@@ -167,7 +167,7 @@ module _ (g : Grammar) (x : List ℕ) where
       subst (λ v. (4 * Most + 4) * (most_begun g x - v) + (0 + frames_cost Most fs)
       < (4 * Most + 4) * (most_begun g x - begun) + (4 * (Most - i) + frames_cost Most fs)) (sym same) (omega arith)
 
-  -- a spot that begins so many pairs, with a frame or none
+  -- a task that begins so many pairs, with a frame or none
   pub less_turns : (n p m q : ℕ) (fs gs : List Frame) (begun now pairs : ℕ) → now ≡ begun + pairs → 1 ≤ pairs
       → now ≤ most_begun g x → frames_cost Most gs ≤ 1 + frames_cost Most fs
       → left g x (Ask (Pair m q)) gs now < left g x (Ask (Pair n p)) fs begun
@@ -177,7 +177,7 @@ module _ (g : Grammar) (x : List ℕ) where
       let rest = times_less (4 * Most + 4) (most_begun g x) (begun + 1) now (omega (arith, is, some)) in
       omega (arith, more, rest, few)
 
-  -- a spot that begins so many pairs, and gives something
+  -- a task that begins so many pairs, and gives something
   pub less_ended : (n p : ℕ) (f : Given) (fs : List Frame) (begun now pairs : ℕ) → now ≡ begun + pairs → 1 ≤ pairs
       → now ≤ most_begun g x → left g x (Answer f) fs now < left g x (Ask (Pair n p)) fs begun
   unfolding left
@@ -198,7 +198,7 @@ module _ (g : Grammar) (x : List ℕ) where
   waiting_costs key head a fs gs (inr h) =
       subst (λ v. frames_cost Most v ≤ 1 + frames_cost Most fs) (sym h.2) (omega arith)
 
-  -- a spot that begins, and asks for its first; it has a frame that waits, or none
+  -- a task that begins, and asks for its first child; it has a frame, or none
   spot_down : (a k : Spot) (fs gs : List Frame) (begun now : ℕ) → now ≡ begun + weight a → now ≤ most_begun g x
       → IsWell g x a → F a k → frames_cost Most gs ≤ wait_cost Most First a + frames_cost Most fs
       → left g x (Ask k) gs now < left g x (Ask a) fs begun

@@ -1,7 +1,7 @@
--- Where the machine comes to its end, it has made an evaluation; and to each evaluation it comes.
--- Serves: steps_run, Packrat::match_unit
+-- Where the machine ends, it has made an evaluation.
+-- Serves: Packrat::match_unit
 use Rattle.std.proofs.Common.{◌≡◌, ℕ, ◌+◌, Bool, true, false, List, [], ◌∷◌, ◌++◌, refl, sym, subst}
-use Rattle.std.proofs.Common.{arith, append-nil}
+use Rattle.std.proofs.Common.{arith}
 use Rattle.memo.specs.Parts.{IsIn}
 use Rattle.memo.specs.Run.{Run, run_stored, run_key, run_plain, RunAll, run_none, run_more, total}
 use Rattle.packrat.specs.MachineSteps.{Level, State, Asks, Works, store, Step, step_stored, step_begin}
@@ -97,80 +97,3 @@ module _ (V : Type 0) (Kids : V → List V → Type 0) (Next : V → List V → 
           → Steps V Kids Next key (start_at V root) (Works (record { levels = []; stored = st; begun = bg }))
           → R [] root st (T bg)
       run_of_steps st bg s = steps_stand s
-
-    steps_join : {s t u : State V} → Steps V Kids Next key s t → Steps V Kids Next key t u → Steps V Kids Next key s u
-    steps_join p steps_none = p
-    steps_join p (steps_more q t) = steps_more (steps_join p q) t
-
-    append_assoc : (xs ys zs : List V) → (xs ++ ys) ++ zs ≡ xs ++ (ys ++ zs)
-    append_assoc [] ys zs = refl
-    append_assoc (a ∷ xs) ys zs = let h = append_assoc xs ys zs in cc h
-
-    module _ (all : (a k : V) (asked more : List V) → Kids a (asked ++ k ∷ more) → Next a asked k) where
-      -- the machine comes to so much, from there
-      record Comes (s : State V) (fs : List (Level V)) (new : List V) (n : ℕ) : Type 0 where
-        pub begun : List V
-        pub count : T begun ≡ n
-        pub steps : Steps V Kids Next key s (Works (record { levels = fs; stored = new; begun = begun }))
-
-      spot_closes : (a : V) (ks old new bg : List V) (c : ℕ) (fs : List (Level V)) → Fresh a old → Kids a ks
-          → Comes (Works (record { levels = record { at = a; asked = [] } ∷ fs; stored = old; begun = a ∷ bg }))
-          (record { at = a; asked = ks } ∷ fs) new (c + T (a ∷ bg))
-          → Comes (Asks a (record { levels = fs; stored = old; begun = bg })) fs (store V (key a) a new)
-          ((weight a + c) + T bg)
-      spot_closes a ks old new bg c fs fresh k h =
-          let is = h.count in
-          record {
-            begun = h.begun;
-            count = omega (arith, is);
-            steps = steps_more (steps_join (steps_more steps_none (step_begin fresh)) h.steps) (step_last k);
-          }
-
-      mutual
-        run_comes : {a : V} {old new : List V} {c : ℕ} → R old a new c → (fs : List (Level V)) (bg : List V)
-            → Comes (Asks a (record { levels = fs; stored = old; begun = bg })) fs new (c + T bg)
-        run_comes (run_stored t i) fs bg =
-            record { begun = bg; count = omega arith; steps = steps_more steps_none (step_stored t i) }
-        run_comes (run_key {a = a} {ks = ks} {old = old} {new = new} {c = c} t f k r) fs bg =
-            subst (λ v. Comes (Asks a (record { levels = fs; stored = old; begun = bg })) fs (store V v a new)
-            ((weight a + c) + T bg)) t
-            (spot_closes a ks old new bg c fs (λ _. f) k (come_all r a [] fs (a ∷ bg) k))
-        run_comes (run_plain {a = a} {ks = ks} {old = old} {new = new} {c = c} t k r) fs bg =
-            subst (λ v. Comes (Asks a (record { levels = fs; stored = old; begun = bg })) fs (store V v a new)
-            ((weight a + c) + T bg)) t
-            (spot_closes a ks old new bg c fs (λ is. absurd (cc (is, t))) k (come_all r a [] fs (a ∷ bg) k))
-
-        come_all : {ks old new : List V} {c : ℕ} → RA old ks new c → (a : V) (before : List V) (fs : List (Level V))
-            (bg : List V) → Kids a (before ++ ks)
-            → Comes (Works (record { levels = record { at = a; asked = before } ∷ fs; stored = old; begun = bg }))
-            (record { at = a; asked = before ++ ks } ∷ fs) new (c + T bg)
-        come_all {old = old} run_none a before fs bg k = record {
-          begun = bg;
-          count = omega arith;
-          steps = subst (λ v. Steps V Kids Next key
-              (Works (record { levels = record { at = a; asked = before } ∷ fs; stored = old; begun = bg }))
-              (Works (record { levels = record { at = a; asked = v } ∷ fs; stored = old; begun = bg })))
-              (sym (append-nil before)) steps_none;
-        }
-        come_all {old = old} {new = new} (run_more {a = b} {ks = ks} {mid = mid} {c = c} {d = d} r s) a before fs bg k =
-            let h = run_comes r (record { at = a; asked = before ++ b ∷ [] } ∷ fs) bg in
-            let whole = append_assoc before (b ∷ []) ks in
-            let g = come_all s a (before ++ b ∷ []) fs h.begun (subst (Kids a) (sym whole) k) in
-            let one = h.count in
-            let two = g.count in
-            record {
-              begun = g.begun;
-              count = omega (arith, one, two);
-              steps = subst (λ v. Steps V Kids Next key
-                  (Works (record { levels = record { at = a; asked = before } ∷ fs; stored = old; begun = bg }))
-                  (Works (record { levels = record { at = a; asked = v } ∷ fs; stored = new; begun = g.begun }))) whole
-                  (steps_join (steps_join (steps_more steps_none (step_next (all a b before ks k))) h.steps) g.steps);
-            }
-
-      -- to each evaluation the machine comes
-      pub steps_of_run : (root : V) (st : List V) (c : ℕ) → R [] root st c → (bg : List V) × (T bg ≡ c)
-          × Steps V Kids Next key (start_at V root) (Works (record { levels = []; stored = st; begun = bg }))
-      steps_of_run root st c r =
-          let h = run_comes r [] [] in
-          let is = h.count in
-          (h.begun, omega (arith, is), h.steps)

@@ -1,5 +1,5 @@
--- What a spot asks for next is led to, fresh, and as its list has it.
--- Serves: steps_run, steps_hold, Packrat::match_unit
+-- What a task asks for next is led to, fresh, and as its list has it.
+-- Serves: Packrat::match_unit
 use Rattle.std.proofs.Common.{◌≡◌, ◌⊎◌, inl, inr, ℕ, zero, suc, ◌<◌, Bool, List, [], ◌∷◌, ◌++◌}
 use Rattle.std.proofs.Common.{length, Some, refl, sym, subst, arith}
 use Rattle.std.specs.Prelude.{slice_get}

@@ -23,7 +23,7 @@ module _ (rules : List Rule) (start : ℕ) (nodes : List Shape) (bodies ranks x 
   alternative_in (alternative_here {m = m} {ms = ms}) = in_first m ms
   alternative_in (alternative_later {k = k} {m = m} {ms = ms} t a) = in_later k m ms (alternative_in a)
 
-  -- a member behind members of d bytes is asked for d bytes on
+  -- a member after members of d bytes is asked for d bytes on
   member_offset : {m d : ℕ} {ms : List ℕ} {p j q : ℕ} → MemberAt nodes bodies m ms d
       → AsksMember rules nodes bodies x ms p j q → m ≡ j → q ≡ p + d
   member_offset (at_first apart) member_here is = omega arith

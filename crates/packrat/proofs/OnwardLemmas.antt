@@ -1,4 +1,4 @@
--- How a spot goes on behind its first kid.
+-- How a task goes on after its first child.
 -- Serves: Packrat::match_unit
 use Rattle.std.proofs.Common.{◌≡◌, inl, inr, ℕ, Bool, true, false, zero, suc, ◌+◌, ◌<◌, ◌≤◌, List, [], ◌∷◌}
 use Rattle.std.proofs.Common.{length, get_or, Some, refl, sym, subst, ap, arith, Vec, Global}
@@ -87,7 +87,7 @@ module _ (g : Grammar) (x : List ℕ) (more : Bool) (some : WasEnough x more 0) 
   ends_within k p q es le t = (goes_onward (rules_of g.rules) g.start (shapes_of g.nodes) g.bodies g.ranks x sound k p q
       le (takes_there k p q es t)).high
 
-  -- behind what is taken within the window a spot stands before the window's end, if it stood so before
+  -- after what is taken within the window a task stands before the window's end, if it stood so before
   takes_near : (k p q : ℕ) (es : List Event) → NT k p q es → (more ≡ true → p < length x) → more ≡ true → q < length x
   takes_near k p q es t near is =
       let le = ends_by (rules_of g.rules) x t.gives.gives in

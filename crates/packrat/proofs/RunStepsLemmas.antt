@@ -1,5 +1,5 @@
 -- To each evaluation the machine comes, from wherever it stands; what it begins stands in front.
--- Serves: one_byte_decides, turns_run, turns_whole
+-- Serves: one_byte_decides, Packrat::match_unit
 use Rattle.std.proofs.Common.{◌≡◌, inl, inr, ℕ, ◌+◌, Bool, true, List, [], ◌∷◌, ◌++◌, refl, sym, subst}
 use Rattle.std.proofs.Common.{arith, append-nil}
 use Rattle.memo.specs.Parts.{IsIn, in_here, in_later}

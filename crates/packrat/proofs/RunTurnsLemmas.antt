@@ -1,5 +1,5 @@
 -- Steps over bytes that decide what is evaluated.
--- Serves: one_byte_decides, turns_run, turns_close, turns_whole, fresh_above_mark, Packrat::match_unit
+-- Serves: one_byte_decides, fresh_above_mark, Packrat::match_unit
 use Rattle.std.proofs.Common.{◌≡◌, inl, inr, ℕ, zero, suc, ◌+◌, ◌<◌, ◌≤◌, Bool, true, false, List, [], ◌∷◌, ◌++◌}
 use Rattle.std.proofs.Common.{Some, refl, sym, subst, ap, arith}
 use Rattle.std.specs.Prelude.{slice_get}
@@ -52,7 +52,7 @@ not_among false m k a (suc n) q stored not free i =
 no_later : (a n : ℕ) → a + n < a + n → ⊥
 no_later a n lt = omega arith
 
--- a stored key with this spot
+-- a stored key with this task
 in_spots : (spot : Spot) (stored : List Stored) → IsIn spot (spots_of stored)
     → (s : Stored) × IsIn s stored × (s.spot ≡ spot)
 in_spots spot [] i = absurd (not_in i)
@@ -271,45 +271,6 @@ module _ (rules : List Rule) (start : ℕ) (nodes : List Shape) (bodies ranks x 
     turns_end {a = a} (turns_more {n = n} {d = d} {b = b} r here h) levels stored begun =
         both_steps (steps_more steps_none (step_last (turn_kids (a + n) (operand_takes b (a + n) d h here))))
         (turns_end r levels (store Spot (marks s) (Pair s (a + n)) stored) begun)
-
-    -- the turns, and then a byte that the repetition stays before
-    pub whole_comes : {a n c : ℕ} (b d : ℕ) → Turned a n c → slice_get x (a + n) ≡ Some b
-        → ByByte nodes bodies marks tails b s Stays d → (levels : List (Level Spot)) (stored begun : List Spot)
-        → AreFresh (marks s) s a (suc n) stored → AreFresh (marks k) k a n stored
-        → Comes (Asks (Pair s a) (record { levels = levels; stored = stored; begun = begun }))
-        (λ front. Works (record {
-          levels = levels;
-          stored = turns_closed (marks s) s a (suc n)
-              (operands_on (marks k) k a n stored);
-          begun = front ++ begun;
-        })) ((a + n) + 1) (c + d)
-    whole_comes {a = a} {n = n} b d turns here h levels stored begun fresh free =
-        let before = turns_come turns levels stored begun (λ i lt. fresh i (omega arith)) free in
-        let last = decided_comes b s (a + n) d Stays h here spelled (turns_on s k a n levels)
-        (operands_on (marks k) k a n stored) (before.front ++ begun)
-        (λ t i. not_among (marks k) s k a n (a + n) stored (λ e lt. no_later a n lt) (fresh n (omega arith) t) i) in
-        let end = turns_end turns levels (store Spot (marks s) (Pair s (a + n)) (operands_on (marks k) k a n stored))
-        (last.front ++ (before.front ++ begun)) in
-        let one = before.is in
-        let two = last.is in
-        let sum = both_fronts last.front
-        before.front in
-        record {
-          front = last.front ++ before.front;
-          near = λ m z i. elim (in_either last.front before.front i) [
-            | inl j ↦ last.near m z j
-            | inr j ↦ let le = before.near m z j in omega (arith, le)
-          ];
-          is = omega (arith, one, two, sum);
-          steps = subst (λ v. St (Asks (Pair s a) (record { levels = levels; stored = stored; begun = begun }))
-              (Works (record {
-                levels = levels;
-                stored = turns_closed (marks s) s a (suc n)
-                    (operands_on (marks k) k a n stored);
-                begun = v;
-              }))) (sym (append_other last.front before.front begun))
-              (both_steps (both_steps before.steps last.steps) end);
-        }
 
     stop_kids : (q : ℕ) → GivesBy rules nodes bodies x k q Fails → Kids rules nodes bodies x (Pair s q) (Pair k q ∷ [])
     stop_kids q g = (node.Star k, at, inl (record { looked = g.looked; gives = g.gives }, refl))

@@ -1,4 +1,4 @@
--- A spot that is no key is led to by one alone.
+-- A task that is no key is led to by one alone.
 -- Serves: implied_cells
 use Rattle.std.proofs.Common.{◌≡◌, ◌⊎◌, inl, inr, ℕ, zero, suc, ◌+◌, Bool, false, List, Some, refl, sym, subst}
 use Rattle.std.proofs.Common.{arith}
@@ -66,7 +66,7 @@ module _ (rules : List Rule) (start : ℕ) (nodes : List Shape) (bodies ranks x 
   rest_names_by (Turns k s) n i p m q l = absurd l
   rest_names_by (Operand k) n i p m q l = absurd l
 
-  -- the node of a spot names the node that it leads to
+  -- the node of a task names the node that it leads to
   abbrev node_of : Spot → ℕ
   node_of (Pair n p) = n
   node_of (Tail n i p) = n
@@ -154,7 +154,7 @@ module _ (rules : List Rule) (start : ℕ) (nodes : List Shape) (bodies ranks x 
   same_here (Turns k s) n m q a b o l h = cc
   same_here (Operand k) n m q a b o l h = cc
 
-  -- a plain node's spot has one asker
+  -- a plain node's task has one asker
   one_of_plain : (m q : ℕ) → IsPlain start nodes bodies m → (a b : Spot) → L a (Pair m q) → L b (Pair m q) → a ≡ b
   one_of_plain m q plain a b l k =
       same_here (way_of plain.asker plain.shape) plain.asker m q a b plain.once (led_here m plain a q l)
@@ -258,7 +258,7 @@ module _ (rules : List Rule) (start : ℕ) (nodes : List Shape) (bodies ranks x 
   abbrev OnePlace : ℕ → Type 0
   OnePlace n = (q r : ℕ) → R (Pair n q) → R (Pair n r) → q ≡ r
 
-  -- who led to a spot that is not the root
+  -- what led to a task that is not the root
   record Asker (b : Spot) : Type 0 where
     pub spot : Spot
     pub reached : R spot
@@ -457,10 +457,6 @@ module _ (rules : List Rule) (start : ℕ) (nodes : List Shape) (bodies ranks x 
     turned_on no_turn = omega arith
     turned_on (one_turn {q = q} {r = r} t v h) = let one = turned_on t in let two = turns_forward q r v h in omega arith
 
-    turned_from : {p q r : ℕ} → R (Pair m p) → Turn p q → Turned q r → Turned p r
-    turned_from v h no_turn = one_turn no_turn v h
-    turned_from v h (one_turn t u k) = one_turn (turned_from v h t) u k
-
     record FirstTurn (p r : ℕ) : Type 0 where
       pub next : ℕ
       pub turn : Turn p next
@@ -490,11 +486,6 @@ module _ (rules : List Rule) (start : ℕ) (nodes : List Shape) (bodies ranks x 
       pub reached : R spot
       pub enters : Enters place spot
       pub turned : Turned place q
-
-    loop_asker : (q : ℕ) → R (Pair m q) → Asker (Pair m q)
-    loop_asker q r = rest_asker (Pair m q) r
-        (λ is. let same : root ≡ m = cc is in
-        loop.not_root (subst (λ v. slice_get bodies start ≡ Some v) same is_root))
 
     -- each of its places is reached from an entry by turns
     entered_once : {b : Spot} → R b → (q : ℕ) → b ≡ Pair m q → Entered q

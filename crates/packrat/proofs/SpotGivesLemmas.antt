@@ -1,8 +1,8 @@
--- What a spot gives, from what those give to which it leads.
+-- What a task gives, from what those give to which it leads.
 -- Serves: Packrat::match_unit
 use Rattle.std.proofs.Common.{◌≡◌, ◌⊎◌, inl, inr, ℕ, zero, suc, ◌≤◌, max, Bool, true, false, List, [], ◌∷◌}
 use Rattle.std.proofs.Common.{length}
-use Rattle.std.proofs.Common.{drop, Some, Ok, Err, Result, IfOk, OnOk, refl, sym, subst, arith, ◌∙◌, append-nil}
+use Rattle.std.proofs.Common.{drop, Some, refl, sym, subst, arith, ◌∙◌, append-nil}
 use Rattle.std.specs.Prelude.{slice_get, ◌==◌}
 use Rattle.std.proofs.lemmas.Bool.{eqb-true, eq-eqb}
 use Rattle.pegread.specs.Pattern as expr
@@ -34,24 +34,11 @@ use Rattle.packrat.specs.SpotGives.{joined, IsQuiet}
 use Rattle.packrat.specs.Spots.{Kids}
 use Rattle.packrat.proofs.SpotReachLemmas.{front_drop, drop_none}
 
-pub ok_as : {A E : Type 0} (P Q : A → Type 0) (v : Result A E) → ((a : A) → P a → Q a) → IfOk v P → IfOk v Q
-ok_as P Q (Ok a) f h = f a h
-ok_as P Q (Err e) f h = tt
-
-pub on_as : {A E : Type 0} (P Q : Type 0) (v : Result A E) → (P → Q) → OnOk v P → OnOk v Q
-on_as P Q (Ok a) f h = f h
-on_as P Q (Err e) f h = tt
-
 pub empty_is : (b : Bool) (n : ℕ) → b ≡ (n == 0) → b ≡ true → n ≡ 0
 empty_is b n is t = eqb-true n 0 (sym is ∙ t)
 
 pub empty_not : (b : Bool) (n : ℕ) → b ≡ (n == 0) → b ≡ false → n ≡ 0 → ⊥
 empty_not b n is f h = let t : (n == 0) ≡ true = eq-eqb n 0 h in cc (is, f, t)
-
-pub both_ok : {A E : Type 0} (P : A → Type 0) (Q R : Type 0) (v : Result A E) → ((a : A) → P a → Q → R) → IfOk v P
-    → OnOk v Q → OnOk v R
-both_ok P Q R (Ok a) f h k = f a h k
-both_ok P Q R (Err e) f h k = tt
 
 drop_past : (ms : List ℕ) (i : ℕ) → length ms ≤ i → drop i ms ≡ []
 drop_past [] zero le = refl

@@ -1,4 +1,4 @@
--- The list of where a spot leads has those to which it leads, once each.
+-- The list of where a task leads has those to which it leads, once each.
 -- Serves: implied_cells
 use Rattle.std.proofs.Common.{◌≡◌, ◌⊎◌, inl, inr, ℕ, zero, suc, List, [], ◌∷◌, Some, refl, sym, subst, arith}
 use Rattle.std.specs.Prelude.{slice_get}

@@ -193,10 +193,6 @@ module _ (rules : List Rule) (start : ℕ) (nodes : List Shape) (bodies x : List
   pub reached_is_visited : (n p : ℕ) → R (Pair n p) → W n p
   reached_is_visited n p r = reach_seen r
 
-  -- and a rest is of a node that is visited somewhere
-  pub rest_is_of : (n i q : ℕ) → R (Tail n i q) → (p : ℕ) × W n p
-  rest_is_of n i q r = let s : IsTail rules nodes bodies x W goes_on n i q = reach_seen r in (s.place, s.visited)
-
   member_front : {ms : List ℕ} {p m q : ℕ} → AM ms p m q → (k : ℕ) × (l : List ℕ) × (ms ≡ k ∷ l)
   member_front (member_here {m = m} {ms = ms}) = (m, ms, refl)
   member_front (member_later {k = k} {ms = ms} t a) = (k, ms, refl)

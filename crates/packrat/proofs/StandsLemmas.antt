@@ -152,13 +152,13 @@ module _ (g : Grammar) (x : List ℕ) (more : Bool) (marks : Marks) where
   levels_grown grown (levels_passed t h r) = levels_passed t h (levels_grown grown r)
   levels_grown grown (levels_turned d t w r) = levels_turned d t w (levels_grown grown r)
 
-  -- what a spot gives without events
+  -- what a task gives without events
   pub given_none : (links : List Link) (a : Spot) (f : Found) → SY a f []
       → G links a (record { found = f; events = 0 })
   given_none links a f h =
       record { events = []; yields = h; quiet = quiet_none f; head = head_none (shapes_of g.nodes) links }
 
-  -- what a spot gives that takes nothing, and leaves an event behind
+  -- what a task gives that takes nothing, and leaves an event
   pub given_marked : (links : List Link) (a : Spot) (p : ℕ) (kept : Kept) (head : ℕ) → p ≡ place_of a
       → AfterNone g x more a (start.Marks kept) → IsHead links head → kept_at links head ≡ kept ∷ []
       → G links a (record { found = Took p; events = head })
@@ -174,7 +174,7 @@ module _ (g : Grammar) (x : List ℕ) (more : Bool) (marks : Marks) where
         };
       }
 
-  -- what a spot gives whose last spot gives this, with the events of a head before its events
+  -- what a task gives whose last child gives this, with the events of a head before its events
   given_joined : (old new : List Link) (a b : Spot) (asked : List Spot) (first : ℕ) (es : List Event)
       (given all : Given) → HeadStands (shapes_of g.nodes) old first es → PassesOn g x more a asked b es
       → G old b given → IsJoined old new first given all → G new a all
@@ -200,7 +200,7 @@ module _ (g : Grammar) (x : List ℕ) (more : Bool) (marks : Marks) where
     head = h.head;
   }
 
-  -- the levels of turns, of which the last one waits for spot b
+  -- the levels of iterations, of which the last one awaits task b
   pub record IsTurnedTop (links : List Link) (root a : Spot) (last : ℕ) (ls : List Frame) (fs : List (Level Spot))
       (b : Spot) : Type 0 where
     pub star : ℕ
@@ -216,7 +216,7 @@ module _ (g : Grammar) (x : List ℕ) (more : Bool) (marks : Marks) where
     pub levels : fs ≡ turns_on star operand from (last + 1 - from) rest
     pub waits : b ≡ Pair star (last + 1)
 
-  -- the levels of the frames, of which the last one waits so for spot b
+  -- the levels of the frames, of which the last one so awaits task b
   abbrev TopBy : List Link → Spot → Wait → Frame → List Frame → List (Level Spot) → Spot → Type 0
   TopBy links root First l ls fs b = (asked : List Spot) × (rest : List (Level Spot))
       × (fs ≡ record { at = l.spot; asked = asked } ∷ rest) × IsHere g x more l.spot × (l.key ≡ Key l.spot)
@@ -307,7 +307,7 @@ module _ (g : Grammar) (x : List ℕ) (more : Bool) (marks : Marks) where
       → (s : S root (Answer given) ls st links n) → Ready links root ls given (spots_of st) s.begun
   ready_of {given = given} s = ready_when s.are given s.turns s.steps
 
-  -- the levels of a spot that waits for its last one
+  -- the levels of a task that awaits its last child
   waiting_levels : (links : List Link) (root a b : Spot) (key : Bool) (head : ℕ) (es : List Event)
       (asked : List Spot) (ls new : List Frame) (fs : List (Level Spot)) → key ≡ Key a → IsHere g x more a
       → HeadStands (shapes_of g.nodes) links head es → PassesOn g x more a asked b es → AreWaiting key head a ls new
@@ -333,7 +333,7 @@ module _ (g : Grammar) (x : List ℕ) (more : Bool) (marks : Marks) where
     near = λ m q i. elim i [ ];
   })
 
-  -- a spot leads first to one at its own place
+  -- a task leads first to one at its own position
   place_by : (w : Way) (n p : ℕ) (b : Spot) → FirstBy (rules_of g.rules) (shapes_of g.nodes) g.bodies x w n p b
       → place_of b ≡ p
   place_by Leaf n p b h = absurd h
@@ -409,7 +409,7 @@ module _ (g : Grammar) (x : List ℕ) (more : Bool) (marks : Marks) where
       begin_counts : total Spot K Key weight (a ∷ s.begun) ≡ n + weight a
       begin_counts = let is = s.is in omega (arith, is)
 
-      -- a spot whose own comparison reaches the end of the window
+      -- a task whose own comparison reaches the end of the window
       pub stands_need : ReachesEnd g x more a → NeedsMore g x more marks root st (n + weight a)
       stands_need h = record {
         spot = a;
@@ -453,7 +453,7 @@ module _ (g : Grammar) (x : List ℕ) (more : Bool) (marks : Marks) where
         steps = steps_more steps_begin (step_next (next_first h.0));
       }
 
-      -- a spot that passes on what its only one gives
+      -- a task that passes on what its only child gives
       pub stands_pass : (k : Spot) (key : Bool) (new : List Frame) → key ≡ Key a
           → AfterNone g x more a (start.Passes k) → AreWaiting key 0 a ls new
           → S root (Ask k) new st links (n + weight a)
@@ -516,7 +516,7 @@ module _ (g : Grammar) (x : List ℕ) (more : Bool) (marks : Marks) where
           (at_levels s.begun is_ready.levels (record { at = a; asked = is_ready.are.0 } ∷ is_ready.are.1)
           is_ready.are.2 is_ready.steps)
 
-      -- what is known behind the first spot that the frame waited for
+      -- what is known after the first child that the frame awaited
       abbrev After : Onward → Type 0
       After o = (j : Spot) → F a j → (es : List Event) → SY j given.found es → AfterOne g x more a j given.found es o
 

@@ -177,7 +177,7 @@ module _ (g : Grammar) (x : List ℕ) (more : Bool) (marks : Marks) where
       pub to_end : p + (q - p) ≡ q
       to_end = let le = t.low in omega (arith, le)
 
-      -- what the repetition gives behind its turns, it gives before them
+      -- what the repetition gives after its iterations, it gives before them
       yields_before : (f : Found) (events : List Event) → SY (Pair s q) f events → (i : ℕ) → i ≤ q - p
           → SY (Pair s (p + i)) f events
       yields_before Failed events d i le = absurd (star_never_fails (rules_of g.rules) g.start (shapes_of g.nodes)
@@ -211,7 +211,7 @@ module _ (g : Grammar) (x : List ℕ) (more : Bool) (marks : Marks) where
       stop_gives d e = gives_by (rules_of g.rules) g.start (shapes_of g.nodes) g.bodies g.ranks x sound
           (node_marks marks) (tail_marks marks) e.byte q e.here e.fails operand_has
 
-      -- the operand fails behind them
+      -- the operand fails after them
       pub stop_given : (links : List Link) (d : ℕ) → IsStopped g x more marks k q d
           → GivenBy g x more links (Pair k q) (record { found = Failed; events = 0 })
       stop_given links d e =
@@ -226,7 +226,7 @@ module _ (g : Grammar) (x : List ℕ) (more : Bool) (marks : Marks) where
       pub operand_well : IsWell g x (Pair k q)
       operand_well = (operand_has, t.within)
 
-      -- it ends behind them
+      -- it ends after them
       pub ended_given : (links : List Link) (d : ℕ) → IsStopped g x more marks k q d → (r : ℕ) → p ≤ r → r ≤ q
           → GivenBy g x more links (Pair s r) (record { found = Took q; events = 0 })
       ended_given links d e r low high =

@@ -26,7 +26,7 @@ found_by Stays p = Took p
 found_by Fails p = Failed
 
 module _ (rules : List Rule) (nodes : List Shape) (bodies x : List ℕ) where
-  -- The node gives this at place p, without events, and looks at no byte behind that one.
+  -- The node gives this at position p, without events, and looks at no byte after that one.
   pub record GivesBy (n p : ℕ) (v : Verdict) : Type 0 where
     pub looked : ℕ
     pub within : looked ≤ p + 1
@@ -39,7 +39,7 @@ module _ (rules : List Rule) (nodes : List Shape) (bodies x : List ℕ) where
     pub gives : NodeGives rules nodes bodies x s p (outcome.Takes q events) looked
 
   module _ (marks : ℕ → Bool) (tails : ℕ → ℕ → Bool) where
-    -- The evaluation of a spot stores nothing but itself, whatever was stored, and begins so many pairs.
+    -- The evaluation of a task stores nothing but itself, whatever was stored, and begins so many pairs.
     pub record StoresItself (a : Spot) (count : ℕ) : Type 0 where
       pub kids : List Spot
       pub are : Kids rules nodes bodies x a kids

@@ -1,4 +1,4 @@
--- What a match leaves behind.
+-- What a match leaves.
 use Rattle.std.specs.Prelude.{◌≡◌, ℕ, ◌<◌, ◌≤◌, Bool, true, List, [], length, slice_get, Option, Some, None}
 use Rattle.pegread.specs.PegViews.{rules_of}
 use Rattle.gramcheck.specs.Grammar.{Grammar}
@@ -68,7 +68,7 @@ module _ (g : Grammar) (x : List ℕ) (more : Bool) where
     pub every : AreVisitedCells (rules_of g.rules) g.start (shapes_of g.nodes) g.bodies x more cells
     pub count : c.begun ≡ length cells
 
-  -- the start rule's outcome, which did not look at the last byte of a window behind which there is more
+  -- the start rule's outcome, which did not look at the last byte of a window that more bytes follow
   pub record Answers (f : Found) : Type 0 where
     pub events : List Event
     pub looked : ℕ

@@ -12,13 +12,13 @@ pub data Once (m : ℕ) : List ℕ → Type 0 where
   once_later : {k : ℕ} {ms : List ℕ} → (k ≡ m → ⊥) → Once m ms → Once m (k ∷ ms)
 
 module _ (nodes : List Shape) (bodies : List ℕ) where
-  -- m stands once in the list, behind members that together take d bytes
+  -- m stands once in the list, after members that together take d bytes
   pub data MemberAt (m : ℕ) : List ℕ → ℕ → Type 0 where
     at_first : {ms : List ℕ} → (Contains ms m → ⊥) → MemberAt m (m ∷ ms) 0
     at_later : {k w d : ℕ} {ms : List ℕ} → (m ≡ k → ⊥) → Width nodes bodies k w → MemberAt m ms d
         → MemberAt m (k ∷ ms) (w + d)
 
-  -- a node of this shape asks for node m, if it does, d bytes behind its own place, and by one of its operands alone
+  -- a node of this shape asks for node m, if it does, d bytes after its own position, and by one of its operands alone
   abbrev pub OffsetBy : Shape → ℕ → ℕ → ℕ → Type 0
   OffsetBy Any n m d = ⊥
   OffsetBy (Bytes bs) n m d = ⊥

@@ -1,4 +1,4 @@
--- How a spot goes on, in code: what it gives at once, and what it asks for.
+-- How a task goes on, in code: what it gives at once, and what it asks for.
 use Rattle.std.specs.Prelude.{◌≡◌, ℕ, ◌+◌, ◌<◌, ◌≤◌, ◌==◌, get_or, List, [], ◌∷◌, length, slice_get, Some}
 use Rattle.std.specs.Prelude.{Bool, true, false}
 use Rattle.pegread.specs.PegViews.{rules_of}
@@ -51,12 +51,12 @@ abbrev pub entering_of : ℕ → List ℕ → ℕ → ℕ → Entering
 entering_of n ms i p =
     record { node = n; index = i; place = p; member = get_or ms i 0; only = i + 1 == length ms }
 
--- if more bytes follow the window, the spot stands before the window's end
+-- if more bytes follow the window, the task stands before the window's end
 abbrev pub IsNear : List ℕ → Bool → Spot → Type 0
 IsNear x more a = more ≡ true → place_of a < length x
 
 module _ (g : Grammar) (x : List ℕ) where
-  -- a spot of the grammar and the window
+  -- a task of the grammar and the window
   abbrev pub IsWell : Spot → Type 0
   IsWell (Pair n p) = SpellsSome (rules_of g.rules) (shapes_of g.nodes) n × (p ≤ length x)
   IsWell (Tail n i p) = SpellsSome (rules_of g.rules) (shapes_of g.nodes) n × (p ≤ length x)
@@ -66,20 +66,20 @@ module _ (g : Grammar) (x : List ℕ) where
   abbrev pub IsHere : Bool → Spot → Type 0
   IsHere more a = IsWell a × IsNear x more a
 
-  -- the node's own comparison reaches the last byte of a window behind which there is more
+  -- the node's own comparison reaches the last byte of a window that more bytes follow
   abbrev pub ReachesEnd : Bool → Spot → Type 0
   ReachesEnd more (Pair n p) = (more ≡ true) × ((o : Outcome)
       × NodeGives (rules_of g.rules) (shapes_of g.nodes) g.bodies x n p o (length x))
   ReachesEnd more (Tail n i p) = ⊥
 
   module _ (more : Bool) where
-    -- a spot that has asked for these, with b last, gives what b gives, with these events before those of b
+    -- a task that has asked for these, with b last, gives what b gives, with these events before those of b
     abbrev pub PassesOn : Spot → List Spot → Spot → List Event → Type 0
     PassesOn a asked b first = Kids (rules_of g.rules) (shapes_of g.nodes) g.bodies x a asked
         × ((f : Found) (then : List Event) → SpotYields g x more b f then
         → SpotYields g x more a f (joined f first then))
 
-    -- a spot leads to k first; if k is its only one, it gives what k gives
+    -- a task leads to k first; if k is its only one, it gives what k gives
     abbrev pub IsLed : Bool → Spot → Spot → Type 0
     IsLed false a k = IsFirst (rules_of g.rules) (shapes_of g.nodes) g.bodies x a k × IsWell k
     IsLed true a k = IsFirst (rules_of g.rules) (shapes_of g.nodes) g.bodies x a k × IsWell k × PassesOn a (k ∷ []) k []
@@ -95,7 +95,7 @@ module _ (g : Grammar) (x : List ℕ) where
     AfterNone a (begun.Enters e) = IsLed true a (tail_of e) × IsLed e.only (tail_of e) (member_of e)
     AfterNone a begun.Need = ReachesEnd more a
 
-    -- behind its first kid j, which gave this with these events
+    -- after its first child j, which gave this with these events
     abbrev pub AfterOne : Spot → Spot → Found → List Event → Onward → Type 0
     AfterOne a j found events (Gives f) =
         Kids (rules_of g.rules) (shapes_of g.nodes) g.bodies x a (j ∷ []) × SpotYields g x more a f []
@@ -108,7 +108,7 @@ module _ (g : Grammar) (x : List ℕ) where
         × (IsNear x more a → IsNear x more (tail_of e)))
         × IsLed e.only (tail_of e) (member_of e)
 
--- what a comparison tells: what was found, unless it reached the last byte of a window behind which there is more
+-- the result of a comparison: what was found, unless it reached the last byte of a window that more bytes follow
 abbrev pub IsLeaf : Tried → ℕ → Bool → Begun → Type 0
 IsLeaf tried n more (begun.Gives f) = (f ≡ tried.found) × (more ≡ true → tried.looked ≡ n → ⊥)
 IsLeaf tried n more (begun.Marks kept) = ⊥
@@ -117,7 +117,7 @@ IsLeaf tried n more (begun.Passes k) = ⊥
 IsLeaf tried n more (begun.Enters e) = ⊥
 IsLeaf tried n more begun.Need = (more ≡ true) × (tried.looked ≡ n)
 
--- how a spot begins that leads to k, if k is its only one or not
+-- how a task begins that leads to k, if k is its only one or not
 abbrev pub led_to : Bool → Spot → Begun
 led_to true k = begun.Passes k
 led_to false k = begun.Leads k

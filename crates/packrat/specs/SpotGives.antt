@@ -1,4 +1,4 @@
--- What a spot gives.
+-- What a task gives.
 use Rattle.std.specs.Prelude.{◌≡◌, ℕ, Bool, List, [], ◌∷◌, ◌++◌, drop, slice_get, Some}
 use Rattle.pegread.specs.PegViews.{rules_of}
 use Rattle.gramcheck.specs.Grammar.{Grammar}
@@ -69,7 +69,7 @@ module _ (g : Grammar) (x : List ℕ) (more : Bool) where
   TailGives Open i p f events = ⊥
   TailGives Close i p f events = ⊥
 
-  -- What a spot gives, with these events, where the window is long enough for that: a node its outcome, and a tail that
+  -- What a task gives, with these events, where the window is long enough for that: a node its outcome, and a tail that
   -- of its members.
   abbrev pub SpotYields : Spot → Found → List Event → Type 0
   SpotYields (Pair n p) f events = (looked : ℕ)
@@ -78,7 +78,7 @@ module _ (g : Grammar) (x : List ℕ) (more : Bool) where
   SpotYields (Tail n i p) f events =
       (shape : Shape) × (slice_get (shapes_of g.nodes) n ≡ Some shape) × TailGives shape i p f events
 
-  -- what a spot gives, with some events
+  -- what a task gives, with some events
   abbrev pub SpotGives : Spot → Found → Type 0
   SpotGives a f = (events : List Event) × SpotYields a f events
 

@@ -1,4 +1,4 @@
--- The machine over spots.
+-- The machine over tasks.
 use Rattle.std.specs.Prelude.{◌≡◌, ℕ, zero, Bool, List, [], ◌∷◌, slice_get, Some}
 use Rattle.pegread.specs.Pattern.{Rule}
 use Rattle.pegnodes.specs.Nodes.{Shape}
@@ -6,7 +6,7 @@ use Rattle.memo.specs.declared.spot.Spot.{Spot}
 use Rattle.memo.specs.declared.spot.Spot.TheVariants.{Pair, Tail}
 use Rattle.pegnodes.specs.NodeWays.{Way, Leaf, Body, Members, Alternatives, Turns, Operand, way_of}
 use Rattle.packrat.specs.Spots.{Kids, is_key}
-use Rattle.packrat.specs.MachineSteps.{State, Step, Steps}
+use Rattle.packrat.specs.MachineSteps.{State, Steps}
 
 module _ (rules : List Rule) (nodes : List Shape) (bodies x : List ℕ) where
   -- where node n at p leads first, whatever it takes
@@ -30,13 +30,10 @@ module _ (rules : List Rule) (nodes : List Shape) (bodies x : List ℕ) where
   IsFirst (Pair n p) b = (shape : Shape) × (slice_get nodes n ≡ Some shape) × FirstBy (way_of n shape) n p b
   IsFirst (Tail n i p) b = (shape : Shape) × (slice_get nodes n ≡ Some shape) × TailFirstBy (way_of n shape) n i p b
 
-  -- What a spot asks for next: the first without knowing anything, the second where it is one of two.
+  -- What a task asks for next: the first without knowing anything, the second where it is one of two.
   pub data NextOf (a : Spot) : List Spot → Spot → Type 0 where
     next_first : {k : Spot} → IsFirst a k → NextOf a [] k
     next_second : {j k : Spot} → Kids rules nodes bodies x a (j ∷ (k ∷ [])) → NextOf a (j ∷ []) k
-
-  abbrev pub SpotStep : (ℕ → Bool) → (ℕ → ℕ → Bool) → State Spot → State Spot → Type 0
-  SpotStep marks tails s t = Step Spot (Kids rules nodes bodies x) NextOf (is_key marks tails) s t
 
   abbrev pub SpotSteps : (ℕ → Bool) → (ℕ → ℕ → Bool) → State Spot → State Spot → Type 0
   SpotSteps marks tails s t = Steps Spot (Kids rules nodes bodies x) NextOf (is_key marks tails) s t

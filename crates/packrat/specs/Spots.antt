@@ -17,7 +17,7 @@ module _ (rules : List Rule) (nodes : List Shape) (bodies x : List ℕ) where
   LeadsBy (Turns k s) n p b = (b ≡ Pair k p) ⊎ ((q : ℕ) × NodeTakes rules nodes bodies x k p q × (b ≡ Pair s q))
   LeadsBy (Operand k) n p b = b ≡ Pair k p
 
-  -- where the rest from member i on at p leads: to that member, and behind it to the rest
+  -- where the rest from member i on at p leads: to that member, and after it to the rest
   abbrev pub TailLeadsBy : Way → ℕ → ℕ → ℕ → Spot → Type 0
   TailLeadsBy Leaf n i p b = ⊥
   TailLeadsBy (Body id) n i p b = ⊥
@@ -63,7 +63,7 @@ module _ (rules : List Rule) (nodes : List Shape) (bodies x : List ℕ) where
   Kids (Pair n p) ks = (shape : Shape) × (slice_get nodes n ≡ Some shape) × KidsBy (way_of n shape) n p ks
   Kids (Tail n i p) ks = (shape : Shape) × (slice_get nodes n ≡ Some shape) × TailKidsBy (way_of n shape) n i p ks
 
--- whether a spot is a key: a node that is marked, or a tail that is marked
+-- whether a task is a key: a node that is marked, or a tail that is marked
 abbrev pub is_key : (ℕ → Bool) → (ℕ → ℕ → Bool) → Spot → Bool
 is_key marks tails (Pair n p) = marks n
 is_key marks tails (Tail n i p) = tails n i

@@ -35,7 +35,7 @@ use Rattle.packrat.specs.Turned.{AreTurned}
 use Rattle.packrat.specs.TurnsLeft.{left}
 use Rattle.packrat.specs.SpotSteps.{IsFirst, SpotSteps}
 
--- whether a spot is a key
+-- whether a task is a key
 abbrev pub key_of : Marks → Spot → Bool
 key_of marks a = is_key (node_marks marks) (tail_marks marks) a
 
@@ -65,7 +65,7 @@ IsWaitHead links First = Unit {0}
 IsWaitHead links (Last head) = IsHead links head
 IsWaitHead links (Turned last) = Unit {0}
 
--- The frames of a spot that waits for its last one: it has one, unless it is no key and has no events so far.
+-- The frames of a task that awaits its last child: it has one, unless it is no key and has no events so far.
 abbrev pub AreWaiting : Bool → ℕ → Spot → List Frame → List Frame → Type 0
 AreWaiting key head a old new = (new ≡ record { spot = a; key = key; wait = Last head } ∷ old)
     ⊎ ((key ≡ false) × (head ≡ 0) × (new ≡ old))
@@ -81,7 +81,7 @@ IsEntered marks e old new a = ((a ≡ tail_of e) × (new ≡ old))
     ⊎ ((key_of marks (tail_of e) ≡ false) × (a ≡ member_of e) × (new ≡ entered e.only (tail_of e) old))
 
 module _ (g : Grammar) (x : List ℕ) (more : Bool) where
-  -- a spot gives this, and its head keeps its events
+  -- a task gives this, and its head keeps its events
   pub record GivenBy (links : List Link) (a : Spot) (given : Given) : Type 0 where
     pub events : List Event
     pub yields : SpotYields g x more a given.found events
@@ -92,8 +92,8 @@ module _ (g : Grammar) (x : List ℕ) (more : Bool) where
   pub record AreGiven (links : List Link) (stored : List Stored) : Type 0 where
     pub given : (s : Stored) → IsIn s stored → GivenBy links s.spot s.given
 
-  -- Spot a has asked for these, and waits for b: for its first; or for its last, to give what that one gives. Turns of
-  -- a repetition are not one spot.
+  -- Task a has asked for these, and awaits b: its first; or its last, to give what that one gives. Iterations of a
+  -- repetition are not one task.
   abbrev pub Waiting : List Link → Wait → Spot → List Spot → Spot → Type 0
   Waiting links First a asked b =
       IsFirst (rules_of g.rules) (shapes_of g.nodes) g.bodies x a b × (asked ≡ b ∷ [])
@@ -106,7 +106,7 @@ module _ (g : Grammar) (x : List ℕ) (more : Bool) where
   IsTurn links (Answer given) b = GivenBy links b given
 
   module _ (marks : Marks) where
-    -- The levels wait for spot b. A level has a frame, or is that of a spot that is no key, and that only waits to give
+    -- The levels await task b. A level has a frame, or is that of a task that is no key, and that only waits to give
     -- what its last one gives. The levels of turns over bytes that decide them have one frame, which names the last
     -- place.
     pub data AreLevels (links : List Link) (root : Spot) : List Frame → List (Level Spot) → Spot → Type 0 where
@@ -141,12 +141,12 @@ module _ (g : Grammar) (x : List ℕ) (more : Bool) where
       pub steps : Comes root (state_of turn spot levels (spots_of stored) begun)
       pub near : (n p : ℕ) → IsIn (Pair n p) begun → IsNear x more (Pair n p)
 
-    -- a spot that gives this is closed: a key is stored
+    -- a task that gives this is closed: a key is stored
     pub record IsClosed (links : List Link) (a : Spot) (given : Given) (old new : List Stored) : Type 0 where
       pub spots : spots_of new ≡ store Spot (key_of marks a) a (spots_of old)
       pub keeps : GivenBy links a given → AreGiven links old → AreGiven links new
 
-    -- The machine begins a spot whose own comparison reaches the last byte of a window behind which there is more.
+    -- The machine begins a task whose own comparison reaches the last byte of a window that more bytes follow.
     pub record NeedsMore (root : Spot) (stored : List Stored) (count : ℕ) : Type 0 where
       pub spot : Spot
       pub levels : List (Level Spot)

@@ -27,8 +27,8 @@ pub record IsClosing (entries : List (Option Decided)) (x : List ℕ) (at to pai
   pub count : pairs ≡ 1 + decided.count
 
 module _ (g : Grammar) (x : List ℕ) (more : Bool) (marks : Marks) where
-  -- Repetition s of node k takes the bytes between p and q by turns that the bytes decide, which are so many pairs. If
-  -- there is more behind the window, its last byte is none of them.
+  -- Repetition s of node k takes the bytes between p and q by iterations that the bytes decide, which are so many
+  -- pairs. If more bytes follow the window, its last byte is none of them.
   pub record AreTurned (s k p q count : ℕ) : Type 0 where
     pub at : slice_get (shapes_of g.nodes) s ≡ Some (Star k)
     pub spelled : SpellsSome (rules_of g.rules) (shapes_of g.nodes) s
@@ -37,7 +37,8 @@ module _ (g : Grammar) (x : List ℕ) (more : Bool) (marks : Marks) where
     pub last : more ≡ true → q < length x
     pub turns : AreTurns (shapes_of g.nodes) g.bodies x (node_marks marks) (tail_marks marks) k p (q - p) count
 
-  -- the byte at place q decides that node k fails there, and so that a repetition of it ends there, with so many pairs
+  -- the byte at position q decides that node k fails there, and so that a repetition of it ends there, with so many
+  -- pairs
   pub record IsStopped (k q count : ℕ) : Type 0 where
     pub byte : ℕ
     pub here : slice_get x q ≡ Some byte
@@ -46,23 +47,23 @@ module _ (g : Grammar) (x : List ℕ) (more : Bool) (marks : Marks) where
     pub is : count ≡ 1 + pairs
     pub last : more ≡ true → q + 1 < length x
 
-  -- The byte behind the turns decides that the repetition ends there; or there is a turn at least.
+  -- The byte after the iterations decides that the repetition ends there; or there is an iteration at least.
   abbrev pub AreEnded : Bool → Turns → ℕ → Type 0
   AreEnded true t count = (d : ℕ) × IsStopped t.operand t.end d × (t.pairs ≡ count + d)
   AreEnded false t count = (t.from < t.end) × (t.pairs ≡ count)
 
-  -- what is told of a repetition from a place on
+  -- what is decided of a repetition from a position on
   abbrev pub AreDecided : Turns → Type 0
   AreDecided t = (count : ℕ) × AreTurned t.star t.operand t.from t.end count × AreEnded t.whole t count
 
-  -- turns from a spot on; none of their pairs is stored that is a key
+  -- iterations from a task on; none of their pairs is stored that is a key
   pub record AreFree (stored : List Spot) (a : Spot) (t : Turns) : Type 0 where
     pub decided : AreDecided t
     pub spot : a ≡ Pair t.star t.from
     pub star : (n : ℕ) → AreFresh (node_marks marks t.star) t.star t.from n stored
     pub operand : (n : ℕ) → AreFresh (node_marks marks t.operand) t.operand t.from n stored
 
--- The frames of a repetition that waits for what it gives behind its turns: it has one if it is a key.
+-- The frames of a repetition that awaits its result after its iterations: it has one if it is a key.
 abbrev pub AreTurnedFrames : Bool → Turns → List Frame → List Frame → Type 0
 AreTurnedFrames true t old new =
     new ≡ record { spot = Pair t.star t.from; key = true; wait = Turned (t.end - 1) } ∷ old

@@ -26,12 +26,12 @@ most_members [] = 0
 most_members (s ∷ nodes) = max (members_of (way_of 0 s)) (most_members nodes)
 
 module _ (most : ℕ) where
-  -- the cost of a spot that is asked for, without that of the pairs that begin
+  -- the cost of a task that is asked for, without that of the pairs that begin
   abbrev pub ask_cost : Spot → ℕ
   ask_cost (Pair n p) = 1
   ask_cost (Tail n i p) = 4 * (most - i)
 
-  -- likewise of a frame that waits for its last spot, for what stands behind its turns, or for its first spot
+  -- likewise of a frame that awaits its last child, its node after its iterations, or its first child
   abbrev pub wait_cost : Wait → Spot → ℕ
   wait_cost (Last head) a = 1
   wait_cost (Turned last) a = 1

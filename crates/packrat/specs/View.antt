@@ -1,5 +1,5 @@
 -- The cells that a few stored keys imply.
-use Rattle.std.specs.Prelude.{◌≡◌, ℕ, Bool, true, List, [], ◌∷◌, length, Some}
+use Rattle.std.specs.Prelude.{◌≡◌, ℕ, Bool, true, List, [], ◌∷◌, length}
 use Rattle.pegread.specs.Pattern.{Rule}
 use Rattle.pegnodes.specs.Nodes.{Shape}
 use Rattle.memo.specs.declared.found.Found.{Found}
@@ -19,7 +19,7 @@ weight (Pair n p) = 1
 weight (Tail n i p) = 0
 
 module _ (rules : List Rule) (start : ℕ) (nodes : List Shape) (bodies x : List ℕ) (more : Bool) where
-  -- of each pair among spots its cell
+  -- of each pair among tasks its cell
   pub data CellsOf : List Spot → List Entry → Type 0 where
     cells_none : CellsOf [] []
     cells_rest : {n i p : ℕ} {spots : List Spot} {cells : List Entry} → CellsOf spots cells

@@ -1,4 +1,4 @@
-//! The events that successes leave behind, kept so that one part may stand in many: each is written once, and shared
+//! The events that successes leave, kept so that one part may stand in many: each is written once, and shared
 //! from then on.
 
 mod event_log;

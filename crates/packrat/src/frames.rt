@@ -1,4 +1,4 @@
-//! The frames of what is under way.
+//! The frames of the tasks under way.
 ghost use Rattle.std.specs.Prelude.{◌≡◌, ◌<◌, List, [], ◌∷◌, IfSome, IfNone, OnOk, vec_capacity, vec_len};
 ghost use Rattle.packrat.specs.declared.frames.Frame.{Frame};
 
@@ -7,9 +7,9 @@ use ruletable::Memory;
 use std::alloc::Global;
 use std::marker::Model;
 
-/// What a spot waits for: the first spot that it asked for; or the last one, to give what that one gives, with the
-/// events of this head before its events; or, if it is a repetition with turns at all places up to this one, its own
-/// node behind them, to give what that one gives.
+/// Which child the frame awaits: the first one; or the last one, whose result it returns, with the events of this head
+/// before its events; or, of a repetition with an iteration at each position up to this one, its own node after them,
+/// whose result it returns.
 #[derive(Clone, Copy)]
 pub enum Wait {
     First,
@@ -17,7 +17,7 @@ pub enum Wait {
     Turned(usize),
 }
 
-/// A spot that is begun and not ended, whether it is a key, and what it waits for.
+/// A task under way, whether its result is memoized, and which child it awaits.
 #[derive(Clone, Copy)]
 pub struct Frame {
     pub spot: Spot,

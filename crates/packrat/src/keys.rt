@@ -1,4 +1,4 @@
-//! Which spots are keys.
+//! Which tasks are memoized.
 ghost use Rattle.std.specs.Prelude.{◌≡◌};
 ghost use Rattle.pegnodes.specs.KeyLists.{node_marks, tail_marks};
 ghost use Rattle.packrat.specs.Spots.{is_key as is_key_of};
@@ -6,7 +6,7 @@ ghost use Rattle.packrat.specs.Spots.{is_key as is_key_of};
 use gramcheck::SoundPeg;
 use memo::Spot;
 
-/// Tells whether a spot is a key of the grammar.
+/// Returns whether a task's result is memoized.
 pub(crate) fn is_key(peg: &SoundPeg, spot: Spot) -> bool
     ensures { result ≡ is_key_of (node_marks peg.now.keys) (tail_marks peg.now.keys) spot }
 {

@@ -1,6 +1,5 @@
-//! Laws of widths, of pairs that are asked for once, of the cells that a few stored keys imply, and of the machine's
-//! steps.
-ghost use Rattle.std.specs.Prelude.{◌≡◌, ℕ, ◌+◌, ◌≤◌, Bool, List, [], length, slice_get, Some};
+//! Laws of widths, of pairs that are asked for once, and of the cells that a few stored keys imply.
+ghost use Rattle.std.specs.Prelude.{◌≡◌, ℕ, ◌+◌, Bool, List, length, slice_get, Some};
 ghost use Rattle.pegread.specs.Pattern.{Rule};
 ghost use Rattle.pegnodes.specs.Nodes.{Shape};
 ghost use Rattle.gramcheck.specs.Outcome.{Outcome};
@@ -8,15 +7,10 @@ ghost use Rattle.gramcheck.specs.Sound.{IsRanked};
 ghost use Rattle.memo.specs.Entries.{Entry};
 ghost use Rattle.pegmatch.specs.Answers.{WasEnough};
 ghost use Rattle.pegmatch.specs.Visits.{NodeGives, NodeTakes, Visits};
-ghost use Rattle.memo.specs.Run.{total};
 ghost use Rattle.memo.specs.declared.spot.Spot.{Spot};
-ghost use Rattle.memo.specs.declared.spot.Spot.TheVariants.{Pair};
-ghost use Rattle.packrat.specs.MachineSteps.{State, Works, held, start_at, IsGood};
 ghost use Rattle.pegnodes.specs.KeyMarks.{AreMarks};
 ghost use Rattle.packrat.specs.Offset.{Offset, IsAskedBy};
-ghost use Rattle.packrat.specs.SpotSteps.{SpotSteps};
-ghost use Rattle.packrat.specs.Spots.{Leads, Kids, is_key};
-ghost use Rattle.packrat.specs.View.{weight, AreStored, AreImplied, AreBegun, Evaluates};
+ghost use Rattle.packrat.specs.View.{AreStored, AreImplied, AreBegun, Evaluates};
 ghost use Rattle.pegmatch.specs.VisitedCells.{AreVisitedCells};
 ghost use Rattle.pegnodes.specs.Width.{Width};
 
@@ -81,38 +75,4 @@ pub fn one_view()
         IsRanked rules start nodes bodies ranks → (marks : ℕ → Bool) (tails : ℕ → ℕ → Bool) (stored : List Spot)
         (cs ds : List Entry) → AreImplied rules start nodes bodies x more marks tails stored cs →
         AreImplied rules start nodes bodies x more marks tails stored ds → cs ≡ ds }
-{}
-
-/// The machine comes to its end with what an evaluation stores and begins, and to no other end.
-pub fn steps_run()
-    ensures run { (rules : List Rule) (nodes : List Shape) (bodies x : List ℕ) (more : Bool) (root start : ℕ)
-        (marks : ℕ → Bool) (tails : ℕ → ℕ → Bool) (stored begun : List Spot) →
-        SpotSteps rules nodes bodies x marks tails (start_at Spot (Pair root 0))
-        (Works (record { levels = []; stored = stored; begun = begun })) →
-        Evaluates rules start nodes bodies x more marks tails root stored
-        (total Spot (Kids rules nodes bodies x) (is_key marks tails) weight begun) }
-    ensures reach { (rules : List Rule) (start : ℕ) (nodes : List Shape) (bodies ranks x : List ℕ) (more : Bool) →
-        IsRanked rules start nodes bodies ranks → (root : ℕ) → slice_get bodies start ≡ Some root →
-        (marks : ℕ → Bool) (tails : ℕ → ℕ → Bool) → AreMarks start nodes bodies marks tails →
-        (stored : List Spot) (count : ℕ) → Evaluates rules start nodes bodies x more marks tails root stored count →
-        (begun : List Spot)
-        × (total Spot (Kids rules nodes bodies x) (is_key marks tails) weight begun ≡ count)
-        × SpotSteps rules nodes bodies x marks tails (start_at Spot (Pair root 0))
-        (Works (record { levels = []; stored = stored; begun = begun })) }
-{}
-
-/// On the way, what was begun are reached spots, each once; those of the frames are among them, each once, and none is
-/// stored; and no more pairs were begun than there are visited ones.
-pub fn steps_hold()
-    ensures good { (rules : List Rule) (start : ℕ) (nodes : List Shape) (bodies ranks x : List ℕ) →
-        IsRanked rules start nodes bodies ranks → (root : ℕ) → slice_get bodies start ≡ Some root →
-        (marks : ℕ → Bool) (tails : ℕ → ℕ → Bool) → AreMarks start nodes bodies marks tails → (s : State Spot) →
-        SpotSteps rules nodes bodies x marks tails (start_at Spot (Pair root 0)) s →
-        IsGood Spot (Leads rules nodes bodies x) (Pair root 0) (is_key marks tails) (held Spot s) }
-    ensures begun { (rules : List Rule) (start : ℕ) (nodes : List Shape) (bodies ranks x : List ℕ) (more : Bool) →
-        IsRanked rules start nodes bodies ranks → (root : ℕ) → slice_get bodies start ≡ Some root →
-        (marks : ℕ → Bool) (tails : ℕ → ℕ → Bool) → AreMarks start nodes bodies marks tails → (s : State Spot) →
-        SpotSteps rules nodes bodies x marks tails (start_at Spot (Pair root 0)) s →
-        (cells : List Entry) → AreVisitedCells rules start nodes bodies x more cells →
-        total Spot (Kids rules nodes bodies x) (is_key marks tails) weight (held Spot s).begun ≤ length cells }
 {}

@@ -12,11 +12,7 @@ mod onward;
 mod packrat;
 mod turns;
 
-pub use byte_laws::{
-    fresh_above_mark, one_byte_decides, turns_close, turns_give, turns_run, turns_whole,
-};
+pub use byte_laws::{fresh_above_mark, one_byte_decides};
 pub use frames::{Frame, Wait};
-pub use laws::{
-    asked_once, evaluated_once, implied_cells, one_view, one_width, steps_hold, steps_run,
-};
+pub use laws::{asked_once, evaluated_once, implied_cells, one_view, one_width};
 pub use packrat::Packrat;

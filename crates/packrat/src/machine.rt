@@ -29,7 +29,7 @@ use memo::{Found, Given, KeyLog, Spot};
 use pegnodes::Node;
 use ruletable::Memory;
 
-/// A spot is to be evaluated, or one gave this.
+/// The machine's next step: to evaluate a task, or to return a task's result to its frame.
 #[derive(Clone, Copy)]
 pub(crate) enum Turn {
     Ask(Spot),
@@ -46,7 +46,7 @@ pub(crate) struct Machine {
     pub(crate) begun: u128,
 }
 
-// Returns how many pairs are begun with this spot; there are no more than nodes at places.
+// Returns how many pairs are begun with this task. There are at most as many as nodes at positions.
 #[inline(always)]
 fn counted(nodes: usize, length: usize, begun: u128, spot: Spot) -> u128
     requires { begun ≤ nodes * (length + 1) }
@@ -58,7 +58,7 @@ fn counted(nodes: usize, length: usize, begun: u128, spot: Spot) -> u128
     }
 }
 
-// Returns what is stored for a spot, if it is a key and was evaluated.
+// Returns the memoized result of a task, if there is one.
 #[inline(always)]
 fn stored(log: &mut KeyLog, spot: Spot, key: bool) -> Result<Option<Given>, Memory>
     ensures some { IfOk result (λ found. IfSome found (λ g. (key ≡ true)
@@ -69,7 +69,7 @@ fn stored(log: &mut KeyLog, spot: Spot, key: bool) -> Result<Option<Given>, Memo
     if key { log.get(spot) } else { Ok(None) }
 }
 
-// Ends a spot that gives this: a key is stored.
+// Ends a task with this result, which it stores if the task is a key.
 #[inline(always)]
 fn close(
     log: &mut KeyLog,
@@ -91,8 +91,8 @@ fn close(
     Ok(())
 }
 
-// Waits for the last spot that a spot asks for, with the head of its events so far. A spot that is no key and has none
-// has no frame.
+// Pushes a frame that awaits a task's last child, with the head of the task's events so far. An unmemoized tail call
+// without events pushes none.
 #[inline(always)]
 fn wait_last(frames: &mut Frames, spot: Spot, key: bool, events: usize) -> Result<(), Memory>
     ensures { OnOk result (AreWaiting key events spot frames.old frames.new) }
@@ -109,7 +109,7 @@ fn wait_last(frames: &mut Frames, spot: Spot, key: bool, events: usize) -> Resul
     })
 }
 
-// Enters a tail, and returns what is asked for then: a tail that is no key leads to its member at once, and has a frame
+// Enters a tail, and returns the task to evaluate. A tail that is no key goes to its member at once, and pushes a frame
 // only if it has another member.
 #[inline(always)]
 fn enter(frames: &mut Frames, peg: &SoundPeg, entering: Entering) -> Result<Spot, Memory>
@@ -136,7 +136,7 @@ fn enter(frames: &mut Frames, peg: &SoundPeg, entering: Entering) -> Result<Spot
     })
 }
 
-// Returns what a spot gives whose last spot gives this, with the events of a head before its events.
+// Returns the result of a task whose last child has this result, with the events of a head before its events.
 #[inline(always)]
 fn joined(events: &mut EventLog, first: usize, given: Given) -> Result<Given, Memory>
     requires first { IsHead events.old first }
@@ -156,7 +156,7 @@ fn joined(events: &mut EventLog, first: usize, given: Given) -> Result<Given, Me
     }
 }
 
-// Stores what the turns of a repetition found of its operand, if that is a key.
+// Stores the results of a repetition's operand in the iterations, if the operand is a key.
 #[inline(always)]
 fn put_operands(log: &mut KeyLog, peg: &SoundPeg, window: &[u8], turns: Turns) -> Result<(), Memory>
     requires sound { IsSoundGrammar peg.now }
@@ -178,7 +178,7 @@ fn put_operands(log: &mut KeyLog, peg: &SoundPeg, window: &[u8], turns: Turns) -
     Ok(())
 }
 
-// Stores what a repetition gives that ends behind its turns, at all their places and there, if it is a key.
+// Stores the result of a repetition that ends after its iterations, at their positions and there, if it is a key.
 #[inline(always)]
 fn put_turns(
     log: &mut KeyLog,
@@ -204,7 +204,7 @@ fn put_turns(
     Ok(())
 }
 
-// Waits for what a repetition gives behind its turns. One that is no key has no frame.
+// Pushes a frame that awaits the result of a repetition after its iterations. One that is no key pushes none.
 #[inline(always)]
 fn wait_turned(frames: &mut Frames, peg: &SoundPeg, turns: Turns) -> Result<(), Memory>
     requires some { turns.from < turns.end }
@@ -224,7 +224,7 @@ fn wait_turned(frames: &mut Frames, peg: &SoundPeg, turns: Turns) -> Result<(), 
 }
 
 impl Machine {
-    // Begins a spot that is not stored, and goes down or gives something; none where the window is too short.
+    // Begins a task that is not stored, and goes to a child or returns a result. None if the window is too short.
     #[inline(always)]
     fn start_spot(
         &mut self,
@@ -286,8 +286,8 @@ impl Machine {
         }
     }
 
-    // Returns turns from a spot on that bytes decide, if it is a pair of a repetition, and no key among their pairs is
-    // stored.
+    // Returns the iterations from a task on that bytes decide, if it is a pair of a repetition and no key among their
+    // pairs is stored.
     #[inline(always)]
     fn turns_at(&self, peg: &SoundPeg, window: &[u8], more: bool, spot: Spot) -> Option<Turns>
         requires some { WasEnough window.now more 0 }
@@ -317,7 +317,7 @@ impl Machine {
         }
     }
 
-    // Goes along turns that bytes decide, to the repetition's end or to its pair behind them.
+    // Goes over iterations that bytes decide, to the repetition's end or to its pair after them.
     fn run_turns(
         &mut self,
         peg: &SoundPeg,
@@ -368,7 +368,7 @@ impl Machine {
         }
     }
 
-    // Evaluates a spot, or begins it and goes down; none where the window is too short.
+    // Evaluates a task, or begins it and goes to a child. None if the window is too short.
     #[inline(always)]
     fn ask(
         &mut self,
@@ -403,7 +403,7 @@ impl Machine {
         }
     }
 
-    // Goes on with a frame that was the last one, and whose first spot gave this.
+    // Goes on with the frame that was the last one, and whose first child has this result.
     #[inline(always)]
     fn after_first(
         &mut self,
@@ -453,7 +453,7 @@ impl Machine {
         }
     }
 
-    // Goes on with a frame that was the last one, and whose spot gave this.
+    // Goes on with the frame that was the last one, and whose awaited child has this result.
     #[inline(always)]
     fn resume(
         &mut self,

@@ -1,5 +1,5 @@
-//! How a spot goes on: what it gives at once, and what it asks for.
-ghost use Rattle.std.specs.Prelude.{◌≡◌, ℕ, ◌<◌, ◌≤◌, Bool, List, length};
+//! How a task goes on: which result it has at once, and which children it asks for.
+ghost use Rattle.std.specs.Prelude.{◌≡◌, ◌<◌, Bool, List, length};
 ghost use Rattle.pegread.specs.PegViews.{rules_of};
 ghost use Rattle.gramcheck.specs.Grammar.{IsSoundGrammar};
 ghost use Rattle.pegnodes.specs.Nodes.{shapes_of};
@@ -25,9 +25,9 @@ pub(crate) struct Entering {
     pub(crate) only: bool,
 }
 
-/// How a spot begins: it gives something without events; or takes nothing, and leaves an event behind; or leads to
-/// another spot; or to its only one, or to a tail that is its only one, and passes on what that one gives; or its
-/// comparison reaches the last byte of a window behind which there is more.
+/// How a task begins. It has a result without events; or takes nothing, and leaves an event; or asks for a child; or
+/// asks for its only child, which may be a tail, and passes on its result; or its comparison reaches the last byte of a
+/// window that more bytes follow.
 #[derive(Clone, Copy)]
 pub(crate) enum Begun {
     Gives(Found),
@@ -38,8 +38,8 @@ pub(crate) enum Begun {
     Need,
 }
 
-/// How a spot goes on: it gives something without events; or the same as its first one; or it leads to its last one, or
-/// to a tail that is its last one, and gives what that one gives, with the events of its first one before those.
+/// How a task goes on after its first child. It has a result without events; or that of its first child; or it asks for
+/// its last child, which may be a tail, and returns that one's result, with the events of its first child before those.
 #[derive(Clone, Copy)]
 pub(crate) enum Onward {
     Gives(Found),
@@ -63,7 +63,7 @@ fn tail_from(node: usize, members: &[usize], index: usize, place: usize) -> Ente
     }
 }
 
-// Returns what was tried, if its comparison does not reach the last byte of a window behind which there is more.
+// Returns what was tried, if its comparison does not reach the last byte of a window that more bytes follow.
 #[inline(always)]
 fn leaf(tried: Tried, length: usize, more: bool) -> Begun
     ensures { IsLeaf tried length more result }
@@ -76,7 +76,7 @@ fn leaf(tried: Tried, length: usize, more: bool) -> Begun
     Begun::Gives(tried.found)
 }
 
-// How a node begins at a place.
+// Returns how a node begins at a position.
 #[inline(always)]
 fn begin_node(peg: &SoundPeg, window: &[u8], more: bool, node: usize, place: usize) -> Begun
     requires some { WasEnough window.now more 0 }
@@ -132,7 +132,7 @@ fn begin_node(peg: &SoundPeg, window: &[u8], more: bool, node: usize, place: usi
     }
 }
 
-// How a spot begins that leads to this one, and that passes on what this one gives if this is its only one.
+// Returns how a task begins that asks for this child, and passes on its result if it is the only one.
 #[inline(always)]
 fn led(only: bool, kid: Spot) -> Begun
     ensures { result ≡ led_to only kid }
@@ -144,7 +144,7 @@ fn led(only: bool, kid: Spot) -> Begun
     }
 }
 
-// How the tail of a node, from the member of that index on, begins at a place.
+// Returns how the tail of a node, from the member of that index on, begins at a position.
 #[inline(always)]
 fn begin_tail(
     peg: &SoundPeg,
@@ -178,7 +178,7 @@ fn begin_tail(
     }
 }
 
-/// Returns how a spot begins: what it gives at once, or what it asks for first.
+/// Returns how a task begins: its result, or the child that it asks for first.
 #[inline(always)]
 pub(crate) fn begin(peg: &SoundPeg, window: &[u8], more: bool, spot: Spot) -> Begun
     requires some { WasEnough window.now more 0 }
@@ -192,7 +192,7 @@ pub(crate) fn begin(peg: &SoundPeg, window: &[u8], more: bool, spot: Spot) -> Be
     }
 }
 
-// How a node goes on at a place whose first kid gave this.
+// Returns how a node at a position goes on whose first child has this result.
 #[inline(always)]
 fn go_on_node(peg: &SoundPeg, window: &[u8], node: usize, place: usize, found: Found) -> Onward
     requires sound { IsSoundGrammar peg.now }
@@ -238,7 +238,7 @@ fn go_on_node(peg: &SoundPeg, window: &[u8], node: usize, place: usize, found: F
     }
 }
 
-// How a tail goes on at a place whose member gave this.
+// Returns how a tail at a position goes on whose member has this result.
 #[inline(always)]
 fn go_on_tail(
     peg: &SoundPeg,
@@ -280,7 +280,7 @@ fn go_on_tail(
     }
 }
 
-/// Returns how a spot goes on whose first kid gave this.
+/// Returns how a task goes on whose first child has this result.
 #[inline(always)]
 pub(crate) fn go_on(peg: &SoundPeg, window: &[u8], spot: Spot, found: Found) -> Onward
     requires sound { IsSoundGrammar peg.now }

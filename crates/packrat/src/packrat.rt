@@ -4,7 +4,6 @@ ghost use Rattle.std.specs.Prelude.{IfSome, IfNone};
 ghost use Rattle.memo.specs.KeyLog.{spots_of};
 ghost use Rattle.memo.specs.Parts.{IsIn};
 ghost use Rattle.memo.specs.declared.key_log.Given.{Given};
-ghost use Rattle.pegnodes.specs.Nodes.{shapes_of};
 ghost use Rattle.gramcheck.specs.Outcome.{Event, Outcome};
 ghost use Rattle.pegmatch.specs.Answers.{StartGives, IsAnswer, HoldsSuccess, Replays};
 ghost use Rattle.pegmatch.specs.Text.{text_of};
@@ -188,7 +187,7 @@ impl Matcher for Packrat {
     ///
     /// # Errors
     /// - `Memory` if an allocation fails; nothing was written, and nothing is stored.
-    /// - `Write` if the writer failed; a beginning was written.
+    /// - `Write` if the writer failed; a prefix was written.
     fn replay<W: Sink>(
         &mut self,
         peg: &SoundPeg,

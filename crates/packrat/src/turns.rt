@@ -1,7 +1,6 @@
-//! Turns of a repetition over bytes that decide them.
+//! Iterations of a repetition over bytes that decide them.
 ghost use Rattle.std.specs.Prelude.{◌≡◌, ◌+◌, ◌<◌, ◌≤◌, ℕ, true, length, slice_get, Some, IfSome};
 ghost use Rattle.pegread.specs.PegViews.{rules_of};
-ghost use Rattle.gramcheck.specs.Grammar.{IsSoundGrammar};
 ghost use Rattle.pegnodes.specs.KeyLists.{node_marks};
 ghost use Rattle.pegnodes.specs.Nodes.{Star, shapes_of};
 ghost use Rattle.memo.specs.KeyLog.{spots_of};
@@ -14,8 +13,8 @@ use gramcheck::SoundPeg;
 use memo::KeyLog;
 use pegnodes::{RunTable, Verdict};
 
-/// Names a repetition, its operand, and two places between which it takes the bytes by turns that the bytes decide.
-/// So many pairs begin with that. If `whole` is true, the byte behind them decides that it ends there.
+/// Names a repetition, its operand, and two positions between which it takes the bytes by iterations that the bytes
+/// decide. So many pairs begin with that. If `whole` is true, the byte after them decides that it ends there.
 #[derive(Clone, Copy)]
 pub(crate) struct Turns {
     pub(crate) star: usize,
@@ -26,7 +25,7 @@ pub(crate) struct Turns {
     pub(crate) whole: bool,
 }
 
-// Returns the place up to which the bytes of a window may decide: all do but the last one if there is more behind it.
+// Returns the position up to which the bytes of a window may decide: the last byte may not if more bytes follow it.
 #[inline(always)]
 fn sure_end(window: &[u8], more: bool) -> usize
     requires { WasEnough window.now more 0 }
@@ -36,8 +35,8 @@ fn sure_end(window: &[u8], more: bool) -> usize
     if more { window.len() - 1 } else { window.len() }
 }
 
-// Returns how many pairs begin where a repetition ends at a place, if the byte there, before the place `to`, decides
-// that its operand fails.
+// Returns how many pairs begin where a repetition ends at a position, if the byte there, before `to`, decides that
+// its operand fails.
 #[inline(always)]
 fn closing(table: &RunTable, window: &[u8], at: usize, to: usize) -> Option<u128>
     requires { to ≤ length window.now }
@@ -66,7 +65,8 @@ fn summed(a: u128, b: u128) -> Option<u128>
     }
 }
 
-/// Returns what the bytes from a place on decide of a repetition of this operand, if they decide a turn or its end.
+/// Returns what the bytes from a position on decide of a repetition of this operand, if they decide an iteration or its
+/// end.
 pub(crate) fn find_turns(
     peg: &SoundPeg,
     window: &[u8],
@@ -110,7 +110,7 @@ pub(crate) fn find_turns(
     })
 }
 
-/// Tells whether no pair of a node is stored from a place on, if the node is a key.
+/// Returns whether no pair of a node is stored from a position on, if the node is a key.
 #[inline(always)]
 pub(crate) fn is_fresh(log: &KeyLog, peg: &SoundPeg, node: usize, from: usize) -> bool
     ensures { result ≡ true → (n : ℕ) →

@@ -1,4 +1,4 @@
--- Which kinds can stand behind tokens that the machine took.
+-- Which kinds can stand after tokens that the machine took.
 -- Serves: explain_fault
 use Rattle.std.proofs.Common.{◌≡◌, ℕ, ◌+◌, ◌⊎◌, inl, inr, true, false, Option, Some, None, List, []}
 use Rattle.std.proofs.Common.{◌∷◌, ◌++◌, length, take, refl, sym, ap, ◌∙◌, arith, length-append, is_some}

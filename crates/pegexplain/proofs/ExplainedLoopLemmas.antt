@@ -125,7 +125,7 @@ module _ (text : List ℕ) (found : PegPlaces) (name : List ℕ) (are : ArePegPl
         }));
   }
 
--- the line stands behind notes of one kind
+-- the line follows notes of one kind
 pub line-behind : (text : List ℕ) (kind : NoteKind) (name line : List ℕ) → kind ≡ Loop → IsLoopTold text name line
     → IsLineBehind text kind name line
 line-behind text kind name line is told = rw is told

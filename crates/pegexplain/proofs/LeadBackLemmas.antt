@@ -7,7 +7,6 @@ use Rattle.std.specs.Prelude.{option_map, option_to_list, slice_get, slice_index
 use Rattle.std.specs.List.{flat_map, position_or_len}
 use Rattle.std.proofs.lemmas.Bool.Decides.{same_from_decides, nat_tests}
 use Rattle.std.proofs.lemmas.Grind.{flat_map-append}
-use Rattle.std.proofs.lemmas.List.{length-map}
 use Rattle.std.proofs.lemmas.List.Elements.{Contains-append_cases, Contains-append_left, Contains-append_right}
 use Rattle.std.proofs.lemmas.List.Quantifiers.{position-Some}
 use Rattle.std.proofs.lemmas.List.Recursion.{is_position_or_len}
@@ -186,7 +185,7 @@ module _ (rules : List Rule) (null : Pattern → Bool) (tells : TellsNullable ru
   name_meets name m None is h = absurd (none_of m h)
   name_meets name m (Some id) is h = record { name = name; is = is ∙ ap Some (only_one id m h); way = inl refl }
 
-  -- in a sequence, where left steps lead to the members behind a nullable one
+  -- in a sequence, where left steps lead to the members after a nullable one
   record MeetsMember (es : Patterns) (m : ℕ) : Type 0 where
     member : Pattern
     front : Front rules es member

@@ -1,8 +1,10 @@
--- What stands behind a note on a left-recursive rule, and that it is one text.
+-- What follows a note on a left-recursive rule, and that it is one text.
 -- Serves: explain_peg_note, one_note_explanation
-use Rattle.std.proofs.Common.{◌≡◌, ◌<◌, ◌+◌, ℕ, zero, suc, Bool, true, false, List, [], ◌∷◌, length, map}
+use Rattle.std.proofs.Common.{◌≡◌, ◌<◌, ◌≤◌, ◌+◌, ℕ, zero, suc, Bool, true, false, List, [], ◌∷◌, length, map}
 use Rattle.std.proofs.Common.{Option, Some, None, refl, sym, ap, ◌∙◌, subst, arith, bytes_eq, if◌then◌else◌, nat_lt}
 use Rattle.std.specs.Prelude.{slice_get, slice_index_or}
+use Rattle.std.proofs.lemmas.Bool.{le-ltb, lt-ltb}
+use Rattle.std.proofs.lemmas.List.{length-map}
 use Rattle.fixpoint.specs.NumberMarks.{IsMarked}
 use Rattle.fixpoint.proofs.IsMarkedLemmas.{marked_lt}
 use Rattle.diagnostics.specs.BodyMentions.{mentioned_at, mentions_in}
@@ -38,6 +40,7 @@ use Rattle.pegexplain.specs.PegNotes.{ArePegPlaces, IsLeftTold, IsLineBehind, de
 use Rattle.pegexplain.specs.declared.left_notes.TheConstants.{MAX_WAYS}
 use Rattle.pegexplain.specs.declared.places.PegPlaces.{PegPlaces}
 use Rattle.pegexplain.proofs.LeftSameLemmas.{own-rows, rows-same, way-same}
+use Rattle.pegexplain.proofs.LeftWithinLemmas.{found-below}
 use Rattle.pegexplain.proofs.NullTestsLemmas.{null-told, told-null}
 
 -- one truth value holds as the other does
@@ -46,7 +49,7 @@ bits-same true b f g = sym (f refl)
 bits-same false true f g = g refl
 bits-same false false f g = refl
 
--- one way back is told at most
+-- one way back is reported at most
 abbrev pub RoundsAreOne : Type 0
 RoundsAreOne = (rows : List (List ℕ)) (id : ℕ) (a b : Option (List ℕ)) → IsRoundIfAny rows id a
     → IsRoundIfAny rows id b → a ≡ b
@@ -131,6 +134,21 @@ module _ (text : List ℕ) (found : PegPlaces) (are : ArePegPlaces text found) w
   ids-agree name = (let exact = are.rules.exact in
       rw exact (sym (position-map rule_of (λ (rule : Rule). bytes_eq name rule.name) found.rules.rules)))
 
+  -- whether a rule is among the first ones
+  module _ (name : List ℕ) (id : ℕ) (is : find_in found.rules name ≡ Some id) where
+    id-marked : id < length found.recursive.items
+    id-marked =
+        let lt = found-below found.rules name id is in
+        let count = are.recursive.count in
+        let rows = length-map found.rules.rules rule_of in
+        omega (arith, lt, count, rows)
+
+    pub early-by : id < found.ways → is_early found.recursive.items id ≡ true
+    early-by lt = sym (are.ways id id-marked) ∙ lt-ltb id found.ways lt
+
+    pub late-by : found.ways ≤ id → is_early found.recursive.items id ≡ false
+    late-by le = sym (are.ways id id-marked) ∙ le-ltb id found.ways le
+
   module _ (name told : List ℕ) where
     pub left-told : (o : Option ℕ) → find_in found.rules name ≡ o → AreLeftLines (rules_of found.rules) null_by
         (named_lines text are.places.tokens) (defined_lines text are.places.tokens name) found.recursive.items o told
@@ -194,7 +212,7 @@ module _ (text : List ℕ) (found : PegPlaces) (are : ArePegPlaces text found) w
               (rules_of found.rules) id chain;
         }))
 
--- it stands behind notes on such rules
+-- it follows notes on such rules
 pub left-behind : (text : List ℕ) (kind : NoteKind) (name line : List ℕ) → kind ≡ LeftRecursion
     → IsLeftTold text name line → IsLineBehind text kind name line
 left-behind text kind name line is told = rw is told

@@ -1,4 +1,4 @@
--- Tests that tell the same of every expression lead to the same left steps and lines.
+-- Tests that say the same of every expression lead to the same left steps and lines.
 -- Serves: explain_peg_note, one_note_explanation
 use Rattle.std.proofs.Common.{◌≡◌, ◌&&◌, ℕ, zero, suc, Bool, true, List, [], ◌∷◌, ◌++◌, Option, Some, None, map}
 use Rattle.std.proofs.Common.{refl, ap, ◌∙◌, if◌then◌else◌}

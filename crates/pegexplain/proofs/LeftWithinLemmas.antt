@@ -1,9 +1,10 @@
--- Left steps lead to rules of the table alone.
--- Serves: explain_peg_note
-use Rattle.std.proofs.Common.{◌≡◌, ◌<◌, ◌≤◌, ◌+◌, ℕ, zero, suc, Bool, true, false, List, [], ◌∷◌, Contains, map}
-use Rattle.std.proofs.Common.{Option, Some, None, length, refl, subst, arith, ⊎_elim, if◌then◌else◌}
+-- Left steps lead to rules of the table alone; and where the first left-recursive rules end.
+-- Serves: explain_peg_note, peg_places
+use Rattle.std.proofs.Common.{◌≡◌, ◌<◌, ◌≤◌, ℕ, zero, suc, Bool, true, false, List, [], ◌∷◌, Contains, map}
+use Rattle.std.proofs.Common.{Option, Some, None, length, nat_lt, refl, sym, subst, arith, ⊎_elim, if◌then◌else◌, ◌∙◌}
 use Rattle.std.specs.Prelude.{option_to_list, slice_index_or}
 use Rattle.std.specs.List.{flat_map, position}
+use Rattle.std.proofs.lemmas.Bool.{cases_lt, le-ltb, lt-ltb}
 use Rattle.std.proofs.lemmas.List.{length-map}
 use Rattle.std.proofs.lemmas.List.Elements.{Contains-append_cases}
 use Rattle.std.proofs.lemmas.List.Quantifiers.{position-Some}
@@ -14,7 +15,7 @@ use Rattle.ruletable.specs.Rules.{find_in, same_name}
 use Rattle.pegread.specs.Pattern.{Pattern}
 use Rattle.pegread.specs.PegViews.{pattern_of}
 use Rattle.pegread.specs.declared.expr.Expr.{Expr}
-use Rattle.pegexplain.specs.LeftNotes.{set_before}
+use Rattle.pegexplain.specs.LeftNotes.{EndsEarly, is_early, set_before}
 use Rattle.pegexplain.specs.LeftUses.{NameUse, left_row, use_ids, uses_in}
 
 first-below : (p : table.Rule Expr → Bool) (rules : List (table.Rule Expr)) (id : ℕ) → position p rules ≡ Some id
@@ -57,11 +58,25 @@ module _ (f : List ℕ → Option ℕ) (count : ℕ) (below : (name : List ℕ) 
           omega (arith, below-count, counted, all);
     }
 
--- no more marks are set before a place than there are places
-pub set-below : (marks : List Bool) (n : ℕ) → set_before marks n ≤ n
-set-below marks zero = omega arith
-set-below marks (suc n) = (let before = set-below marks n in one-more (slice_index_or marks n false) before)
-  where
-    one-more : (b : Bool) → set_before marks n ≤ n → set_before marks n + (if b then 1 else 0) ≤ suc n
-    one-more true before = omega (arith, before)
-    one-more false before = omega (arith, before)
+-- more marks are set before a later position
+set-grows : (marks : List Bool) (a b : ℕ) → a ≤ b → set_before marks a ≤ set_before marks b
+set-grows marks a zero le = (let same : a ≡ 0 = omega (arith, le) in
+    subst (λ (k : ℕ). set_before marks k ≤ 0) (sym same) (omega arith))
+set-grows marks a (suc b) le = ⊎_elim (λ lt. (let before = set-grows marks a b (omega (arith, lt)) in
+    omega (arith, before))) (λ ge. (let same : a ≡ suc b = omega (arith, le, ge) in
+    subst (λ (k : ℕ). set_before marks k ≤ set_before marks (suc b)) (sym same) (omega arith)))
+    (cases_lt a (suc b))
+
+module _ (marks : List Bool) (end : ℕ) (few : (k : ℕ) → k < end → set_before marks k < 8) where
+  before-end : (k : ℕ) → k < end → nat_lt k end ≡ is_early marks k
+  before-end k lt = lt-ltb k end lt ∙ sym (lt-ltb (set_before marks k) 8 (few k lt))
+
+  -- where as many are set
+  pub many-end : 8 ≤ set_before marks end → EndsEarly marks end
+  many-end many = λ k lt. ⊎_elim (λ before. before-end k before)
+      (λ after. (let grown = set-grows marks end k after in
+      le-ltb k end after ∙ sym (le-ltb (set_before marks k) 8 (omega (arith, grown, many))))) (cases_lt k end)
+
+  -- where all marks are before it
+  pub all-end : length marks ≤ end → EndsEarly marks end
+  all-end all = λ k lt. before-end k (omega (arith, lt, all))

@@ -1,4 +1,4 @@
--- The tests by marks tell which expressions may take nothing.
+-- The tests by marks say which expressions may take nothing.
 -- Serves: explain_peg_note
 use Rattle.std.proofs.Common.{◌≡◌, ◌&&◌, ◌||◌, ℕ, Bool, true, false, List, [], ◌∷◌, length, map, Option, Some, None}
 use Rattle.std.proofs.Common.{refl}

@@ -38,7 +38,7 @@ module _ (place : Place) (ts : List Tok) (i : ℕ) (h : TellsKinds place ts i) w
   by-test k true e s = e
   by-test k false e s = absurd (h.other k e s)
 
-  -- what the place tells can stand there
+  -- what the place says can stand there
   pub place-tells : {ws : List (List ℕ)} → AreTold (λ k. allows place k ≡ true) phrases ws
       → AreTold (CanStand ts i) phrases ws
   place-tells t = told-same h.stand (λ k s. by-test k (allows place k) refl s) t
@@ -71,7 +71,7 @@ fault-decided text faults.TooLong m l h = absurd (l refl)
 fault-decided text faults.Memory m l h = absurd (m refl)
 fault-decided text (faults.NumberTooLarge line) m l h = absurd h
 
--- the pieces, one behind the other
+-- the pieces, one after the other
 pub two-join : (o a b place said : List ℕ) → o ≡ [] → a ≡ o ++ place → b ≡ a ++ said → b ≡ place ++ said
 two-join o a b place said z f g = rw (g, f, z) refl
 

@@ -1,4 +1,4 @@
--- What is told of hints, and that it is one text.
+-- What is reported of hints, and that it is one text.
 -- Serves: peg_hints, one_text_of_hints
 use Rattle.std.proofs.Common.{◌≡◌, ℕ, zero, suc, ◌+◌, ◌-◌, ◌<◌, min, List, [], ◌∷◌, ◌++◌, length, get_or, map, take}
 use Rattle.std.proofs.Common.{refl, Option}
@@ -70,7 +70,7 @@ first-told lines hints k old out new shown first rest =
     (more_told (length hints - k))
     ∙ ap (λ (n : ℕ). old ++ (flat_map (hint_told lines) (take MAX_HINTS (map hint_found hints)) ++ more_told n)) left
 
--- the rule of a hint, and its line behind it
+-- the rule of a hint, and its line after it
 pub hint-join : (o a b rule later earlier known lines : List ℕ) (place : ℕ) (line : Option ℕ) → a ≡ o ++ rule_told rule
     → b ≡ a ++ hint_line line later earlier → line ≡ slice_get known place → known ≡ lines
     → b ≡ o ++ (rule_told rule ++ hint_line (slice_get lines place) later earlier)
@@ -80,7 +80,7 @@ hint-join o a b rule later earlier known lines place line f g is same =
     ∙ ap (λ (l : Option ℕ). o ++ (rule_told rule ++ hint_line l later earlier))
     (is ∙ ap (λ (ls : List ℕ). slice_get ls place) same)
 
--- lines that are the same tell the same
+-- lines that are the same report the same
 module _ (f g : List ℕ → List ℕ) (same : (name : List ℕ) → f name ≡ g name) where
   each-same : (hints : List HintAt) → flat_map (hint_told f) hints ≡ flat_map (hint_told g) hints
   each-same [] = refl
@@ -93,7 +93,7 @@ module _ (f g : List ℕ → List ℕ) (same : (name : List ℕ) → f name ≡ 
   told-same hints =
       ap (λ (z : List ℕ). z ++ more_told (length hints - MAX_HINTS)) (each-same (take MAX_HINTS hints))
 
--- what the code tells by its places
+-- what the code reports by its positions
 pub places-hint : (text : List ℕ) (found : PegPlaces) (told : List ℕ) → ArePegPlaces text found
     → told ≡ hints_told (mention_lines_by found.places Literal) (hints_of (rules_of found.rules))
     → ArePegHints text told

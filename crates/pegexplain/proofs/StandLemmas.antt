@@ -1,4 +1,4 @@
--- The machine's steps, as far as kinds tell.
+-- The machine's steps, as far as kinds say.
 -- Serves: explain_fault
 use Rattle.std.proofs.Common.{◌≡◌, ℕ, Option, Some, None, List, [], ◌∷◌, refl}
 use Rattle.ruletable.specs.declared.span.Span.{Span}
@@ -57,7 +57,7 @@ says-kind (says_class h) = refl
 says-kind (says_action h) = refl
 says-kind says_end = refl
 
--- where the machine stands behind a step
+-- where the machine stands after a step
 abbrev pub place_after : Option Config → Option Place
 place_after None = None
 place_after (Some c) = Some (place_of c)

@@ -121,7 +121,7 @@ module _ {text : List ℕ} {left : List Tok → Type 0} {place : Place} {ts : Li
         (step-there h.config h.say h.reached h.shallow place h.stands w.0 (kind_of t) (says-kind w.1) ∙ some) in
         record { word = w.0; says = w.1; config = d.0; steps = d.1; stands = d.2 }
 
-    -- too many brackets are open behind it
+    -- too many brackets are open after it
     pub deep-there : MAX_OPEN < next.depth → IsTokenOf text t IsTooDeep
     deep-there lt =
         let o = goes-on in

@@ -52,7 +52,7 @@ abbrev mutual
   member_literals hidden none = []
   member_literals hidden (more e es) = literals_in hidden e ++ member_literals None es
 
-  -- those in alternatives that stand behind others, of which these literals are alternatives
+  -- those in alternatives that stand after others, of which these literals are alternatives
   pub alternative_literals : List (List ℕ) → Patterns → List LiteralAt
   alternative_literals before none = []
   alternative_literals before (more e es) =

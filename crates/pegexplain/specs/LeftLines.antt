@@ -1,4 +1,4 @@
--- The lines behind a note on a left-recursive rule.
+-- The lines after a note on a left-recursive rule.
 use Rattle.std.specs.Prelude.{◌≡◌, ℕ, zero, suc, ◌&&◌, Bool, true, List, [], ◌∷◌, ◌++◌, length, map, slice_get}
 use Rattle.std.specs.Prelude.{slice_index_or, if◌then◌else◌, Option, Some, None, bytes_eq, codes, decimal}
 use Rattle.diagnostics.specs.ShownBytes.{cut}

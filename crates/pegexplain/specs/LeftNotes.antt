@@ -1,13 +1,13 @@
 -- Which notes on left-recursive rules are explained by the steps of a way back, and what explains one.
-use Rattle.std.specs.Prelude.{◌≡◌, ◌↔◌, ℕ, zero, suc, ◌+◌, Bool, true, false, List, [], Option, Some, None, nat_lt}
-use Rattle.std.specs.Prelude.{if◌then◌else◌, slice_get, slice_index_or}
+use Rattle.std.specs.Prelude.{◌≡◌, ◌↔◌, ℕ, zero, suc, ◌+◌, ◌<◌, Bool, true, false, List, [], Option, Some, None}
+use Rattle.std.specs.Prelude.{if◌then◌else◌, length, nat_lt, slice_get, slice_index_or}
 use Rattle.fixpoint.specs.Leads.{Leads}
 use Rattle.gramcheck.specs.Left.{IsLeftRecursive, Nullable}
 use Rattle.pegread.specs.Definitions.{id_in}
 use Rattle.pegread.specs.Pattern.{Pattern, Rule}
 use Rattle.pegexplain.specs.LeftLines.{IsWayTold}
 
--- the test tells exactly which expressions may take nothing
+-- the test says exactly which expressions may take nothing
 abbrev pub TellsNullable : List Rule → (Pattern → Bool) → Type 0
 TellsNullable rules null = (e : Pattern) → (null e ≡ true) ↔ Nullable rules e
 
@@ -22,9 +22,13 @@ abbrev pub set_before : List Bool → ℕ → ℕ
 set_before marks zero = 0
 set_before marks (suc n) = set_before marks n + (if slice_index_or marks n false then 1 else 0)
 
--- whether a rule is among the first eight left-recursive ones, of which marks tell
+-- whether a rule is among the first eight left-recursive ones, of which marks say
 abbrev pub is_early : List Bool → ℕ → Bool
 is_early marks id = nat_lt (set_before marks id) 8
+
+-- of the marked rules, the first eight stand before that id
+abbrev pub EndsEarly : List Bool → ℕ → Type 0
+EndsEarly marks end = (id : ℕ) → id < length marks → nat_lt id end ≡ is_early marks id
 
 -- where it is known which expressions may take nothing, and on which lines the names in a rule's first definition stand
 module _ (rules : List Rule) (null : Pattern → Bool) (lines : List ℕ → List ℕ) where

@@ -19,7 +19,7 @@ pub record IsTokenOf (text : List ℕ) (t : Tok) (Holds : List Tok → ℕ → T
   pub there : slice_get all number ≡ Some t
   pub holds : Holds all number
 
--- the place tells which kinds can stand where token i does
+-- the place says which kinds can stand where token i does
 pub record TellsKinds (place : Place) (ts : List Tok) (i : ℕ) : Type 0 where
   pub stand : (k : Kind) → allows place k ≡ true → CanStand ts i k
   pub other : (k : Kind) → allows place k ≡ false → CanStand ts i k → ⊥

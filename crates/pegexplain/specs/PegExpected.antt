@@ -1,4 +1,4 @@
--- What can stand at a place of a grammar's text, and the phrases that tell it.
+-- What can stand at a place of a grammar's text, and the phrases for it.
 use Rattle.std.specs.Prelude.{◌≡◌, ℕ, List, [], ◌∷◌, ◌++◌, take, codes}
 use Rattle.diagnostics.specs.ToldPhrases.{Phrase}
 use Rattle.lexer.specs.TokenLists.{kind_of}
@@ -18,12 +18,12 @@ pub record CanStand (ts : List Tok) (i : ℕ) (k : Kind) : Type 0 where
 abbrev pub plain : List ℕ → List Kind → Phrase Kind
 plain z ks = record { words = z; kinds = ks; bars = [] }
 
--- the kinds that begin an item behind any prefix
+-- the kinds that begin an item after any prefix
 abbrev pub firm_items : List Kind
 firm_items = Ident ∷ Literal ∷ Class ∷ Dot ∷ LParen ∷ Begin ∷ EndCap ∷ []
 
--- The phrases, in the order in which they are told. A name that only may begin a definition is told as a name, and else
--- as an element.
+-- The phrases, in the order in which they are reported. A name that only may begin a definition is reported as a
+-- name, and else as an element.
 abbrev pub phrases : List (Phrase Kind)
 phrases =
     record { words = codes "a name"; kinds = Ident ∷ []; bars = Literal ∷ [] } ∷ plain (codes "\"<-\"") (Arrow ∷ [])

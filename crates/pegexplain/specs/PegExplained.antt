@@ -1,4 +1,4 @@
--- What explains a fault of a grammar's text: the lines behind its message.
+-- What explains a fault of a grammar's text: the lines after its message.
 use Rattle.std.specs.Prelude.{◌≡◌, ℕ, ◌<◌, ◌≤◌, length, slice_get, List, [], ◌∷◌, ◌++◌, Some, codes}
 use Rattle.lexer.specs.TokenLists.{tok}
 use Rattle.lexer.specs.GrammarLimits.{max_grammar}
@@ -14,12 +14,12 @@ use Rattle.ruletable.specs.declared.fault.ReadFault.TheVariants.{Memory}
 use Rattle.ruletable.specs.declared.lines.LineRule.TheVariants.{Any}
 use Rattle.pegexplain.specs.PegExpected.{CanStand, phrases}
 
--- what stands before what is told of a token: its place, but for the end
+-- what stands before what is reported of a token: its position, but for the end
 abbrev pub token_place : List ℕ → Tok → List ℕ
 token_place text (tok End z p) = codes "  at the end of the text: "
 token_place text (tok _ z p) = place_told Any text p.start
 
--- what the first bytes of what begins no token tell
+-- what the first bytes of what begins no token show
 abbrev pub bad_rows : List Row
 bad_rows =
     record { begins = codes "'"; told = codes "the literal has no closing quote" }
@@ -33,7 +33,7 @@ bad_rows =
     ∷ record { begins = codes "|"; told = codes "alternatives have \"/\" between them" }
     ∷ record { begins = codes "-"; told = codes "names hold letters, digits and \"_\"" } ∷ []
 
--- what the token itself tells
+-- what the token itself shows
 abbrev pub token_facts : Tok → List ℕ
 token_facts (tok Bad z p) = first_told bad_rows z
 token_facts (tok _ z p) = []
@@ -51,7 +51,7 @@ pub data Why (text : List ℕ) : List ℕ → Type 0 where
       → slice_get all i ≡ Some t → IsTooDeep all i →
       Why text (token_place text t ++ codes "200 brackets are open before it\n")
 
--- the lines behind the message of a fault: none behind that of want of memory
+-- the lines after the message of a fault: none after that of a failed allocation
 abbrev pub Explains : List ℕ → ReadFault → List ℕ → Type 0
 Explains text Memory why = why ≡ []
 Explains text _ why = Why text why

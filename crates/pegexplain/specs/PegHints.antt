@@ -25,7 +25,7 @@ pub record HintAt : Type 0 where
   pub later : List ℕ
   pub earlier : List ℕ
 
--- the hint that a literal of a rule at a place among them tells, if it is hidden
+-- the hint on a literal of a rule at a position among them, if it is hidden
 abbrev pub hint_by : List ℕ → ℕ → List ℕ → Option (List ℕ) → List HintAt
 hint_by rule place later None = []
 hint_by rule place later (Some earlier) = record { rule = rule; place = place; later = later; earlier = earlier } ∷ []
@@ -41,7 +41,7 @@ body_hints rule body = flat_map (hint_if rule) (enumerate_from 0 (literals_in No
 abbrev pub hints_of : List Rule → List HintAt
 hints_of rules = flat_map (λ rule. body_hints rule.name rule.body) rules
 
--- what is told of the rule
+-- what is reported of the rule
 abbrev pub rule_told : List ℕ → List ℕ
 rule_told rule = codes "alternative never taken in rule '" ++ (cut rule ++ codes "'\n")
 
@@ -64,7 +64,7 @@ module _ (lines : List ℕ → List ℕ) where
 abbrev pub literal_lines : List ℕ → List Tok → List ℕ → List ℕ
 literal_lines text tokens rule = lines_mentioned Any Exact text (map (sign_at sign_of) tokens) Literal rule
 
--- what is told of the rules of a text that stand
+-- what is reported of the rules of a text that stand
 pub record ArePegHints (text told : List ℕ) : Type 0 where
   pub tokens : List Tok
   pub are_tokens : AreTokens (length text) text tokens

@@ -1,4 +1,4 @@
--- The line behind a note on a rule that repeats what may take nothing.
+-- The line after a note on a rule that repeats what may take nothing.
 use Rattle.std.specs.Prelude.{◌≡◌, ℕ, ◌<◌, List, [], ◌∷◌, ◌++◌, slice_get, Option, Some, None, MatchOption, codes}
 use Rattle.std.specs.Prelude.{decimal}
 use Rattle.diagnostics.specs.ShownBytes.{cut}

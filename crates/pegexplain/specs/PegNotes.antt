@@ -27,7 +27,7 @@ use Rattle.ruletable.specs.declared.table.NameCase.TheVariants.{Exact}
 use Rattle.gramcheck.specs.GrammarNotes.{AreMarks}
 use Rattle.gramcheck.specs.Left.{IsLeftRecursive, Nullable}
 use Rattle.gramcheck.specs.Uses.{names_in}
-use Rattle.pegexplain.specs.LeftNotes.{AreLeftLines, TellsNullable}
+use Rattle.pegexplain.specs.LeftNotes.{AreLeftLines, EndsEarly, TellsNullable}
 use Rattle.pegexplain.specs.PegLoops.{IsLoopLineIf}
 use Rattle.pegexplain.specs.declared.places.PegPlaces.{PegPlaces}
 
@@ -64,7 +64,7 @@ pub record IsLoopTold (text : List ℕ) (name line : List ℕ) : Type 0 where
 abbrev pub named_lines : List ℕ → List Tok → List ℕ → List ℕ
 named_lines text tokens name = lines_mentioned Any Exact text (map (sign_at sign_of) tokens) Use name
 
--- where the rule of a name is defined, as behind a note on a rule that is not used
+-- where the rule of a name is defined, as after a note on a rule that is not used
 abbrev pub defined_lines : List ℕ → List Tok → List ℕ → List ℕ
 defined_lines text tokens name = note_lines Any Exact text (map (sign_at sign_of) tokens) None (said Unused name)
 
@@ -81,13 +81,13 @@ pub record IsLeftTold (text : List ℕ) (name line : List ℕ) : Type 0 where
   pub is : AreLeftLines (firsts [] definitions) null (named_lines text tokens) (defined_lines text tokens name)
       recursive (id_in (firsts [] definitions) name) line
 
--- they stand behind notes on left-recursive rules, and on rules that repeat what may take nothing
+-- they follow notes on left-recursive rules, and on rules that repeat what may take nothing
 abbrev pub IsLineBehind : List ℕ → NoteKind → List ℕ → List ℕ → Type 0
 IsLineBehind text LeftRecursion name line = IsLeftTold text name line
 IsLineBehind text Loop name line = IsLoopTold text name line
 IsLineBehind text _ name line = line ≡ []
 
--- the lines behind a note, where that name is given for the start rule
+-- the lines after a note, where that name is given for the start rule
 pub record ExplainsNote (text : List ℕ) (start : Option (List ℕ)) (note : Said) (why : List ℕ) : Type 0 where
   pub lines : List ℕ
   pub line : List ℕ
@@ -102,10 +102,11 @@ pub record IsPegRead (text : List ℕ) (rules : table.Rules Expr) : Type 0 where
   pub exact : rules.names ≡ Exact
   pub rules_are : rules_of rules ≡ firsts [] definitions
 
--- the code's places are those of a text, with its rules, and marks of those that may take nothing, and of those that
--- are left-recursive
+-- The code's places are those of a text, with its rules, marks of those that may take nothing and of those that are
+-- left-recursive, and where the first eight of these end.
 pub record ArePegPlaces (text : List ℕ) (found : PegPlaces) : Type 0 where
   pub places : ArePlaces White First is_end sign_of Any Exact text found.places
   pub rules : IsPegRead text found.rules
   pub marks : AreMarks (λ rule. Nullable (rules_of found.rules) rule.body) (rules_of found.rules) found.nulls.items
   pub recursive : AreMarks (IsLeftRecursive (rules_of found.rules)) (rules_of found.rules) found.recursive.items
+  pub ways : EndsEarly found.recursive.items found.ways

@@ -1,4 +1,4 @@
--- What can stand behind tokens, as far as their kinds tell: the reader's machine without what it makes.
+-- What can stand after tokens, as far as their kinds say: the reader's machine without what it makes.
 use Rattle.std.specs.Prelude.{ℕ, zero, suc, Bool, true, false, Option, Some, None, is_some}
 use Rattle.pegread.specs.declared.kind.Kind.{Kind}
 use Rattle.pegread.specs.declared.kind.Kind.TheVariants.{Ident, Arrow, Begin, EndCap, Slash, Amp, Bang, Quest, Star}
@@ -28,22 +28,22 @@ place_at s n = record { stand = s; depth = n }
 abbrev pub place_of : Config → Place
 place_of c = place_at (stand_of c) (levels_in c)
 
--- behind a closing bracket, where n are open
+-- after a closing bracket, where n are open
 abbrev pub closed : ℕ → Option Place
 closed zero = None
 closed (suc n) = Some (place_at Primary n)
 
--- behind the end
+-- after the end
 abbrev pub ended : ℕ → Option Place
 ended zero = Some (place_at Done 0)
 ended (suc n) = None
 
--- behind a definition's arrow
+-- after a definition's arrow
 abbrev pub begun : ℕ → Option Place
 begun zero = Some (place_at Fresh 0)
 begun (suc n) = None
 
--- behind a primary that is neither a name nor an action
+-- after a primary that is neither a name nor an action
 abbrev pub primary : ℕ → Kind → Option Place
 primary n Literal = Some (place_at Primary n)
 primary n Class = Some (place_at Primary n)
@@ -71,14 +71,14 @@ prefixed n Action true = Some (place_at Primary n)
 prefixed n Action false = None
 prefixed n k acts = primary n k
 
--- behind a primary
+-- after a primary
 abbrev pub behind_primary : ℕ → Kind → Option Place
 behind_primary n Quest = Some (place_at Fresh n)
 behind_primary n Star = Some (place_at Fresh n)
 behind_primary n Plus = Some (place_at Fresh n)
 behind_primary n k = unmarked n k
 
--- the place behind a token of the kind, where n brackets are open
+-- the place after a token of the kind, where n brackets are open
 abbrev pub goes : Stand → ℕ → Kind → Option Place
 goes Start n Ident = Some (place_at Named n)
 goes Start n _ = None

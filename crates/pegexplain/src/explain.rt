@@ -83,7 +83,7 @@ fn push_token_place(out: &mut Vec<u8>, text: &[u8], token: Token<'_, Kind>) -> R
     }
 }
 
-// Adds what the token itself tells.
+// Adds what the token itself shows.
 fn push_token_facts(out: &mut Vec<u8>, token: Token<'_, Kind>) -> Result<(), Memory>
     ensures { OnOk result (out.new.items ≡ out.old.items ++ token_facts (tok_of token.entry)) }
 {
@@ -159,7 +159,7 @@ fn explain_token(alloc: Global, text: &[u8]) -> Result<Vec<u8>, Memory>
 }
 
 /// Returns the lines that explain the fault of a grammar's text: a picture of the token that decides, its column, what
-/// can stand in its place, and what its first bytes tell. There are none for want of memory.
+/// can stand in its place, and what its first bytes show. There are none if an allocation fails.
 ///
 /// # Errors
 /// `Memory` if an allocation fails.

@@ -1,4 +1,4 @@
-//! The lines behind a note on a left-recursive rule.
+//! The lines after a note on a left-recursive rule.
 ghost use Rattle.std.specs.Prelude.{◌≡◌, ◌++◌, ◌∷◌, map, IfOk, OnOk, option_map, slice_get, slice_index_or, true};
 ghost use Rattle.pegread.specs.CanonMembers.{member_text as member, members_text as all_members};
 ghost use Rattle.pegread.specs.PegViews.{pattern_of, patterns, rules_of};
@@ -17,7 +17,7 @@ use pegread::{Expr, print_member};
 use ruletable::{Memory, SinkOf};
 use std::alloc::Global;
 
-/// How many steps are told.
+/// How many steps are reported.
 pub const MAX_STEPS: usize = 8;
 
 // Whether a use is one of the name to which left steps lead.
@@ -88,7 +88,7 @@ fn members_text(alloc: Global, first: &Expr, rest: &[&Expr]) -> Result<Vec<u8>, 
     Ok(text)
 }
 
-// Adds what tells the members that a step skips.
+// Adds the text on the members that a step skips.
 fn push_skipped(alloc: Global, out: &mut Vec<u8>, skipped: &[&Expr]) -> Result<(), Memory>
     ensures { OnOk result (out.new.items ≡ out.old.items
         ++ skipped_told (map (λ x. pattern_of x.now) skipped.now)) }
@@ -104,7 +104,7 @@ fn push_skipped(alloc: Global, out: &mut Vec<u8>, skipped: &[&Expr]) -> Result<(
     }
 }
 
-// What tells the members that a step skips, if it leads anywhere.
+// The text on the members that a step skips, if it leads anywhere.
 fn skipped_text(alloc: Global, skipped: Option<Vec<&Expr>>) -> Result<Vec<u8>, Memory>
     ensures { IfOk result (λ text. text.items
         ≡ skipped_if (option_map (λ v. map (λ x. pattern_of x.now) v.items) skipped.entry)) }

@@ -1,4 +1,4 @@
-//! What stands behind a note on a left-recursive rule.
+//! What follows a note on a left-recursive rule.
 ghost use Rattle.std.specs.Prelude.{◌≡◌, ◌<◌, ◌++◌, ℕ, List, Option, None, map, length, OnOk, option_map};
 ghost use Rattle.diagnostics.specs.ExplainedNotes.{told_by};
 ghost use Rattle.diagnostics.specs.MentionLines.{mention_lines_by};
@@ -9,41 +9,36 @@ ghost use Rattle.ruletable.specs.Rules.{find_in};
 ghost use Rattle.ruletable.specs.declared.note.NoteKind.TheVariants.{Unused};
 ghost use Rattle.fixpoint.specs.ShortChains.{IsRoundIfAny};
 ghost use Rattle.pegexplain.specs.LeftLines.{way_told};
-ghost use Rattle.pegexplain.specs.LeftNotes.{is_early as among_the_first, set_before};
+ghost use Rattle.pegexplain.specs.LeftNotes.{EndsEarly};
 ghost use Rattle.pegexplain.specs.LeftUses.{left_row};
 ghost use Rattle.pegexplain.specs.NullTests.{null_mark_of, nullable_by};
 ghost use Rattle.pegexplain.specs.PegNotes.{ArePegPlaces, IsLeftTold};
 
 use crate::left_lines::{MAX_STEPS, push_steps};
 use crate::left_uses::left_rows;
-use crate::nulls::mark_at;
 use crate::places::PegPlaces;
 use crate::ways::left_way;
 use diagnostics::explain_note;
 use ruletable::{Memory, Note, NoteKind};
 use std::alloc::Global;
 
-/// Of how many left-recursive rules the steps are told.
+/// Of how many left-recursive rules the steps are reported.
 pub const MAX_WAYS: usize = 8;
 
-// How many marks are set before a place.
-fn marked_before(marks: &[bool], place: usize) -> usize
-    ensures { result ≡ set_before marks.now place }
+/// Returns before which id the left-recursive rules stand whose steps are explained.
+pub(crate) fn ways_end(marks: &[bool]) -> usize
+    ensures { EndsEarly marks.now result }
 {
     let mut count = 0;
-    for at in 0..place {
-        if mark_at(marks, Some(at)) {
+    for id in 0..marks.len() {
+        if count == MAX_WAYS {
+            return id;
+        }
+        if marks[id] {
             count += 1;
         }
     }
-    count
-}
-
-// Whether a rule is among the first left-recursive ones.
-fn is_early(marks: &[bool], id: usize) -> bool
-    ensures { result ≡ among_the_first marks.now id }
-{
-    marked_before(marks, id) < MAX_WAYS
+    marks.len()
 }
 
 // Adds where a rule is defined.
@@ -86,7 +81,7 @@ fn push_way(alloc: Global, out: &mut Vec<u8>, places: &PegPlaces, id: usize) -> 
     }
 }
 
-/// Adds what stands behind a note on the left-recursive rule of a name: the steps of the way back to itself, or where
+/// Adds what follows a note on the left-recursive rule of a name: the steps of the way back to itself, or where
 /// it is defined if `MAX_WAYS` such rules stand before it.
 ///
 /// `Memory` if an allocation fails.
@@ -102,7 +97,7 @@ pub(crate) fn push_left(
     let Some(id) = places.rules.find(name)? else {
         return Ok(());
     };
-    if is_early(&places.recursive, id) {
+    if id < places.ways {
         push_way(alloc, out, places, id)?;
     } else {
         push_definition(alloc, out, places, name)?;

@@ -56,7 +56,7 @@ pub(crate) fn add_uses<'a>(
     }
 }
 
-// Whether left steps lead behind a member, if they lead to it or not.
+// Whether left steps lead after a member, if they lead to it or not.
 fn leads_on(
     rules: &RuleTable<Expr>,
     marks: &[bool],
@@ -142,7 +142,7 @@ fn row_of(
     Ok(row)
 }
 
-/// Returns of each rule the ids of the rules to which left steps lead from its body, where marks of the rules tell
+/// Returns of each rule the ids of the rules to which left steps lead from its body, where marks of the rules say
 /// which of their bodies may take nothing. By these rows a rule leads back to itself exactly if it is left-recursive.
 ///
 /// # Errors

@@ -1,4 +1,4 @@
-//! The line behind a note on a rule that repeats what may take nothing.
+//! The line after a note on a rule that repeats what may take nothing.
 ghost use Rattle.std.specs.Prelude.{◌≡◌, ◌++◌, Some, map, Option, IfOk, OnOk, option_map, slice_get, MatchOption};
 ghost use Rattle.pegread.specs.Canon.{text_of as canonical};
 ghost use Rattle.pegread.specs.PegViews.{pattern_of, patterns_of};
@@ -118,7 +118,7 @@ fn push_repeat(
 }
 
 /// Adds the line of the first repetition in a body that repeats what may take nothing, where the marks of its
-/// repetitions stand on these lines, and marks of the rules tell which of their bodies may.
+/// repetitions stand on these lines, and marks of the rules say which of their bodies may.
 ///
 /// `Memory` if an allocation fails.
 pub(crate) fn push_first_loop(

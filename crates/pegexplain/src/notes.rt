@@ -38,7 +38,7 @@ fn push_loop(
     Ok(())
 }
 
-// Adds the line that stands behind those of a note, if one does.
+// Adds the line that follows those of a note, if one does.
 fn push_behind(
     alloc: Global,
     out: &mut Vec<u8>,

@@ -17,7 +17,7 @@ pub(crate) fn mark_at(marks: &[bool], id: Option<usize>) -> bool
     }
 }
 
-/// Returns whether an expression may take nothing, where marks of the rules tell which of their bodies may.
+/// Returns whether an expression may take nothing, where marks of the rules say which of their bodies may.
 ///
 /// `Memory` if an allocation fails.
 #[cycle(nulls)]

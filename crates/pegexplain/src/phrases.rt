@@ -1,4 +1,4 @@
-//! The phrases that tell what can stand at a place.
+//! The phrases for what can stand at a position.
 ghost use Rattle.std.specs.Prelude.{◌≡◌, ◌≤◌, true, map, IfOk};
 ghost use Rattle.std.specs.List.{list_all, list_any};
 ghost use Rattle.lexer.specs.GrammarLimits.{max_open};
@@ -137,7 +137,7 @@ fn all_phrases() -> &'static [Phrase]
     &PHRASES
 }
 
-// The words of the phrases of a table that are told.
+// The words of the phrases of a table that are reported.
 fn told_of(alloc: Global, place: Place, table: &[Phrase]) -> Result<Vec<&'static [u8]>, Memory>
     requires { place.depth ≤ max_open }
     ensures { IfOk result (λ v. AreTold (λ k. allows place k ≡ true) (map phrase_of table.now)
@@ -152,7 +152,7 @@ fn told_of(alloc: Global, place: Place, table: &[Phrase]) -> Result<Vec<&'static
     Ok(told)
 }
 
-/// Returns the words of the phrases that tell what can stand there, in their order.
+/// Returns the words of the phrases for what can stand there, in their order.
 ///
 /// # Errors
 /// `Memory` if an allocation fails.

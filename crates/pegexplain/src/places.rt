@@ -2,6 +2,7 @@
 ghost use Rattle.std.specs.Prelude.{◌≡◌, IfOk};
 ghost use Rattle.pegexplain.specs.PegNotes.{ArePegPlaces, IsPegRead, sign_of as the_sign};
 
+use crate::left_notes::ways_end;
 use diagnostics::{Places, Sign, Signs, places_of};
 use gramcheck::{left_recursive_rules, nullable_rules};
 use pegread::{Expr, Kind, read_peg};
@@ -36,6 +37,8 @@ pub struct PegPlaces {
     pub nulls: Vec<bool>,
     /// Of each rule whether it is left-recursive.
     pub recursive: Vec<bool>,
+    /// Before which id the left-recursive rules stand whose steps are explained.
+    pub ways: usize,
 }
 
 // Returns the rules of a text. A text whose grammar has notes reads, so that it is memory that fails here.
@@ -59,10 +62,12 @@ pub fn peg_places(alloc: Global, text: &[u8]) -> Result<PegPlaces, Memory>
     let rules = rules_in(alloc, text)?;
     let nulls = nullable_rules(alloc, &rules)?;
     let recursive = left_recursive_rules(alloc, &rules)?;
+    let ways = ways_end(&recursive);
     Ok(PegPlaces {
         places,
         rules,
         nulls,
         recursive,
+        ways,
     })
 }

@@ -10,7 +10,7 @@ use ruletable::{Memory, RuleTable};
 use std::alloc::Global;
 
 /// Returns the members before the first use of a name to which left steps lead from an expression, in each sequence on
-/// the way, outermost first; none if they lead to no use of it. Marks of the rules tell which of their bodies may take
+/// the way, outermost first; none if they lead to no use of it. Marks of the rules say which of their bodies may take
 /// nothing.
 ///
 /// `Memory` if an allocation fails.

@@ -1,4 +1,4 @@
-//! Where a token stands in a grammar, as far as the kinds of the tokens before it tell.
+//! Where a token stands in a grammar, as far as the kinds of the tokens before it say.
 ghost use Rattle.std.specs.Prelude.{◌≡◌, ◌≤◌, Some};
 ghost use Rattle.lexer.specs.GrammarLimits.{max_open};
 ghost use Rattle.pegexplain.specs.PegStands.{closed, ended, begun, primary, unmarked};
@@ -23,7 +23,7 @@ pub(crate) enum Stand {
     Primary,
     /// A name, which may begin the next definition.
     Name,
-    /// A name behind a prefix.
+    /// A name after a prefix.
     PrefixedName,
     /// The end.
     Done,
@@ -69,7 +69,7 @@ fn begin(depth: usize) -> Option<Place>
     }
 }
 
-// Behind a primary that is neither a name nor an action.
+// After a primary that is neither a name nor an action.
 fn take_primary(depth: usize, kind: Kind) -> Option<Place>
     requires { depth ≤ max_open }
     ensures { result ≡ primary depth kind }
@@ -100,7 +100,7 @@ fn take_unmarked(depth: usize, kind: Kind) -> Option<Place>
     }
 }
 
-// Behind a primary.
+// After a primary.
 fn take_behind(depth: usize, kind: Kind) -> Option<Place>
     requires { depth ≤ max_open }
     ensures { result ≡ behind_primary depth kind }
@@ -138,7 +138,7 @@ impl Place {
         }
     }
 
-    /// Returns the place behind a token of the kind, if one can stand here.
+    /// Returns the place after a token of the kind, if one can stand here.
     pub(crate) fn after(self, kind: Kind) -> Option<Place>
         requires { self.depth ≤ max_open }
         ensures { result ≡ goes self.stand self.depth kind }

@@ -7,7 +7,7 @@ use fixpoint::{chains_from, slices};
 use ruletable::Memory;
 use std::alloc::Global;
 
-/// Returns the rules on the shortest way from one back to itself by left steps, the first at its beginning alone, if
+/// Returns the rules on the shortest way from one back to itself by left steps, the first at its start alone, if
 /// they lead back.
 ///
 /// # Errors

@@ -18,8 +18,8 @@ StartGives g x o k = RuleGives (rules_of g.rules) g.start x o k
 abbrev pub WasEnough : List ℕ → Bool → ℕ → Type 0
 WasEnough window more looked = more ≡ true → looked < length window
 
--- A success with its events, a failure, or an evaluation that compares the last byte of a window behind which there is
--- more. `Holds` says which events the matcher holds.
+-- A success with its events, a failure, or an evaluation that compares the last byte of a window that more bytes
+-- follow. `Holds` says which events the matcher holds.
 abbrev pub IsAnswer : Grammar → List ℕ → Bool → (List Event → Type 0) → UnitAnswer → Type 0
 IsAnswer g window more Holds (Took end begun) =
     (events : List Event) × (looked : ℕ) × StartGives g window (Takes end events) looked × WasEnough window more looked
@@ -34,7 +34,7 @@ abbrev pub HoldsSuccess : Grammar → List ℕ → (List Event → Type 0) → T
 HoldsSuccess g window Holds = (events : List Event) × (end looked : ℕ) × StartGives g window (Takes end events) looked
     × Holds events
 
--- the text is written; or nothing is, for want of memory; or a beginning of it, where the writer fails
+-- the text is written; or nothing is, if an allocation fails; or a prefix of it, if the writer fails
 abbrev pub Replays : {A : Type 0} → Option (List ℕ) → Option (List ℕ) → Bool → Bool → List ℕ → Result A ReplayFault
     → Type 0
 Replays old new failed failed' text (Ok r) = Appends old new text × (failed' ≡ failed)

@@ -77,7 +77,7 @@ abbrev pub EndsWithin : Found → ℕ → Type 0
 EndsWithin Found.Failed n = Unit {0}
 EndsWithin (Found.Took end) n = end ≤ n
 
--- Only a success leaves events behind.
+-- Only a success leaves events.
 abbrev pub IsEmptyUnlessTook : {E : Type 0} → Result UnitAnswer E → List Kept → Type 0
 IsEmptyUnlessTook (Ok (unit.Took end begun)) kept = Unit {0}
 IsEmptyUnlessTook (Ok (unit.Failed begun)) kept = kept ≡ []

@@ -14,8 +14,8 @@ pub fn one_answer()
     one_outcome_of_start();
 }
 
-/// What is answered for a window with more behind it is what the start rule gives on every input that begins with the
-/// window.
+/// Says that the answer for a window that more bytes follow is what the start rule gives on every input with that
+/// prefix.
 pub fn answer_stands()
     ensures { (g : Grammar) (window rest : List ℕ) (o : Outcome) (looked : ℕ) →
         StartGives g window o looked → WasEnough window true looked → StartGives g (window ++ rest) o looked }

@@ -17,7 +17,7 @@ pub enum Unit {
     Took { end: usize, begun: u128 },
     /// It fails: how many evaluations were begun.
     Failed { begun: u128 },
-    /// It would compare the window's last byte, and there is more behind the window.
+    /// It would compare the window's last byte, and more bytes follow the window.
     Need,
 }
 
@@ -27,7 +27,7 @@ pub enum ReplayFault {
     /// An allocation failed; nothing was written.
     #[error("out of memory")]
     Memory,
-    /// The writer failed; a beginning was written.
+    /// The writer failed; a prefix was written.
     #[error("write error")]
     Write,
 }
@@ -53,7 +53,7 @@ pub trait Matcher {
     ///
     /// # Errors
     /// - `Memory` if an allocation fails; nothing was written.
-    /// - `Write` where the writer failed; a beginning was written.
+    /// - `Write` if the writer failed; a prefix was written.
     fn replay<W: Sink>(
         &mut self,
         peg: &SoundPeg,

@@ -177,7 +177,7 @@ fn write_acted<W: Sink>(
 /// Writes what an event prints.
 ///
 /// # Errors
-/// Where the writer failed; a beginning was written.
+/// If the writer failed; a prefix was written.
 #[inline(always)]
 pub fn write_event<W: Sink>(
     peg: &SoundPeg,

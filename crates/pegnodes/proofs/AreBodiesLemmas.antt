@@ -35,7 +35,7 @@ pub record AreCut (rules : List Rule) (count : ℕ) (nodes : List Shape) (bodies
   pub built : IsBuilt nodes
   pub standing : AreStanding rules nodes
 
--- the nodes are those of the first rules, one behind the other
+-- the nodes are those of the first rules, one after the other
 pub record AreListed (rules : List Rule) (count : ℕ) (nodes : List Shape) (bodies : List ℕ) : Type 0 where
   pub nodes_are : nodes ≡ nodes_of_rules rules 0 (take count rules)
   pub bodies_are : bodies ≡ bodies_of_rules 0 (take count rules)

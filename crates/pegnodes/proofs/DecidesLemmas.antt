@@ -1,4 +1,4 @@
--- What code tells of a byte is what the byte decides.
+-- What code returns for a byte is what the byte decides.
 -- Serves: decide
 use Rattle.std.proofs.Common.{◌≡◌, ℕ, suc, ◌+◌, ◌<◌, ◌≤◌, Bool, true, false, List, [], ◌∷◌, Option, Some, None}
 use Rattle.std.proofs.Common.{refl, sym, subst, arith, IfSome, length, ◌∙◌}

@@ -64,7 +64,7 @@ pieces_before (b ∷ s) g f = both (pieces_before s g f) (is_word b) refl
     both less true h = rw (h, less) (onto_run_apart b (pieces_of s) (pieces_of g) (apart_others g f))
     both less false h = rw (h, less) refl
 
--- put behind a template, they stand
+-- put after a template, they stand
 pub filled_behind : (s g c : List ℕ) → AreOther g → filled (s ++ g) c ≡ filled s c ++ g
 filled_behind s g c f =
     let stand : filled g c ≡ g = ap (λ v. filled v c) (sym (append-nil g)) ∙ filled_before g [] c f ∙ append-nil g in
@@ -80,7 +80,7 @@ trimmed_is t rest piece front back = sym (reverse-reverse piece)
 
 module _ (t : List ℕ) (n m : ℕ) (front : drop n t ≡ cut_front t)
     (back : reverse (take m (drop n t)) ≡ cut_front (reverse (drop n t))) where
-  -- the template is what stands before its middle, the middle, and what stands behind it
+  -- the template is what stands before its middle, the middle, and what stands after it
   in_three : take n t ++ (take m (drop n t) ++ drop m (drop n t)) ≡ t
   in_three = ap (λ v. take n t ++ v) (take-append-drop m (drop n t)) ∙ take-append-drop n t
 

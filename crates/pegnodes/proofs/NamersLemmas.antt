@@ -10,7 +10,7 @@ use Rattle.pegnodes.specs.declared.namers.Namer.{Namer}
 use Rattle.pegnodes.specs.declared.namers.Namer.TheVariants.{Nobody, By, Many}
 
 module _ (rows : List (List ℕ)) where
-  -- what is known of a namer holds before each place behind which no naming of it is
+  -- what is known of a namer holds before each position after which no naming of it is
   pub namer_moved : (i k j l m : ℕ) (s : Namer)
       → ((n t : ℕ) → IsBefore rows j l n t → NamesAt rows n t m → IsBefore rows i k n t)
       → IsNamerTo rows i k m s → IsNamerTo rows j l m s
@@ -52,7 +52,7 @@ module _ (rows : List (List ℕ)) where
       (before_cases i k n t b)) (h m)))
       (cases_eq m named)
 
-  -- behind the end of a row the next one begins
+  -- after the end of a row the next one begins
   pub row_ends : (i : ℕ) (row : List ℕ) (namers : List Namer) → slice_get rows i ≡ Some row
       → AreNamersTo rows i (length row) namers → AreNamersTo rows (i + 1) 0 namers
   row_ends i row namers there h m = namer_moved i (length row) (i + 1) 0 m (get_or namers m Many)

@@ -1,4 +1,4 @@
--- The nodes of expressions, one behind the other.
+-- The nodes of expressions, one after the other.
 -- Serves: check_peg
 use Rattle.std.proofs.Common.{◌≡◌, ℕ, ◌+◌, List, [], ◌∷◌, ◌++◌, map, sym, ap}
 use Rattle.std.proofs.Common.{◌∙◌, arith, append_assoc, append-nil}

@@ -1,4 +1,4 @@
--- Widths, one behind the other.
+-- Widths, one after the other.
 -- Serves: check_peg
 use Rattle.std.proofs.Common.{◌≡◌, ℕ, ◌+◌, ◌<◌, List, [], ◌∷◌, ◌++◌, length, take, get_or, set, Option, Some, None, sym}
 use Rattle.std.proofs.Common.{subst, arith, ⊎_elim, ◌∙◌, add-one}

@@ -1,4 +1,4 @@
--- What a byte decides, as code tells it.
+-- What a byte decides, as code returns it.
 use Rattle.std.specs.Prelude.{ℕ, Bool, List}
 use Rattle.pegnodes.specs.ByByte.{ByByte, Below, ByShape, ByMembers, ByAlternatives}
 use Rattle.pegnodes.specs.KeyLists.{Marks, marks_of, node_marks, tail_marks}

@@ -16,7 +16,7 @@ node_marks marks n = get_or marks.nodes n true
 abbrev pub tail_marks : Marks → ℕ → ℕ → Bool
 tail_marks marks n i = get_or (get_or marks.tails n []) i false
 
--- Which tails of a node are keys, given behind which nodes they are: those of a sequence behind its members. A whole
+-- Which tails of a node are keys, given after which nodes they are: those of a sequence after its members. A whole
 -- sequence is none, and no tail of a choice is one.
 abbrev pub tails_of : List Bool → Shape → List Bool
 tails_of behind Any = []

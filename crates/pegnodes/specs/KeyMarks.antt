@@ -69,7 +69,7 @@ module _ (start : ℕ) (nodes : List Shape) (bodies : List ℕ) where
     pub single : Single entry
     pub not_root : slice_get bodies start ≡ Some m → ⊥
 
-  -- The marks: a node without one is plain or such a repetition, a tail without one stands behind a member of some
+  -- The marks: a node without one is plain or such a repetition, a tail without one stands after a member of some
   -- width, or in a node that is asked for once; the start rule's body has one.
   pub record AreMarks (marks : ℕ → Bool) (tails : ℕ → ℕ → Bool) : Type 0 where
     pub plain : (m : ℕ) → marks m ≡ false → IsPlain m ⊎ IsLoop m

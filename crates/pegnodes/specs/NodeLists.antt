@@ -12,12 +12,12 @@ use Rattle.pegnodes.specs.Nodes.{Close, id_of}
 abbrev pub node_number : ℕ → Pattern → ℕ
 node_number first p = first + node_count p - 1
 
--- the numbers of the nodes of several expressions, one behind the other
+-- the numbers of the nodes of several expressions, one after the other
 abbrev pub numbers_of : ℕ → Patterns → List ℕ
 numbers_of first e.none = []
 numbers_of first (e.more p ps) = node_number first p ∷ numbers_of (first + node_count p) ps
 
--- the number of the node that a Plus has behind its operand, for the repetition that goes on
+-- the number of the node that a Plus has after its operand, for the repetition that goes on
 abbrev pub star_of : ℕ → Pattern → ℕ
 star_of first operand = first + node_count operand
 

@@ -8,7 +8,7 @@ use Rattle.pegnodes.specs.declared.by_byte.Verdict.TheVariants.{Takes, Stays, Fa
 use Rattle.pegnodes.specs.declared.run_table.Run.{Run}
 use Rattle.pegnodes.specs.declared.run_table.Stop.{Stop}
 
--- the entry of a byte, if it has one, tells what the byte decides of node n
+-- the entry of a byte, if it has one, is what the byte decides of node n
 abbrev pub IsTable : List Shape → List ℕ → (ℕ → Bool) → (ℕ → ℕ → Bool) → ℕ → List (Option Decided) → Type 0
 IsTable nodes bodies marks tails n entries = (b : ℕ) (d : Decided) → slice_get entries b ≡ Some (Some d)
     → ByByte nodes bodies marks tails b n d.verdict d.count

@@ -24,12 +24,12 @@ put_in text capture from [] to = slice_range text from to
 put_in text capture from (slot ∷ slots) to =
     slice_range text from slot.from ++ (put_text capture slot.put ++ put_in text capture slot.to slots to)
 
--- the slots stand one behind the other between two places
+-- the slots stand one after the other between two positions
 abbrev pub AreSlots : ℕ → List Slot → ℕ → Type 0
 AreSlots from [] to = from ≤ to
 AreSlots from (slot ∷ slots) to = (from ≤ slot.from) × (slot.from ≤ slot.to) × AreSlots slot.to slots to
 
--- the slots behind which a run follows, and those with the run
+-- the slots after which a run follows, and those with the run
 pub record IsMore (text : List ℕ) (from to : ℕ) (old new : List Slot) : Type 0 where
   pub order : (first : ℕ) → AreSlots first old from → AreSlots first new to
   pub with_run : (first : ℕ) (capture : List ℕ) → AreSlots first old from →

@@ -20,7 +20,7 @@ pub data Piece : Type 0 where
   Word : List ℕ → Piece
   Other : ℕ → Piece
 
--- a word byte joins the run right behind it, or begins one
+-- a word byte joins the run right after it, or begins one
 abbrev pub onto_run : ℕ → List Piece → List Piece
 onto_run b (Word run ∷ pieces) = Word (b ∷ run) ∷ pieces
 onto_run b (Other c ∷ pieces) = Word (b ∷ []) ∷ (Other c ∷ pieces)

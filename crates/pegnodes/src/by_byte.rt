@@ -29,7 +29,7 @@ pub struct Decided {
     pub count: u16,
 }
 
-/// Numbered nodes, of each rule the node of its body, and marks of the keys among the nodes and of those behind which
+/// Numbered nodes, of each rule the node of its body, and marks of the keys among the nodes and of those after which
 /// the tails of sequences are keys. What has no mark is a key.
 #[derive(Clone, Copy)]
 pub struct MarkedNodes<'a> {
@@ -175,8 +175,7 @@ fn below(grammar: &MarkedNodes<'_>, n: usize, b: u8, levels: usize) -> Option<De
     by_node(grammar, n, b, levels - 1)
 }
 
-// Returns what a byte decides of the members of a sequence. Nothing is asked of one behind a member that takes the
-// byte.
+// Returns what a byte decides of the members of a sequence. Members after one that takes the byte do not matter.
 #[cycle(deciding)]
 fn by_members(
     grammar: &MarkedNodes<'_>,

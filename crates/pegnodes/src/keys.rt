@@ -67,21 +67,21 @@ fn goes_on(nodes: &[Node], n: usize) -> GoesOn
     }
 }
 
-// Tells whether a node is a repetition.
+// Returns whether a node is a repetition.
 fn is_star(nodes: &[Node], m: usize) -> bool
     ensures { (result ≡ true) ↔ ((k : ℕ) × (slice_get (shapes_of nodes.now) m ≡ Some (Star k))) }
 {
     matches!(nodes.get(m), Some(Node::Star(_)))
 }
 
-// Tells whether a node goes on to each other once.
+// Returns whether a node goes on to each other once.
 fn goes_once(nodes: &[Node], n: usize) -> bool
     ensures { result ≡ true → GoesOnce (shapes_of nodes.now) n }
 {
     matches!(goes_on(nodes, n), GoesOn::Once)
 }
 
-// Tells whether a node is no repetition, and not that with which its namer goes on.
+// Returns whether a node is no repetition, and not that with which its namer goes on.
 fn may_be_plain(nodes: &[Node], namer: usize, m: usize) -> bool
     ensures { result ≡ true → MayBePlain (shapes_of nodes.now) namer m }
 {
@@ -95,7 +95,7 @@ fn may_be_plain(nodes: &[Node], namer: usize, m: usize) -> bool
     }
 }
 
-// Tells whether a node is a repetition, and not the operand of one with which its namer goes on.
+// Returns whether a node is a repetition, and not the operand of one with which its namer goes on.
 fn may_be_loop(nodes: &[Node], namer: usize, m: usize) -> bool
     ensures { result ≡ true → MayBeLoop (shapes_of nodes.now) namer m }
 {
@@ -178,7 +178,7 @@ pub fn mark_or(marks: &[bool], m: usize, other: bool) -> bool
     }
 }
 
-// Tells whether each place asks a node's only namer, and that the node, once.
+// Returns whether a node's only namer is asked for once at each position, and asks for the node once.
 fn is_asked_once(nodes: &[Node], namers: &[Namer], singles: &[bool], root: usize, m: usize) -> bool
     ensures { (start : ℕ) (bodies : List ℕ) → AreKnown start (shapes_of nodes.now) bodies root namers.now
         → AreSingles start (shapes_of nodes.now) bodies singles.now → result ≡ true →
@@ -216,8 +216,8 @@ fn node_keys(
     Ok(keys)
 }
 
-// Tells whether the tail behind a member of a sequence is a key: unless the member's width is known, or its only namer
-// is asked for at one place at most.
+// Returns whether the tail after a member of a sequence is a key: unless the member's width is known, or its only namer
+// is asked for at one position at most.
 fn is_key_behind(namers: &[Namer], singles: &[bool], widths: &[Option<usize>], m: usize) -> bool
     ensures { result ≡ false → IsPassed namers.now singles.now widths.now m }
 {
@@ -230,7 +230,7 @@ fn is_key_behind(namers: &[Namer], singles: &[bool], widths: &[Option<usize>], m
     }
 }
 
-// Marks the members behind which tails are keys.
+// Marks the members after which tails are keys.
 fn behind_keys(
     alloc: Global,
     namers: &[Namer],
@@ -247,17 +247,16 @@ fn behind_keys(
     Ok(behind)
 }
 
-/// Which nodes are keys, and behind which nodes the tails of sequences are.
+/// Which nodes are keys, and after which nodes the tails of sequences are.
 #[derive(Drop)]
 pub struct Keys {
     /// Of each node whether it is a key.
     pub nodes: Vec<bool>,
-    /// Of each node whether the tail of a sequence behind it is a key.
+    /// Of each node whether the tail of a sequence after it is a key.
     pub behind: Vec<bool>,
 }
 
-/// Tells whether what is left of a sequence of these members from the i-th on is a key, given behind which members it
-/// is.
+/// Returns whether the tail of a sequence of these members from the i-th on is a key, given after which members it is.
 pub(crate) fn is_key_of_members(members: &[usize], behind: &[bool], i: usize) -> bool
     ensures { result ≡ get_or (tails_of behind.now (Seq members.now)) i false }
 {
@@ -270,7 +269,7 @@ pub(crate) fn is_key_of_members(members: &[usize], behind: &[bool], i: usize) ->
     }
 }
 
-/// Tells whether the tail of a node from member `i` on is a key, given behind which members it is.
+/// Returns whether the tail of a node from member `i` on is a key, given after which members it is.
 pub fn is_key_from(node: &Node, behind: &[bool], i: usize) -> bool
     ensures { result ≡ get_or (tails_of behind.now (shape_of node.now)) i false }
 {
@@ -294,9 +293,9 @@ pub fn is_key_from(node: &Node, behind: &[bool], i: usize) -> bool
 
 /// Finds the keys of a grammar.
 ///
-/// A node is no key where one node alone names it, once: then it is asked for twice at a place only if that node is. A
-/// tail of a sequence is no key behind a member of a known width, since the place where the sequence begins is known
-/// from that of the tail; nor in a sequence that is asked for at one place at most.
+/// A node is no key if one node alone names it, once: it is asked for twice at a position only if that node is. A tail
+/// of a sequence is no key after a member of a known width, since the position of the tail gives that of the sequence.
+/// Nor is it one in a sequence that is asked for at one position at most.
 ///
 /// # Errors
 /// `Memory` if an allocation fails.

@@ -10,21 +10,21 @@ use memchr::memchr;
 use ruletable::Memory;
 use std::alloc::Global;
 
-/// Names the only byte that a node is not known to take, and tells how many pairs a turn over each other byte is.
+/// The only byte that a node is not known to take, and how many pairs an iteration over each other byte begins.
 #[derive(Clone, Copy)]
 pub struct Stop {
     pub byte: u8,
     pub pairs: u64,
 }
 
-/// Tells where a run of bytes that a node takes ends, and how many pairs the turns of a repetition over it are.
+/// Where a run of bytes that a node takes ends, and how many pairs the iterations of a repetition over it begin.
 #[derive(Clone, Copy)]
 pub struct Run {
     pub end: usize,
     pub pairs: u128,
 }
 
-/// Tells of each byte what it decides of a node, if it does.
+/// What each byte decides of a node, if it does.
 #[derive(Drop)]
 pub struct RunTable {
     pub entries: Vec<Option<Decided>>,
@@ -61,7 +61,7 @@ fn first_left(entries: &[Option<Decided>]) -> Option<u8>
     None
 }
 
-// Tells whether all bytes but one are taken, with so many pairs.
+// Returns whether all bytes but one are taken, with so many pairs.
 fn others_take(entries: &[Option<Decided>], byte: u8, pairs: u64) -> bool
     requires { length entries.now ≡ 256 }
     ensures { result ≡ true → OthersTake entries.now byte pairs }
@@ -151,7 +151,7 @@ impl RunTable {
         Ok(RunTable { entries, stop })
     }
 
-    /// Tells whether some byte decides anything of the node.
+    /// Returns whether some byte decides anything of the node.
     pub(crate) fn decides_some(&self) -> bool
         ensures { (result ≡ true) ↔ ((b : ℕ) × (d : Decided) × (slice_get self.now.entries.items b ≡ Some (Some d))) }
     {

@@ -7,7 +7,7 @@ use crate::node::Node;
 use ruletable::Memory;
 use std::alloc::Global;
 
-// How often all widths are read: a width comes through at most so many names of rules that stand behind the name.
+// How often all widths are read: a width passes through at most so many names of rules that are defined later.
 const ROUNDS: usize = 4;
 
 /// Returns the width that is known of a node, if one is.
@@ -48,7 +48,7 @@ fn each_width(alternatives: &[usize], widths: &[Option<usize>]) -> Option<usize>
     Some(width)
 }
 
-// Returns how many bytes a node takes, where its operands' widths tell.
+// Returns how many bytes a node takes, if its operands' widths determine that.
 fn node_width(node: &Node, bodies: &[usize], widths: &[Option<usize>]) -> Option<usize>
     ensures { (nodes : List Shape) (n : ℕ) → slice_get nodes n ≡ Some (shape_of node.now)
         → AreWidths nodes bodies.now widths.now → IfSome result (Width nodes bodies.now n) }

@@ -1,4 +1,4 @@
--- What makes the slice of an identifier, literal, class or action is told of the slice alone.
+-- What makes the slice of an identifier, literal, class or action is a fact of the slice alone.
 -- Serves: are_marked, is_read_back, one_tree
 use Rattle.std.proofs.Common.{◌≡◌, ℕ, ◌<◌, List, [], ◌∷◌, ◌++◌, length, refl, sym, ap, ◌∙◌, subst, arith, append_assoc}
 use Rattle.std.proofs.Common.{append-nil}
@@ -31,7 +31,7 @@ closes-shorter close = omega arith
 closes-shorter (escape c) = let x = closes-shorter c in omega arith
 closes-shorter (plain p q c) = let x = closes-shorter c in omega arith
 
--- a slice that a first byte begins and a mark closes: what stands behind the first byte closes by itself
+-- a slice that a first byte begins and a mark closes: what follows the first byte closes by itself
 token-alone : {mark first : ℕ} {bs r : List ℕ} → Closes mark bs r → (s : List ℕ) → first ∷ bs ≡ s ++ r → (u : List ℕ)
     × (s ≡ first ∷ u) × Closes mark u []
 token-alone c [] e = absurd (let x = closes-shorter c in omega (arith, ap length e))
@@ -47,7 +47,7 @@ literal-stands (double c) s e = let x = token-alone c s e in rw (x.1) (double_qu
 class-stands : {t r : List ℕ} → Stands Class t r → (s : List ℕ) → t ≡ s ++ r → IsClass s
 class-stands (class c) s e = let x = token-alone c s e in rw (x.1) (bracketed x.2)
 
--- an action's text behind its first brace, which is one whatever stands behind it
+-- an action's text after its first brace, which is one whatever follows it
 record Matched (t r : List ℕ) : Type 0 where
   text : List ℕ
   cut : t ≡ text ++ r

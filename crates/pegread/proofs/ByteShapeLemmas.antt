@@ -13,7 +13,7 @@ use Rattle.pegread.specs.Slices.{Closes, close, escape, plain}
 use Rattle.pegread.proofs.CharFormLemmas.{octal-is, no-octal, letter-high, char-plain, char-letter, char-itself}
 use Rattle.pegread.proofs.CharFormLemmas.{char-three_octal}
 
--- a byte that stands for itself behind a backslash
+-- a byte that stands for itself after a backslash
 abbrev pub IsMarked : ℕ → Type 0
 IsMarked b = (b < 97) × ((b < 48) ⊎ (55 < b))
 
@@ -102,7 +102,7 @@ shown-shape c h = written-shape c (is_unprintable c || (c == 45) || (c == 94)) (
 low-letter : (l : ℕ) → l < 97 → (c : ℕ) → Letter l c → ⊥
 low-letter l h c k = let x = letter-high k in omega arith
 
--- a byte's text is read as the byte, whatever stands behind
+-- a byte's text is read as the byte, whatever follows
 pub shape-char : {P : ℕ → Type 0} {c : ℕ} {s : List ℕ} (u : List ℕ) → Shape P c s → Char (s ++ u) u c
 shape-char u (as_is p q) = char-plain q
 shape-char u (lettered h) = char-letter h

@@ -73,7 +73,7 @@ module _ where
   plain-range : {a b : ℕ} {r : List ℕ} → a ≢ 92 → b ≢ 92 → Item (a ∷ 45 ∷ b ∷ r) r a b
   plain-range h k = item_range (char-plain h) (char-plain k)
 
-  -- behind a range, a `-` is one character
+  -- after a range, a `-` is one character
   dash_behind_range : Ranges (codes "a-c-e") ((97, 99) ∷ (45, 45) ∷ (101, 101) ∷ [])
   dash_behind_range = more_items (plain-range (omega arith) (omega arith))
       (more_items (plain-item (omega arith) (λ g. g)) (more_items (plain-item (omega arith) (λ g. g)) no_items))

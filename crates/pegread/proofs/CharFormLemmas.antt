@@ -124,7 +124,7 @@ module _ where
   form-plain d (hex_one h) = absurd (d refl)
   form-plain d (itself h k) = absurd (d refl)
 
-  -- behind a byte that is no digit, nothing more is taken
+  -- after a byte that is no digit, nothing more is taken
   form-no_digit : {l c : ℕ} {r s : List ℕ} → IsNoDigit l → Form (92 ∷ l ∷ r) s c → length r ≤ length s
   form-no_digit d (unescaped h) = absurd (h refl)
   form-no_digit d (letter h) = omega arith

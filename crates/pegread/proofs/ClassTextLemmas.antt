@@ -105,7 +105,7 @@ shape-leads u (octals h k i j) = (omega arith, omega arith)
 abbrev bare-closes : (b : ℕ) → IsBare b → b ≢ 93
 bare-closes b p = p.0
 
--- what is known of a text before whatever stands behind: it is read as the items
+-- what is known of a text, whatever follows it: it is read as the items
 record IsRead (xs : List (ℕ × ℕ)) (s : List ℕ) : Type 0 where
   leads : Leads s
   ranges : Ranges s xs
@@ -178,7 +178,7 @@ spelled-by f w false = let a = read-runs f in positive _ refl (leads-no_hat _ a.
 pub set-spelled : (f : ℕ → Bool) → IsByteSet f → SpellsSet (class_text f) f
 set-spelled f w = spelled-by f w (f 255)
 
--- a class's text behind its first bracket
+-- a class's text after its first bracket
 pub record Inside (s : List ℕ) : Type 0 where
   pub inside : List ℕ
   pub whole : s ≡ 91 ∷ inside

@@ -1,4 +1,4 @@
--- The tokens that a canonical text is made of, each before what stands behind, and the words that they say.
+-- The tokens that a canonical text is made of, each before what follows it, and the words that they say.
 -- Serves: is_read_back
 use Rattle.std.proofs.Common.{◌≡◌, ℕ, ◌+◌, ◌-◌, ◌≤◌, Bool, true, false, List, [], ◌∷◌, ◌++◌, length, refl, ap, arith}
 use Rattle.std.proofs.Common.{inr, length-append, sym, ◌∙◌, subst, append_assoc, codes}
@@ -163,7 +163,7 @@ adds-prefix : {s : List ℕ} {f : List Word → List Word} (b : ℕ) (w : Word) 
     → Adds (b ∷ s) (λ ws. w ∷ f ws)
 adds-prefix b w l a = record { adds = λ r ws h c. l (_ ++ r) _ (a.adds r ws h c) }
 
--- one text behind another
+-- one text after another
 adds-both : {s u : List ℕ} {f g : List Word → List Word} → ((r : List ℕ) → Follows r → Follows (u ++ r)) → Adds s f
     → Adds u g → Adds (s ++ u) (λ ws. f (g ws))
 adds-both {s} {u} {f} {g} n a b = record {

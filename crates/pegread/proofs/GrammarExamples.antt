@@ -32,7 +32,7 @@ module _ (s t a x : List ℕ) (p q : Span) where
       (rule_at s p (Seq (more (Opt (Bytes a)) (more (Not Any) none))) ∷ [])
   optional-spelled = last_definition (expression (only (item (plain (quest literal)) (item (bang (bare dot)) no_item))))
 
-  -- `S <- T / . T <- 'a'`: an arrow behind a name begins a definition, and there is no node for a sequence of one
+  -- `S <- T / . T <- 'a'`: an arrow after a name begins a definition, and there is no node for a sequence of one
   two-spelled : Grammar (Ident s p ∷ Arrow ∷ Ident t q ∷ Slash ∷ Dot ∷ Ident t q ∷ Arrow ∷ Literal a ∷ End ∷ [])
       (rule_at s p (Choice (more (Name t) (more Any none))) ∷ rule_at t q (Bytes a) ∷ [])
   two-spelled =

@@ -23,7 +23,7 @@ pub append_assoc : (es fs gs : Patterns) → append (append es fs) gs ≡ append
 append_assoc none fs gs = refl
 append_assoc (more x es) fs gs = ap (more x) (append_assoc es fs gs)
 
--- an action doesn't stand right behind an `&`
+-- an action does not stand right after an `&`
 unfoldable pub MarkOk : Mark → List Word → Type 0
 MarkOk m s = m ≡ and_mark → NoAction s
 
@@ -94,7 +94,7 @@ prefixed-starts (plain (plus p)) = primary-starts p
 prefixed-starts (bang p) = tt
 prefixed-starts (amp n p) = tt
 
--- an item begins alike behind a primary and where nothing waits
+-- an item begins alike after a primary and where nothing waits
 read-joins : (h : Head) (o : List Level) (bs es : Patterns) (m : Mark) (x : Pattern) (s : List Word) → IsStart s
     → run (body h o bs es m (read x)) s ≡ run (body h o bs (snoc es (apply m x)) no_mark fresh) s
 read-joins h o bs es m x (Ident n p ∷ s) i = refl
@@ -273,7 +273,7 @@ mutual
       → Over h o x (body h o none none no_mark fresh) s r
   pass-expression h o (expression y) = pass-alternatives h o none y
 
--- a name and an arrow begin a definition behind these
+-- a name and an arrow begin a definition after these
 abbrev Enters : List Rule → Config → Type 0
 Enters ds c = (n : List ℕ) (p : Span) (s : List Word) → run c (Ident n p ∷ Arrow ∷ s)
     ≡ run (body (head ds n p) [] none none no_mark fresh) s

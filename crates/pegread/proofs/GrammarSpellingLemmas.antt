@@ -35,21 +35,21 @@ module _ (K : Pattern → List Word → Type 0) where
   abbrev pub Going : Patterns → Patterns → List Word → Type 0
   Going bs es s = (r : List Word) × (cs : Patterns) × Tail bs es s r cs × K (choice cs) r
 
-  -- behind a primary
+  -- after a primary
   abbrev pub After : Mark → Patterns → Patterns → Pattern → List Word → Type 0
   After m bs es x s = (r : List Word) × (y : Pattern) × Suffix x s r y × Going bs (snoc es (apply m y)) r
 
-  -- behind a prefix, or where none waits
+  -- after a prefix operator, or where none waits
   abbrev pub Marked : Mark → Patterns → Patterns → List Word → Type 0
   Marked no_mark bs es s = Going bs es s
   Marked not_mark bs es s = (r : List Word) × (x : Pattern) × Suffixed s r x × Going bs (snoc es (Not x)) r
   Marked and_mark bs es s = (r : List Word) × (x : Pattern) × NoAction s × Suffixed s r x × Going bs (snoc es (And x)) r
 
--- behind the definitions ds: the end, or further ones
+-- after the definitions ds: the end, or further ones
 abbrev pub Finished : List Rule → List Rule → List Word → Type 0
 Finished g ds s = ((s ≡ End ∷ []) × (g ≡ ds)) ⊎ ((rules : List Rule) × Grammar s rules × (g ≡ ds ++ rules))
 
--- behind an expression that all these levels stand round
+-- after an expression that all these levels stand round
 abbrev pub Close : List Rule → Head → List Level → Pattern → List Word → Type 0
 Close g h [] x s = Finished g (ended h x) s
 Close g h (level b f m ∷ o) x s = (r : List Word) × (s ≡ RParen ∷ r) × After (Close g h o) m b f x r

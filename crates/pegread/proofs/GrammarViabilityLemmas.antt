@@ -22,7 +22,7 @@ end-step : (o : List Level) (rules : List Rule) (d : Config) → end_step o rule
 end-step [] rules d h = (rules, cc)
 end-step (l ∷ o) rules d h = cc
 
--- behind the end the whole is taken
+-- after the end the whole is taken
 pub end-done : (c d : Config) → step c End ≡ Some d → (rules : List Rule) × (d ≡ done rules)
 end-done start d h = cc
 end-done (named n p) d h = cc
@@ -43,7 +43,7 @@ abbrev closers : List Level → List Word
 closers [] = End ∷ []
 closers (l ∷ o) = RParen ∷ closers o
 
--- behind a primary the brackets close as where nothing waits
+-- after a primary the brackets close as where nothing waits
 read-closes : (o : List Level) (h : Head) (bs es : Patterns) (m : Mark) (x : Pattern)
     → run (body h o bs es m (read x)) (closers o) ≡ run (body h o bs (snoc es (apply m x)) no_mark fresh) (closers o)
 read-closes [] h bs es m x = refl

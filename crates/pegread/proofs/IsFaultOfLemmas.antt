@@ -1,4 +1,4 @@
--- A text has one list of definitions or one fault, but for want of memory.
+-- A text has one list of definitions or one fault, unless an allocation fails.
 -- Serves: is_read_back, one_reading, read_peg
 use Rattle.std.proofs.Common.{◌≡◌, ◌≢◌, ℕ, ◌⊎◌, inl, inr, take, Some, List, refl, sym, ◌∙◌, ap, arith, slice_get}
 use Rattle.lexer.proofs.ViabilityLemmas as viability

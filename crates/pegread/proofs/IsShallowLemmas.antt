@@ -19,7 +19,7 @@ use Rattle.pegread.specs.Limits.{open_behind, IsShallow}
 use Rattle.std.proofs.lemmas.List.{take-append-drop}
 use Rattle.lexer.proofs.ViabilityLemmas.{run-snoc, say-snoc}
 
--- the brackets that are open behind a word
+-- the brackets that are open after a word
 abbrev pub behind_word : Word → ℕ → ℕ
 behind_word LParen d = suc d
 behind_word RParen zero = zero
@@ -102,7 +102,7 @@ word-opens d (says_class h) = refl
 word-opens d (says_action h) = refl
 word-opens d says_end = refl
 
--- the brackets that are open behind a list, of those that were before
+-- the brackets that are open after a list, of those that were before
 abbrev pub open_count : ℕ → List Tok → ℕ
 open_count d [] = d
 open_count d (t ∷ ts) = open_count (open_behind (kind_of t) d) ts
@@ -134,7 +134,7 @@ shallow-within : (m d : ℕ) (ts : List Tok) → IsShallow m d ts → open_count
 shallow-within m d [] h = h
 shallow-within m d (tok k z p ∷ ts) h = shallow-within m (open_behind k d) ts h.1
 
--- a shorter beginning
+-- a shorter prefix
 pub shallow-front : (m d : ℕ) (ts us : List Tok) → IsShallow m d (ts ++ us) → IsShallow m d ts
 shallow-front m d [] [] h = h
 shallow-front m d [] (tok k z p ∷ us) h = h.0

@@ -1,4 +1,4 @@
--- The words of a pattern's canonical text, put before what stands behind, and that they spell it.
+-- The words of a pattern's canonical text, put before what follows, and that they spell it.
 -- Serves: is_read_back
 use Rattle.std.proofs.Common.{Bool, true, false, List, [], ◌∷◌, ◌≡◌, refl, sym, subst}
 use Rattle.ruletable.specs.declared.span.Span.{Span}

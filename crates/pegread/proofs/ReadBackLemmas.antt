@@ -85,7 +85,7 @@ abbrev mutual
 abbrev nest_at : Place → Pattern → ℕ
 nest_at p x = lift (wraps p x) (nest x)
 
--- words before whatever stands behind
+-- words before whatever follows
 record Keeps (n : ℕ) (f : List Word → List Word) : Type 0 where
   keeps : (m d : ℕ) (ws : List Word) → d + n ≤ m → StaysIn m d ws → StaysIn m d (f ws)
 
@@ -135,7 +135,7 @@ mutual
       let k = keeps-both (keeps-within (wraps Alternative x) (listed-keeps x)) (more-keep es) in
       record { keeps = λ m d ws h s. (omega arith, k.keeps m d ws h s) }
 
--- what a spelled list says of the pattern: it nests as deeply, and so does what stands behind
+-- what a spelled list says of the pattern: it nests as deeply, and so does what follows
 record Holds (m d n : ℕ) (r : List Word) : Type 0 where
   low : d + n ≤ m
   rest : StaysIn m d r

@@ -1,8 +1,8 @@
 -- What the reader's loop has come to, and what it says where it stops.
 -- Serves: read_peg
 use Rattle.std.proofs.Common.{◌≡◌, ℕ, zero, suc, ◌+◌, ◌<◌, ◌≤◌, Bool, true, false, cond, Option, Some, None, List, []}
-use Rattle.std.proofs.Common.{◌∷◌, ◌++◌, length, map, slice_get, refl, sym, ap, ◌∙◌, append_assoc, append-nil}
-use Rattle.std.proofs.Common.{length-append, arith, Vec, Global, Result, Ok, Err}
+use Rattle.std.proofs.Common.{◌∷◌, ◌++◌, length, map, slice_get, refl, sym, ap, ◌∙◌}
+use Rattle.std.proofs.Common.{length-append, arith, Result, Ok, Err}
 use Rattle.std.proofs.Math.Seq.{get_or-append_seam}
 use Rattle.std.proofs.lemmas.Option.{slice_get-get_or, slice_get-map}
 use Rattle.ruletable.specs.declared.span.Span.{Span}
@@ -15,10 +15,8 @@ use Rattle.pegread.specs.declared.kind.Kind.{Kind}
 use Rattle.pegread.specs.declared.kind.Kind.TheVariants.{Literal, Class, Amp, Action, End}
 use Rattle.pegread.specs.declared.reader.Stop.{Stop}
 use Rattle.pegread.specs.declared.reader.Stop.TheVariants as stops
-use Rattle.pegread.specs.declared.reader.Definition.{Definition}
 use Rattle.pegread.specs.declared.reader.Reader.{Reader}
-use Rattle.pegread.specs.declared.reader.Reader.TheVariants as readers
-use Rattle.pegread.specs.Steps.{config_of, Steps, Takes}
+use Rattle.pegread.specs.Steps.{Steps, Takes}
 use Rattle.pegread.specs.Literals.{IsLiteral}
 use Rattle.pegread.specs.Classes.{IsClass}
 use Rattle.pegread.specs.Marks.{IsCut}
@@ -26,6 +24,7 @@ use Rattle.pegread.specs.Actions.{IsBraced}
 use Rattle.lexer.proofs.ViabilityLemmas.{run_of, run-append, run-snoc, say-snoc, Split, say-split}
 use Rattle.lexer.specs.declared.token_iter.Token.{Token}
 use Rattle.lexer.specs.TokenLists as lexed
+use Rattle.lexer.proofs.TokenListLemmas as lists
 use Rattle.lexer.specs.declared.token_iter.TokenIter.{TokenIter}
 use Rattle.pegread.specs.Kinds.{is_end}
 use Rattle.pegread.specs.Limits.{IsShallow}
@@ -34,7 +33,7 @@ use Rattle.pegread.specs.Pattern.{Rule}
 use Rattle.pegread.specs.Slices.{White, First}
 use Rattle.pegread.specs.Predicates.{is_predicate, hopeless_fault, last_kind}
 use Rattle.pegread.specs.Reading.{Reads, IsCodePredicate, IsHopeless, IsTooDeep, IsDecidedAt, IsFaultOf}
-use Rattle.lexer.specs.TokenLists.{tok, tok_of, kind_of, start_of, last_one, one_more}
+use Rattle.lexer.specs.TokenLists.{tok, tok_of, kind_of, start_of, last_one, one_more, IsAtStart}
 use Rattle.pegread.specs.Tokens.{Tok, Next, AreTokens}
 use Rattle.pegread.specs.Words as words
 use Rattle.lexer.specs.Viability.{say_none, say_more}
@@ -44,12 +43,16 @@ use Rattle.pegread.proofs.SaysLemmas.{one-word}
 use Rattle.pegread.proofs.IsShallowLemmas.{shallow-none, shallow-next}
 use Rattle.pegread.proofs.GrammarSpellingLemmas.{runs-grammar}
 
--- the tokens so far and those that are left are the text's, and the machine took what those so far say
-pub record HasTaken (text : List ℕ) (left : List Tok → Type 0) (c : Config) (before : Option Kind)
+abbrev pub LeadsTo : List ℕ → List Tok → TokenIter Kind → Type 0
+LeadsTo = lexed.LeadsTo White First is_end
+
+abbrev pub GivesFirst : TokenIter Kind → Option (Token Kind) → TokenIter Kind → Type 0
+GivesFirst = lexed.GivesFirst White First is_end
+
+-- the tokens ts lead from the text to what the iterator has left, and the machine took what they say
+pub record HasTaken (text : List ℕ) (left : TokenIter Kind) (c : Config) (before : Option Kind)
     (ts : List Tok) : Type 0 where
-  pub rest : List Tok
-  pub are_left : left rest
-  pub all : AreTokens (length text) text (ts ++ rest)
+  pub leads : LeadsTo text ts left
   pub words : List Word
   pub say : SayAll ts words
   pub reached : run start words ≡ Some c
@@ -98,38 +101,36 @@ only-end : {z : List ℕ} {p : Span} {ws : List Word} → SayAll (tok End z p �
 only-end (say_more says_end say_none) = refl
 
 -- before the first token
-pub none-taken : (text : List ℕ) (left : List Tok → Type 0) (all : List Tok) → left all
-    → AreTokens (length text) text all → HasTaken text left start None []
-none-taken text left all are h = record {
-  rest = all;
-  are_left = are;
-  all = h;
+pub none-taken : {text : List ℕ} (left : TokenIter Kind) (c : Config) → IsAtStart left text → c ≡ start
+    → HasTaken text left c None []
+none-taken left c fresh e = record {
+  leads = lists.leads-first White First is_end left fresh;
   words = [];
   say = say_none;
-  reached = refl;
+  reached = ap Some (sym e);
   shallow = shallow-none MAX_OPEN;
   last = refl;
 }
 
-module _ {text : List ℕ} {left : List Tok → Type 0} {c : Config} {before : Option Kind} {ts : List Tok}
-    (h : HasTaken text left c before ts) (t : Tok) (others : List Tok) (given : h.rest ≡ t ∷ others) where
-  tokens-whole : AreTokens (length text) text (ts ++ t ∷ others)
-  tokens-whole = rw given at h.all
-
+module _ {text : List ℕ} {left : TokenIter Kind} {c : Config} {before : Option Kind} {ts : List Tok}
+    (h : HasTaken text left c before ts) where
   -- one token more
-  pub one-taken : (next : List Tok → Type 0) (d : Config) (w : Word) → next others → Says t w → step c w ≡ Some d
-      → levels_in d ≤ MAX_OPEN → HasTaken text next d (Some (kind_of t)) (ts ++ t ∷ [])
-  one-taken next d w are says steps le = record {
-    rest = others;
-    are_left = are;
-    all = rw (append_assoc ts (t ∷ []) others) tokens-whole;
+  pub one-taken : (next : TokenIter Kind) (x : Token Kind) (d : Config) → GivesFirst left (Some x) next → (w : Word)
+      → Says (tok_of x) w → step c w ≡ Some d → levels_in d ≤ MAX_OPEN
+      → HasTaken text next d (Some x.kind) (ts ++ tok_of x ∷ [])
+  one-taken next x d gives w says steps le = record {
+    leads = lists.leads-snoc White First is_end left next h.leads x gives;
     words = h.words ++ w ∷ [];
     say = say-snoc Says h.say says;
     reached = run-snoc step h.words w start c h.reached ∙ steps;
     shallow = shallow-next c d h.say h.reached says steps MAX_OPEN h.shallow le;
-    last = sym (last-snoc ts t);
+    last = sym (last-snoc ts (tok_of x));
   }
 
+-- the text has a list of tokens, in which t follows those so far
+module _ {text : List ℕ} {left : TokenIter Kind} {c : Config} {before : Option Kind} {ts : List Tok}
+    (h : HasTaken text left c before ts) (t : Tok) (others : List Tok)
+    (tokens-whole : AreTokens (length text) text (ts ++ t ∷ others)) where
   module _ (line : ℕ) (within : length text ≤ MAX_GRAMMAR) (there : line ≡ line_at Any text (start_of t)) where
     fault-decided : (D : List Tok → ℕ → Type 0) → D (ts ++ t ∷ others) (length ts) → IsDecidedAt text line D
     fault-decided D k = record {
@@ -196,10 +197,10 @@ run-end None c e = cc
 run-end (Some d) c e = end-done d c (sym (run-snoc step [] words.End d d refl) ∙ e)
 
 -- no token is left
-module _ {text : List ℕ} {left : List Tok → Type 0} {c : Config} {before : Option Kind} {ts : List Tok}
-    (h : HasTaken text left c before ts) (none : h.rest ≡ []) where
+module _ {text : List ℕ} {left next : TokenIter Kind} {c : Config} {before : Option Kind} {ts : List Tok}
+    (h : HasTaken text left c before ts) (none : GivesFirst left None next) where
   tokens-every : AreTokens (length text) text ts
-  tokens-every = simp (none, append-nil) at h.all
+  tokens-every = lists.leads-end White First is_end left next h.leads none
 
   pub all-done : (rules : List Rule) × (c ≡ done rules)
   all-done =
@@ -222,19 +223,6 @@ module _ {text : List ℕ} {left : List Tok → Type 0} {c : Config} {before : O
     shallow = h.shallow;
   }
 
--- what is left of the text's tokens
-abbrev pub AreLeft : TokenIter Kind → List Tok → Type 0
-AreLeft = lexed.AreLeft White First is_end
-
-pub done-not : (r : Reader) (rules : List Rule) → config_of r ≡ done rules
-    → ((ds : Vec Definition Global) → r ≡ readers.Done ds → ⊥) → ⊥
-done-not readers.Start rules e f = cc
-done-not (readers.Named n p) rules e f = cc
-done-not (readers.Fresh b) rules e f = cc
-done-not (readers.Read b x) rules e f = cc
-done-not (readers.Name b n p) rules e f = cc
-done-not (readers.Done ds) rules e f = f ds refl
-
 -- a token of the text is cut as its kind says
 module _ (literal : (total : ℕ) (t r z : List ℕ) (p : Span) → Next total t (tok Literal z p) r → IsLiteral z)
     (class : (total : ℕ) (t r z : List ℕ) (p : Span) → Next total t (tok Class z p) r → IsClass z)
@@ -249,8 +237,8 @@ module _ (literal : (total : ℕ) (t r z : List ℕ) (p : Span) → Next total t
   cut-of total t r x n = cut-kind total t r x.slice.now x.kind x.span n
 
 -- the machine's step for the one word of a token is the token's
-pub taken-word : (c : Config) (t : Tok) (w : Word) (r : Result Reader Stop) → Says t w → Steps (step c w) r
-    → Takes c t r
-taken-word c t w (Ok r) says s = (w, says, s)
-taken-word c t w (Err stops.Hopeless) says s = λ v h. ap (step c) (one-word t v w h says) ∙ s
-taken-word c t w (Err stops.Memory) says s = tt
+pub taken-word : {A : Type 0} (c : Config) (t : Tok) (w : Word) (a : Result A Stop) (r : Reader) → Says t w
+    → Steps (step c w) a r → Takes c t a r
+taken-word c t w (Ok u) r says s = (w, says, s)
+taken-word c t w (Err stops.Hopeless) r says s = λ v h. ap (step c) (one-word t v w h says) ∙ s
+taken-word c t w (Err stops.Memory) r says s = tt

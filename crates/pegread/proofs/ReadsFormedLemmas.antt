@@ -25,7 +25,7 @@ use Rattle.pegread.specs.Words.{Word, Says, says_name, says_literal, says_class,
 use Rattle.pegread.proofs.ListedRulesLemmas.{IsFull}
 use Rattle.pegread.proofs.AreMarkedLemmas.{name-token, action-token}
 
--- what a word is known to tell
+-- what is known of a word
 abbrev pub IsProper : Word → Type 0
 IsProper (words.Ident n p) = IsName n
 IsProper (words.Literal bs) = AreBytes bs

@@ -50,7 +50,7 @@ same-tail : (w : Word) {r t : List Word} → IsMark w → SameWords (w ∷ r) t 
 same-tail w m (same_more same_word h) = record { rest = _; whole = refl; same = h }
 same-tail (words.Ident n p) m (same_more same_name h) = absurd m
 
--- what stands behind begins with that word
+-- what follows begins with that word
 record Passes (Spells : List Word → List Word → Type 0) (w : Word) (s r : List Word) : Type 0 where
   rest : List Word
   same : SameWords r rest

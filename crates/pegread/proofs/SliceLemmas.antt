@@ -118,7 +118,7 @@ comment-part (inside {b} p c) = let x = comment-part c in
       alone = λ s e. inside p (x.alone s e);
     }
 
--- a beginning of what a line end begins, or nothing
+-- a prefix of what a line end begins, or nothing
 line_end-front : (w r : List ℕ) {t : List ℕ} → t ≡ w ++ r → IsLineEnd t → IsLineEnd w
 line_end-front [] r e h = tt
 line_end-front (b ∷ w) r e h = rw e at h
@@ -312,7 +312,7 @@ module _ {b : ℕ} {t bs : List ℕ} (e : t ≡ b ∷ bs) where
   pub comment-off : {m r : List ℕ} → b ≡ 35 → Comment bs m → White m r → White t r
   comment-off p h k = rw (e, p) (piece (comment h) k)
 
--- what stands behind does not matter
+-- what follows does not matter
 pub names-before : {t m : List ℕ} (r : List ℕ) → Names t m → Names (t ++ r) (m ++ r)
 names-before r none = none
 names-before r (more h n) = more h (names-before r n)

@@ -24,7 +24,7 @@ closed-by (escape {b} c) = let x = closed-by c in
 closed-by (plain {b} p q c) = let x = closed-by c in
     record { inside = b ∷ x.inside; cut = ap (λ (z : List ℕ). b ∷ z) x.cut; paired = paired_plain q x.paired }
 
--- A closed text closes by itself too: what stands behind it doesn't count. So a token's slice is a literal's or a
+-- A closed text closes by itself too: what follows it does not count. So a token's slice is a literal's or a
 -- class's in the words of specs/.
 pub closes-alone : {mark : ℕ} {t r : List ℕ} → Closes mark t r → (s : List ℕ) → t ≡ s ++ r → Closes mark s []
 closes-alone {mark} {t} {r} c s e = let x = cut-alone c in
@@ -61,7 +61,7 @@ form-paired (hex_two h k) p = paired-behind_plain (hex-no_escape k)
 form-paired (hex_one h) p = paired-behind_plain (hex-no_escape h) (paired-behind_escape p)
 form-paired (itself h k) p = paired-behind_escape p
 
--- what stands behind a character has no backslash alone either
+-- what follows a character has no backslash alone either
 pub char-paired : {t r : List ℕ} {b : ℕ} → Char t r b → Paired t → Paired r
 char-paired h p = form-paired h.form p
 

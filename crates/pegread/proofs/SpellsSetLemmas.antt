@@ -11,7 +11,7 @@ use Rattle.pegread.specs.Classes.{in_ranges, bytes_in, complement, NoHat, Spells
 use Rattle.pegread.proofs.CharFrontLemmas.{char-one, char-shorter, no-char, some-char}
 use Rattle.pegread.proofs.SpellsBytesLemmas.{closed-by, char-paired, none-paired, paired-behind_plain, same-inside}
 
--- behind the `-` of a range the class goes on
+-- after the `-` of a range the class goes on
 goes-on : (m : List ℕ) {r : List ℕ} {b : ℕ} → Char m r b → GoesOn (45 ∷ m)
 goes-on [] h = absurd (no-char _ _ _ h tt)
 goes-on (c ∷ cs) h = refl
@@ -48,7 +48,7 @@ item-shorter : {t r : List ℕ} {a b : ℕ} → Item t r a b → length r < leng
 item-shorter (item_char h n) = char-shorter h
 item-shorter (item_range h k) = let x = char-shorter h in let y = char-shorter k in omega arith
 
--- what stands behind an item has no backslash alone
+-- what follows an item has no backslash alone
 pub item-paired : {t r : List ℕ} {a b : ℕ} → Item t r a b → Paired t → Paired r
 item-paired (item_char h n) p = char-paired h p
 item-paired (item_range h k) p = char-paired k (paired-behind_plain (omega arith) (char-paired h p))

@@ -28,7 +28,7 @@ abbrev pub is_act : Pattern → Bool
 is_act (Act t) = true
 is_act _ = false
 
--- an action, or a repetition or option of one: right behind an `&` its text would begin with an action, and be a
+-- an action, or a repetition or option of one: right after an `&` its text would begin with an action, and be a
 -- predicate in C
 abbrev pub leads_with_act : Pattern → Bool
 leads_with_act (Star e) = is_act e

@@ -12,7 +12,7 @@ pub data Hex : ℕ → ℕ → Type 0 where
   hex_upper : {d : ℕ} → d ≤ 5 → Hex (code "A" + d) (10 + d)
   hex_lower : {d : ℕ} → d ≤ 5 → Hex (code "a" + d) (10 + d)
 
--- a digit of the kind begins the text: the text, what stands behind the digit, and its value
+-- a digit of the kind begins the text: the text, what follows the digit, and its value
 pub data DigitFirst (Digit : ℕ → ℕ → Type 0) : List ℕ → List ℕ → ℕ → Type 0 where
   digit_first : {x n : ℕ} {r : List ℕ} → Digit x n → DigitFirst Digit (x ∷ r) r n
 
@@ -39,7 +39,7 @@ pub data Letter : ℕ → ℕ → Type 0 where
   -- `\v`, vertical tab
   letter_v : Letter (code "v") 11
 
--- A way to spell a byte at the front of a text: the text, what stands behind the spelling, and the byte. One text may
+-- A way to spell a byte at the front of a text: the text, what follows the spelling, and the byte. One text may
 -- have several: see Char. The table of forms is a rule of our own, as a whole.
 pub data Form : List ℕ → List ℕ → ℕ → Type 0 where
   -- any byte but a backslash, for itself
@@ -73,7 +73,7 @@ SpellsNone [] = Unit {0}
 SpellsNone (b ∷ []) = b ≡ code "\\"
 SpellsNone (b ∷ c ∷ cs) = ⊥
 
--- the bytes that a whole text spells, one behind the other
+-- the bytes that a whole text spells, one after the other
 pub data Chars : List ℕ → List ℕ → Type 0 where
   no_chars : Chars [] []
   more_chars : {t r bs : List ℕ} {b : ℕ} → Char t r b → Chars r bs → Chars t (b ∷ bs)

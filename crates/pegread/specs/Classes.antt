@@ -10,13 +10,13 @@ use Rattle.pegread.specs.Slices.{Closes}
 pub data IsClass : List ℕ → Type 0 where
   bracketed : {bs : List ℕ} → Closes (code "]") bs [] → IsClass (code "[" ∷ bs)
 
--- a plain `-` stands there, and more of the class behind it
+-- a plain `-` stands there, and more of the class after it
 abbrev pub GoesOn : List ℕ → Type 0
 GoesOn [] = ⊥
 GoesOn (b ∷ []) = ⊥
 GoesOn (b ∷ c ∷ cs) = b ≡ code "-"
 
--- An item at the front of a class's inside: the text, what stands behind the item, and the item's first and last byte.
+-- An item at the front of a class's inside: the text, what follows the item, and the item's first and last byte.
 -- The inside is without the brackets, so a `-` that ends it makes no range, a rule of our own.
 pub data Item : List ℕ → List ℕ → ℕ → ℕ → Type 0 where
   -- one character, a `-` too
@@ -24,7 +24,7 @@ pub data Item : List ℕ → List ℕ → ℕ → ℕ → Type 0 where
   -- a character, a plain `-`, and a character
   item_range : {t m r : List ℕ} {a b : ℕ} → Char t (code "-" ∷ m) a → Char m r b → Item t r a b
 
--- the items of a whole inside, one behind the other: the first and the last byte of each
+-- the items of a whole inside, one after the other: the first and the last byte of each
 pub data Ranges : List ℕ → List (ℕ × ℕ) → Type 0 where
   no_items : Ranges [] []
   more_items : {t r : List ℕ} {a b : ℕ} {xs : List (ℕ × ℕ)} → Item t r a b → Ranges r xs → Ranges t ((a, b) ∷ xs)

@@ -5,7 +5,7 @@ use Rattle.std.specs.List.{flat_map}
 use Rattle.ruletable.specs.Runs.{runs_of}
 use Rattle.pegread.specs.Classes.{complement}
 
--- the letter that stands for a control byte behind a backslash
+-- the letter that stands for a control byte after a backslash
 abbrev pub letter_for : ℕ → Option ℕ
 letter_for b = cond (b == 7) (Some (code "a")) (cond (b == 8) (Some (code "b"))
     (cond (b == 27) (Some (code "e")) (cond (b == 12) (Some (code "f"))
@@ -47,7 +47,7 @@ run_text run = cond (run.0 == run.1) (shown run.0)
 abbrev pub runs_text : (ℕ → Bool) → List ℕ
 runs_text f = flat_map run_text (runs_of f)
 
--- the runs of the members, or behind `^` those of the bytes that are none, if byte 255 is a member
+-- the runs of the members, or after `^` those of the bytes that are none, if byte 255 is a member
 abbrev pub class_text : (ℕ → Bool) → List ℕ
 class_text f = cond (f 255) (code "[" ∷ code "^" ∷ (runs_text (complement f) ++ code "]" ∷ []))
     (code "[" ∷ (runs_text f ++ code "]" ∷ []))

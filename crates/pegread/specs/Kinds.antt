@@ -9,7 +9,7 @@ abbrev pub is_end : Kind → Bool
 is_end End = true
 is_end _ = false
 
--- whether it is one byte, whatever stands behind that byte; `<` is not, since a `-` makes an arrow of it
+-- whether it is one byte, whatever follows that byte; `<` is not, since a `-` makes an arrow of it
 abbrev pub is_sign : Kind → Bool
 is_sign EndCap = true
 is_sign Slash = true

@@ -5,7 +5,7 @@ use Rattle.pegread.specs.declared.kind.Kind.TheVariants.{LParen, RParen}
 use Rattle.lexer.specs.TokenLists.{tok}
 use Rattle.pegread.specs.Tokens.{Tok}
 
--- the brackets that are open behind a token, of those that were before
+-- the brackets that are open after a token, of those that were before
 abbrev pub open_behind : Kind → ℕ → ℕ
 open_behind LParen d = suc d
 open_behind RParen zero = zero

@@ -9,7 +9,7 @@ use Rattle.pegread.specs.Spelling.{sequence, choice, rule_at}
 use Rattle.pegread.specs.Words.{Word, Ident, Arrow, Begin, EndCap, Slash, Amp, Bang, Quest, Star, Plus, Dot, LParen}
 use Rattle.pegread.specs.Words.{RParen, Literal, Class, Action, End}
 
--- one list of members behind another
+-- one list of members after another
 abbrev pub append : Patterns → Patterns → Patterns
 append none fs = fs
 append (more e es) fs = more e (append es fs)
@@ -82,7 +82,7 @@ abbrev pub end_step : List Level → List Rule → Option Config
 end_step [] rules = Some (done rules)
 end_step (l ∷ o) rules = None
 
--- a definition of that name begins behind these
+-- a definition of that name begins after these
 abbrev pub arrow_step : List Level → Mark → List Rule → List ℕ → Span → Option Config
 arrow_step [] m rules n p = unmarked m (Some (body (head rules n p) [] none none no_mark fresh))
 arrow_step (l ∷ o) m rules n p = None
@@ -104,14 +104,14 @@ fresh_step h o bs es m RParen = unmarked m (close_step o h (finish bs es))
 fresh_step h o bs es m End = unmarked m (end_step o (ended h (finish bs es)))
 fresh_step h o bs es m _ = None
 
--- a word behind a primary
+-- a word after a primary
 abbrev pub read_step : Head → List Level → Patterns → Patterns → Mark → Pattern → Word → Option Config
 read_step h o bs es m x Quest = Some (body h o bs (snoc es (apply m (Opt x))) no_mark fresh)
 read_step h o bs es m x Star = Some (body h o bs (snoc es (apply m (e.Star x))) no_mark fresh)
 read_step h o bs es m x Plus = Some (body h o bs (snoc es (apply m (e.Plus x))) no_mark fresh)
 read_step h o bs es m x w = fresh_step h o bs (snoc es (apply m x)) no_mark w
 
--- a word behind a name
+-- a word after a name
 abbrev pub name_step : Head → List Level → Patterns → Patterns → Mark → List ℕ → Span → Word → Option Config
 name_step h o bs es m n p Arrow = arrow_step o m (ended h (finish bs es)) n p
 name_step h o bs es m n p w = read_step h o bs es m (Name n) w

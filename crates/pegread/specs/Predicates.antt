@@ -7,7 +7,7 @@ use Rattle.pegread.specs.declared.kind.Kind.TheVariants.{Amp, Action}
 use Rattle.lexer.specs.TokenLists.{kind_of}
 use Rattle.pegread.specs.Tokens.{Tok}
 
--- an action right behind an `&`
+-- an action right after an `&`
 abbrev pub is_predicate : Option Kind → Kind → Bool
 is_predicate (Some Amp) Action = true
 is_predicate _ _ = false

@@ -34,7 +34,7 @@ abbrev pub ReadBack : Type 0
 ReadBack = (source : List ℕ) (rules : List Rule) → AreBytes source → Reads source rules → length (grammar_text rules)
     ≤ max_grammar → ReadsAs (grammar_text rules) rules
 
--- the canonical text tells nothing of spans
+-- the canonical text does not depend on spans
 abbrev pub SpansUnseen : Type 0
 SpansUnseen = (rules again : List Rule) → SameButSpans rules again → grammar_text rules ≡ grammar_text again
 

@@ -24,7 +24,7 @@ pub record Reads (text : List ℕ) (definitions : List Rule) : Type 0 where
   pub grammar : Grammar words definitions
   pub shallow : IsShallow max_open 0 tokens
 
--- an action right behind an `&`
+-- an action right after an `&`
 pub record IsCodePredicate (ts : List Tok) (i : ℕ) : Type 0 where
   pub place : ℕ
   pub next : i ≡ place + 1
@@ -54,8 +54,8 @@ pub record IsDecidedAt (text : List ℕ) (line : ℕ) (Decides : List Tok → �
   pub decides : Decides all number
   pub line_is : line ≡ line_at Any text (start_of token)
 
--- The text is refused for that fault. Its length is looked at first, then the first token that is hopeless or opens too
--- many brackets decides. Any allocation may fail, but a text that is too long is refused for its length alone.
+-- The text is rejected for that fault. Its length decides first, then the first token that is hopeless or opens too
+-- many brackets. Any allocation may fail, but a text that is too long is rejected for its length alone.
 abbrev pub IsFaultOf : List ℕ → ReadFault → Type 0
 IsFaultOf text (faults.Syntax line) = IsDecidedAt text line (λ ts i. IsHopeless ts i × (IsCodePredicate ts i → ⊥))
 IsFaultOf text (faults.CodePredicate line) = IsDecidedAt text line (λ ts i. IsHopeless ts i × IsCodePredicate ts i)

@@ -1,4 +1,4 @@
--- Where a token of a kind ends: each relation holds of a text and of what stands behind the token that begins it.
+-- Where a token of a kind ends: each relation holds of a text and of what follows the token that begins it.
 use Prim.Native.Char.{code}
 use Rattle.std.specs.Prelude.{◌≡◌, ◌≢◌, ℕ, ◌||◌, ◌==◌, Bool, true, false, List, [], ◌∷◌}
 use Rattle.std.specs.Char.{is_ascii_alphabetic, is_ascii_alphanumeric}
@@ -63,7 +63,7 @@ White = ends.White Piece
 abbrev pub NoDash : List ℕ → Type 0
 NoDash = ends.Lacks (code "-")
 
--- A token of the kind begins the text, and r is what stands behind it.
+-- A token of the kind begins the text, and r follows it.
 pub data Stands : Kind → List ℕ → List ℕ → Type 0 where
   ident : {b : ℕ} {bs r : List ℕ} → starts_name b ≡ true → Names bs r → Stands Ident (b ∷ bs) r
   arrow : {r : List ℕ} → Stands Arrow (code "<" ∷ code "-" ∷ r) r

@@ -1,5 +1,5 @@
--- Which words spell which grammars (peg(1) manual). A relation on two lists holds of a list and of what stands behind
--- the part that is spelled.
+-- Which words spell which grammars (peg(1) manual). A relation on two lists holds of a list and of what follows the
+-- part that is spelled.
 use Rattle.std.specs.Prelude.{ℕ, Bool, List, [], ◌∷◌}
 use Rattle.lexer.specs.Viability as viability
 use Rattle.ruletable.specs.declared.span.Span.{Span}

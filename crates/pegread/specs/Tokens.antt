@@ -9,8 +9,8 @@ use Rattle.pegread.specs.Slices.{White, First}
 abbrev pub Tok : Type 0
 Tok = lexed.Tok Kind
 
--- White space and then the token's slice begin t, and r stands behind it. The whole text has `total` bytes, of which t
--- are the last.
+-- White space and then the token's slice begin t, and r follows. The whole text has `total` bytes, of which t are the
+-- last.
 abbrev pub Next : ℕ → List ℕ → Tok → List ℕ → Type 0
 Next = lexed.Next White First
 

@@ -20,7 +20,7 @@ pub fn class_set(slice: &[u8]) -> ByteSet
     }
 }
 
-// The set of the items that a text spells, one behind the other.
+// Returns the set of the items that a text spells, one after the other.
 fn items_set(text: &[u8]) -> ByteSet
     requires { Paired text.now }
     ensures items { SpellsItems text.now (λ b. get_or result b false) }
@@ -35,7 +35,7 @@ fn items_set(text: &[u8]) -> ByteSet
     set
 }
 
-// An item of a class: its first and its last byte, and what stands behind it.
+// An item of a class: its first and its last byte, and what follows it.
 #[derive(Clone, Copy)]
 struct ClassItem<'a> {
     first: u8,

@@ -2,8 +2,8 @@
 ghost use Rattle.std.specs.Prelude.{◌≡◌, ◌≢◌, ℕ, ◌+◌, ◌≤◌, [], ◌∷◌, MatchOption};
 ghost use Rattle.pegread.specs.Chars.{code, Octal, Hex, Letter, DigitFirst, NoDigit, Char, SpellsNone};
 
-/// Returns the byte that is spelled at the front of a text, and what stands behind its spelling: the longest that
-/// peg(1) knows there. `None` exactly for the empty text and for a backslash alone.
+/// Returns the byte that is spelled at the front of a text, and what follows its spelling. The spelling is the longest
+/// that peg(1) knows there. Returns `None` exactly for the empty text and for a backslash alone.
 pub fn next_char(text: &[u8]) -> Option<(u8, &[u8])>
     ensures { MatchOption result (SpellsNone text.now) (λ x. Char text.now x.1.now x.0) }
 {
@@ -15,7 +15,7 @@ pub fn next_char(text: &[u8]) -> Option<(u8, &[u8])>
     }
 }
 
-// What a backslash and the text behind it spell.
+// Returns what a backslash and the text after it spell.
 fn next_escape(text: &[u8]) -> Option<(u8, &[u8])>
     ensures { MatchOption result (text.now ≡ []) (λ x. Char (code "\\" ∷ text.now) x.1.now x.0) }
 {
@@ -32,7 +32,7 @@ fn next_escape(text: &[u8]) -> Option<(u8, &[u8])>
     }
 }
 
-// What `\x` and the text behind it spell: without a digit, an `x`.
+// Returns what `\x` and the text after it spell: without a digit, an `x`.
 fn hex_escape(text: &[u8]) -> (u8, &[u8])
     ensures { Char (code "\\" ∷ code "x" ∷ text.now) result.1.now result.0 }
 {
@@ -45,8 +45,8 @@ fn hex_escape(text: &[u8]) -> (u8, &[u8])
     }
 }
 
-// What a backslash, the octal digit of that value and the text behind it spell: a third digit counts only where the
-// first is at most 3.
+// Returns what a backslash, the octal digit of that value and the text after it spell. A third digit counts only where
+// the first is at most 3.
 fn octal_escape(first: u8, text: &[u8]) -> (u8, &[u8])
     requires { first ≤ 7 }
     ensures { Char (code "\\" ∷ (code "0" + first) ∷ text.now) result.1.now result.0 }
@@ -64,7 +64,7 @@ fn octal_escape(first: u8, text: &[u8]) -> (u8, &[u8])
     }
 }
 
-// The octal digit that begins a text: its value, and what stands behind it.
+// Returns the value of the octal digit that begins a text, and what follows it.
 fn next_octal(text: &[u8]) -> Option<(u8, &[u8])>
     ensures { MatchOption result (NoDigit Octal text.now) (λ x. (x.0 ≤ 7) × DigitFirst Octal text.now x.1.now x.0) }
 {
@@ -73,7 +73,7 @@ fn next_octal(text: &[u8]) -> Option<(u8, &[u8])>
     Some((value, tail))
 }
 
-// The hexadecimal digit that begins a text: its value, and what stands behind it.
+// Returns the value of the hexadecimal digit that begins a text, and what follows it.
 fn next_hex(text: &[u8]) -> Option<(u8, &[u8])>
     ensures { MatchOption result (NoDigit Hex text.now) (λ x. (x.0 ≤ 15) × DigitFirst Hex text.now x.1.now x.0) }
 {
@@ -102,7 +102,7 @@ fn hex_digit(b: u8) -> Option<u8>
     }
 }
 
-// The byte that a letter behind a backslash stands for.
+// Returns the byte that a letter after a backslash stands for.
 fn letter_byte(b: u8) -> Option<u8>
     ensures { MatchOption result ((c : ℕ) → Letter b c → ⊥) (λ c. Letter b c) }
 {

@@ -8,7 +8,7 @@ pub enum Kind {
     Ident,
     /// `<-`, always where these two bytes begin a token.
     Arrow,
-    /// `<` with no `-` behind it.
+    /// `<` that no `-` follows.
     Begin,
     /// `>`.
     EndCap,

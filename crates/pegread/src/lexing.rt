@@ -33,7 +33,7 @@ fn is_newline(b: u8) -> bool
     b == b'\n' || b == b'\r'
 }
 
-// What stands behind a name's bytes.
+// Returns what follows a name's bytes.
 fn after_name(text: &[u8]) -> &[u8]
     ensures names { Names text.now result.now }
     ensures longest { (r : List ℕ) → Names text.now r → length result.now ≤ length r }
@@ -48,7 +48,7 @@ fn after_name(text: &[u8]) -> &[u8]
     rest
 }
 
-// What stands behind the next `mark` that no escape takes.
+// Returns what follows the next `mark` that no escape takes.
 fn after_mark(text: &[u8], mark: u8) -> Option<&[u8]>
     ensures { MatchOption result ((r : List ℕ) → Closes mark text.now r → ⊥) (λ rest. Closes mark text.now rest.now) }
 {
@@ -67,7 +67,7 @@ fn after_mark(text: &[u8], mark: u8) -> Option<&[u8]>
     None
 }
 
-// What stands behind the brace that matches one that stands before.
+// Returns what follows the brace that matches one before the text.
 fn after_brace(text: &[u8]) -> Option<&[u8]>
     ensures { MatchOption result ((r : List ℕ) → Body text.now r → ⊥) (λ rest. Body text.now rest.now) }
 {
@@ -87,7 +87,7 @@ fn after_brace(text: &[u8]) -> Option<&[u8]>
     None
 }
 
-// What stands behind a comment: the end of the line, or of the text.
+// Returns what follows a comment: the end of the line, or of the text.
 fn after_comment(text: &[u8]) -> &[u8]
     ensures comment { Comment text.now result.now }
     ensures shorter { length result.now ≤ length text.now }
@@ -102,7 +102,7 @@ fn after_comment(text: &[u8]) -> &[u8]
     rest
 }
 
-// What stands behind the white space.
+// Returns what follows the white space.
 pub(crate) fn after_blanks(text: &[u8]) -> &[u8]
     ensures white { White text.now result.now }
     ensures all { NoPiece Piece result.now }
@@ -120,7 +120,7 @@ pub(crate) fn after_blanks(text: &[u8]) -> &[u8]
     rest
 }
 
-// The token that a `<` begins: its kind, and what stands behind it.
+// Returns the kind of the token that a `<` begins, and what follows it.
 fn angle_token(tail: &[u8]) -> (Kind, &[u8])
     ensures { First result.0 (code "<" ∷ tail.now) result.1.now }
 {
@@ -130,7 +130,7 @@ fn angle_token(tail: &[u8]) -> (Kind, &[u8])
     }
 }
 
-// The kind of token that the byte is, whatever stands behind it.
+// Returns the kind of the token that the byte is, whatever follows it.
 fn sign_kind(b: u8) -> Option<Kind>
     ensures { MatchOption result ((r : List ℕ) → StandsNone is_sign (b ∷ r))
         (λ kind. (r : List ℕ) → First kind (b ∷ r) r) }
@@ -150,7 +150,7 @@ fn sign_kind(b: u8) -> Option<Kind>
     }
 }
 
-// The token that a mark of its own closes: its kind, and what stands behind it.
+// Returns the kind of the token that a mark of its own closes, and what follows it.
 fn closed_token(first: u8, tail: &[u8]) -> Option<(Kind, &[u8])>
     ensures { MatchOption result (StandsNone is_closed (first ∷ tail.now))
         (λ token. First token.0 (first ∷ tail.now) token.1.now) }
@@ -166,7 +166,7 @@ fn closed_token(first: u8, tail: &[u8]) -> Option<(Kind, &[u8])>
     }
 }
 
-// The first token of a text that no white space begins: its kind, and what stands behind it.
+// Returns the kind of the first token of a text that no white space begins, and what follows it.
 pub(crate) fn first_of(text: &[u8]) -> (Kind, &[u8])
     requires { NoPiece Piece text.now }
     ensures { First result.0 text.now result.1.now }

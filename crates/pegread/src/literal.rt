@@ -19,7 +19,7 @@ pub fn literal_bytes(alloc: Global, slice: &[u8]) -> Result<Vec<u8>, Memory>
     text_bytes(alloc, inside(slice))
 }
 
-// The bytes that a text spells, one behind the other.
+// Returns the bytes that a text spells, one after the other.
 fn text_bytes(alloc: Global, text: &[u8]) -> Result<Vec<u8>, Memory>
     requires { Paired text.now }
     ensures { IfOk result (λ bytes. Chars text.now bytes.items) }

@@ -34,8 +34,8 @@ fn print_at<W: Sink>(e: &Expr, place: Place, w: &mut W) -> Result<(), WriteFault
     }
 }
 
-/// Writes an expression's canonical text as it stands in a sequence: in parentheses where it needs them. `WriteFault`
-/// where the writer fails; then a beginning of the text is written.
+/// Writes an expression's canonical text as it stands in a sequence: in parentheses where it needs them. Returns
+/// `WriteFault` where the writer fails; then a prefix of the text is written.
 pub fn print_member<W: Sink>(e: &Expr, w: &mut W) -> Result<(), WriteFault>
     requires { W.failed w.old ≡ false }
     ensures bytes { Writes (W.contents w.old) (W.contents w.new)
@@ -79,8 +79,8 @@ fn print_prefixed<W: Sink>(
     }
 }
 
-/// Writes an expression's canonical text, as it stands as a rule's body. `WriteFault` where the writer fails; then a
-/// beginning of the text is written.
+/// Writes an expression's canonical text, as it stands as a rule's body. Returns `WriteFault` where the writer fails;
+/// then a prefix of the text is written.
 ///
 /// It takes no memory, and recurses no deeper than the expression.
 #[cycle(printing)]
@@ -157,8 +157,8 @@ fn print_definition<W: Sink>(name: &[u8], body: &Expr, w: &mut W) -> Result<(), 
     }
 }
 
-/// Writes a grammar's canonical text: each rule in order, with no parentheses but those that it needs. `WriteFault`
-/// where the writer fails; then a beginning of the text is written.
+/// Writes a grammar's canonical text: each rule in order, with no parentheses but those that it needs. Returns
+/// `WriteFault` where the writer fails; then a prefix of the text is written.
 ///
 /// Where the grammar was read from some text, no name is defined again, and the canonical text has at most
 /// `MAX_GRAMMAR` bytes, that text reads as the same rules, but for their spans, and as nothing else. It takes no
@@ -180,10 +180,10 @@ pub fn print_peg<W: Sink>(peg: &Peg, w: &mut W) -> Result<(), WriteFault>
     Ok(())
 }
 
-/// Laws of canonical texts. What a text reads as, its canonical text reads as too, but for spans, and as nothing else;
-/// no bracket is too many. The canonical text tells nothing of spans, so that of a canonical text is itself. And what a
-/// text reads as is formed: names are names, the braces of templates match, no sequence has one member, and no choice
-/// fewer than two alternatives.
+/// Says the laws of canonical texts. What a text reads as, its canonical text reads as too, but for spans, and as
+/// nothing else; no bracket is too many. The canonical text does not depend on spans, so that of a canonical text is
+/// itself. And what a text reads as is formed: names are names, the braces of templates match, no sequence has one
+/// member, and no choice fewer than two alternatives.
 pub fn is_read_back()
     ensures read_back { ReadBack }
     ensures spans { SpansUnseen }

@@ -11,7 +11,7 @@ ghost use Rattle.pegread.specs.Pattern as patterns;
 
 use ruletable::{ByteSet, Sink, WriteFault, write_pieces, write_whole};
 
-// The letter that stands for a control byte behind a backslash.
+// Returns the letter that stands for a control byte after a backslash.
 fn letter_for(b: u8) -> Option<u8>
     ensures { result ≡ the_letter b }
 {
@@ -35,7 +35,7 @@ fn is_unprintable(b: u8) -> bool
     b < 32 || b > 126
 }
 
-// A control byte by its letter; else by octal digits or behind a backslash, where so it is to be; else as itself.
+// Writes a control byte by its letter; else by octal digits or after a backslash, where so it is to be; else as itself.
 #[tactic(auto, unfolding(crate::specs::Escapes::written))]
 fn print_byte<W: Sink>(b: u8, as_octal: bool, marked: bool, w: &mut W) -> Result<(), WriteFault>
     requires { W.failed w.old ≡ false }
@@ -92,7 +92,7 @@ fn print_bytes<W: Sink>(bytes: &[u8], w: &mut W) -> Result<(), WriteFault>
     Ok(())
 }
 
-/// Writes a literal in its canonical text. `WriteFault` where the writer fails; then a beginning of it is written.
+/// Writes a literal in its canonical text. Returns `WriteFault` where the writer fails; then a prefix of it is written.
 pub fn print_literal<W: Sink>(bytes: &[u8], w: &mut W) -> Result<(), WriteFault>
     requires { W.failed w.old ≡ false }
     ensures bytes { Writes (W.contents w.old) (W.contents w.new) (canon.text_of (patterns.Pattern.Bytes bytes.now))
@@ -155,7 +155,7 @@ fn print_runs<W: Sink>(set: &ByteSet, w: &mut W) -> Result<(), WriteFault>
     Ok(())
 }
 
-// A class of these runs, behind its opening mark.
+// Writes a class of these runs, after its opening mark.
 fn print_class<W: Sink>(mark: &[u8], set: &ByteSet, w: &mut W) -> Result<(), WriteFault>
     requires { W.failed w.old ≡ false }
     ensures bytes { Writes (W.contents w.old) (W.contents w.new)
@@ -172,8 +172,8 @@ fn print_class<W: Sink>(mark: &[u8], set: &ByteSet, w: &mut W) -> Result<(), Wri
     }
 }
 
-/// Writes a class in its canonical text: the ranges of its members, or of all other bytes behind `^` if the byte 255 is
-/// a member. `WriteFault` where the writer fails; then a beginning of it is written.
+/// Writes a class in its canonical text: the ranges of its members, or of all other bytes after `^` if the byte 255 is
+/// a member. Returns `WriteFault` where the writer fails; then a prefix of it is written.
 pub fn print_set<W: Sink>(set: &ByteSet, w: &mut W) -> Result<(), WriteFault>
     requires { W.failed w.old ≡ false }
     ensures bytes { Writes (W.contents w.old) (W.contents w.new) (class_text (test_of set.now)) result }

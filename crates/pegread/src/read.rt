@@ -3,6 +3,7 @@ ghost use Rattle.std.specs.Prelude.{◌≡◌, ◌≢◌, ℕ, ◌<◌, ◌≤�
 ghost use Rattle.std.specs.Prelude.{Some, Err, IfOk, IfErr, MatchResult};
 ghost use Rattle.ruletable.specs.declared.span.Span.{Span};
 ghost use Rattle.pegread.specs.Definitions.{IsTableOf};
+ghost use Rattle.pegread.specs.Machine as machine;
 ghost use Rattle.pegread.specs.Marks.{IsCut};
 ghost use Rattle.pegread.specs.Pattern.{Rule};
 ghost use Rattle.pegread.specs.Reading.{Reads, IsFaultOf};
@@ -16,7 +17,7 @@ ghost use Rattle.pegread.specs.Words.{Word, Says, SayAll};
 
 use crate::expr::Peg;
 use crate::kind::Kind;
-use crate::reader::{Definition, Reader, Stop, open_brackets, take};
+use crate::reader::{Definition, Reader, Stop};
 use crate::token_lists::are_marked;
 use crate::words::word_in;
 use lexer::{MAX_GRAMMAR, MAX_OPEN, Token, have_tokens, tokens};
@@ -30,8 +31,8 @@ use std::alloc::Global;
 ///
 /// # Errors
 /// - `TooLong`, before all else and whatever memory does, for a text of more than `MAX_GRAMMAR` bytes.
-/// - Else the first token decides with which the text is no beginning of a grammar any more, or which opens one bracket
-///   more than `MAX_OPEN` at once: `Depth` for the latter, `CodePredicate` for an action right behind `&`, and `Syntax`
+/// - Else the first token decides with which the text is no prefix of a grammar any more, or which opens one bracket
+///   more than `MAX_OPEN` at once: `Depth` for the latter, `CodePredicate` for an action right after `&`, and `Syntax`
 ///   for any other. The line is that of the token's first byte, where lines end with LF, CR LF or CR.
 /// - `Memory` if an allocation fails.
 pub fn read_peg(alloc: Global, text: &[u8]) -> Result<Peg, ReadFault>
@@ -52,44 +53,54 @@ pub fn read_peg(alloc: Global, text: &[u8]) -> Result<Peg, ReadFault>
     }
 }
 
-// Reads the definitions of a text that isn't too long.
+// Reads the definitions of a text that is not too long.
 fn read_definitions(alloc: Global, text: &[u8]) -> Result<Vec<Definition<'_>>, ReadFault>
     requires { length text.now ≤ max_grammar }
     ensures found { IfOk result (λ ds. Reads text.now (rules_from ds.items)) }
     ensures fault { IfErr result (λ f. IsFaultOf text.now f) }
 {
+    let mut reader = Reader::new(alloc);
+    take_tokens(alloc, text, &mut reader)?;
+    match reader.into_definitions() {
+        Some(definitions) => Ok(definitions),
+        None => unreachable!(),
+    }
+}
+
+// Takes the tokens of a text that is not too long. Only a fault goes over them again.
+fn take_tokens<'a>(alloc: Global, text: &'a [u8], reader: &mut Reader<'a>) -> Result<(), ReadFault>
+    requires within { length text.now ≤ max_grammar }
+    requires fresh { config_of reader.old ≡ machine.start }
+    ensures found { IfOk result (λ _. (rules : List Rule) × Reads text.now rules
+        × (config_of reader.new ≡ machine.done rules)) }
+    ensures fault { IfErr result (λ f. IsFaultOf text.now f) }
+{
     are_marked();
-    have_tokens::<Kind>(text);
-    let mut reader = Reader::Start;
     let mut before = None;
     for token in tokens::<Kind>(text) {
         let at = token.span.start;
         let kind = token.kind;
         match take_token(alloc, reader, token) {
-            Ok(next) => {
-                if open_brackets(&next) > MAX_OPEN {
+            Ok(()) => {
+                if reader.open_brackets() > MAX_OPEN {
+                    have_tokens::<Kind>(text);
                     return Err(ReadFault::Depth {
                         line: line_of(text, at, LineRule::Any),
                     });
                 }
-                reader = next;
                 before = Some(kind);
             }
-            Err(Stop::Hopeless) => return Err(hopeless(
-                before,
-                kind,
-                line_of(text, at, LineRule::Any),
-            )),
+            Err(Stop::Hopeless) => {
+                have_tokens::<Kind>(text);
+                return Err(hopeless(before, kind, line_of(text, at, LineRule::Any)));
+            }
             Err(Stop::Memory) => return Err(ReadFault::Memory),
         }
     }
-    match reader {
-        Reader::Done(definitions) => Ok(definitions),
-        _ => unreachable!(),
-    }
+    Ok(())
 }
 
-// What is wrong where a token of that kind goes on no grammar, by the kind of the token before it.
+// Returns the fault of a token that no grammar goes on with, by its kind and by the kind of the token before it.
 fn hopeless(before: Option<Kind>, kind: Kind, line: usize) -> ReadFault
     ensures { result ≡ hopeless_fault before kind line }
 {
@@ -102,20 +113,20 @@ fn hopeless(before: Option<Kind>, kind: Kind, line: usize) -> ReadFault
 // Takes what a token says.
 fn take_token<'a>(
     alloc: Global,
-    reader: Reader<'a>,
+    reader: &mut Reader<'a>,
     token: Token<'a, Kind>,
-) -> Result<Reader<'a>, Stop>
+) -> Result<(), Stop>
     requires { IsCut token.kind token.slice.now }
-    ensures { Takes (config_of reader.entry) (tok_of token.entry) result }
+    ensures { Takes (config_of reader.old) (tok_of token.entry) result reader.new }
 {
     match word_in(alloc, token) {
-        Ok(Some(word)) => take(alloc, reader, word),
+        Ok(Some(word)) => reader.take(word),
         Ok(None) => Err(Stop::Hopeless),
         Err(Memory) => Err(Stop::Memory),
     }
 }
 
-// The table of these definitions.
+// Makes the table of these definitions.
 fn peg_of(alloc: Global, definitions: Vec<Definition<'_>>) -> Result<Peg, Memory>
     requires { 0 < length definitions.items }
     ensures { IfOk result (λ peg. IsTableOf (rules_from definitions.entry.items) peg.rules peg.redefined.items) }
@@ -141,8 +152,8 @@ pub fn one_tree()
     ensures tree { (ws : List Word) → (a b : List Rule) → Grammar ws a → Grammar ws b → a ≡ b }
 {}
 
-/// Says that a text spells at most one list of definitions or has at most one fault, and never both; but memory may be
-/// refused in reading it.
+/// Says that a text spells at most one list of definitions or has at most one fault, and never both; but an allocation
+/// may fail in reading it.
 pub fn one_reading()
     ensures definitions { (text : List ℕ) (a b : List Rule) → Reads text a → Reads text b → a ≡ b }
     ensures no_fault { (text : List ℕ) (definitions : List Rule) (fault : ReadFault) → IsFaultOf text fault

@@ -1,23 +1,24 @@
 //! Takes a grammar's words one by one.
-ghost use Rattle.std.specs.Prelude.{◌≡◌, ◌++◌, ◌∷◌, [], IfOk};
-ghost use Rattle.pegread.specs.Spelling.{sequence as sequence_of, choice as choice_of};
-ghost use Rattle.pegread.specs.Machine.{step, close_step, finish, ended, apply, levels_in, snoc, level as a_level};
-ghost use Rattle.pegread.specs.Machine.{body as a_body, head, no_mark, fresh as is_fresh};
-ghost use Rattle.pegread.specs.Pattern.{none, Name};
+ghost use Rattle.std.specs.Prelude.{◌≡◌, ◌∷◌, List, [], IfOk, Some, MatchOption};
+ghost use Rattle.pegread.specs.Machine as machine;
+ghost use Rattle.pegread.specs.Machine.{apply, close_step, end_step, ended, finish, fresh_step, head, levels_in};
+ghost use Rattle.pegread.specs.Machine.{level as a_level, name_step, no_mark, read_step, snoc, step};
+ghost use Rattle.pegread.specs.Pattern.{none, Rule};
 ghost use Rattle.pegread.specs.PegViews.{pattern_of, patterns_of};
-ghost use Rattle.pegread.specs.Steps.{Steps, config_of, config_with, with_mark, head_of, level_of, levels_of, mark_of};
-ghost use Rattle.pegread.specs.Steps.{rules_from, word_of, step_fresh, step_unmarked, step_read, step_name, AddsItem};
-ghost use Rattle.pegread.specs.Steps.{IsOpened, HasNewSequence};
+ghost use Rattle.pegread.specs.Spelling.{sequence as sequence_of, choice as choice_of};
+ghost use Rattle.pegread.specs.Steps.{Steps, body_config, config_of, ended_of, head_of, last_items, mark_of, outer_of};
+ghost use Rattle.pegread.specs.Steps.{rules_from, unmarked_step, waiting_of, word_of};
 
 use crate::expr::Expr;
 use crate::words::Word;
 use ruletable::Span;
 use std::alloc::{AllocError, AllocFailed, Global};
+use std::mem;
 
 /// Why the reader takes no further word.
 #[derive(Clone, Copy)]
 pub(crate) enum Stop {
-    /// With this word the words so far begin no grammar.
+    /// With this word the words so far are no prefix of a grammar.
     Hopeless,
     /// An allocation failed.
     Memory,
@@ -43,7 +44,7 @@ impl<T: Drop> From<AllocFailed<T>> for Stop {
     }
 }
 
-/// A prefix that waits for its item.
+/// A prefix operator that waits for its item.
 #[derive(Clone, Copy)]
 pub(crate) enum Prefix {
     Nothing,
@@ -51,7 +52,7 @@ pub(crate) enum Prefix {
     And,
 }
 
-/// A definition as it was read: the name and where it stands, and the body.
+/// A definition as it was read: its name, the name's span, and the body.
 #[derive(Drop)]
 pub(crate) struct Definition<'a> {
     pub(crate) name: &'a [u8],
@@ -59,7 +60,7 @@ pub(crate) struct Definition<'a> {
     pub(crate) body: Expr,
 }
 
-/// An expression that stands open: the alternatives that ended, the items of the last one, and a prefix.
+/// What an open bracket interrupts: the alternatives that ended, the items of the last one, and a prefix operator.
 #[derive(Drop)]
 pub(crate) struct Level {
     alternatives: Vec<Expr>,
@@ -67,35 +68,39 @@ pub(crate) struct Level {
     prefix: Prefix,
 }
 
-/// The definitions that ended, the name of the one that goes on and where it stands, the expressions round open
-/// brackets, and the innermost one.
+/// What the reader took last.
 #[derive(Drop)]
-pub(crate) struct Body<'a> {
+pub(crate) enum At<'a> {
+    /// No word.
+    Start,
+    /// The first definition's name.
+    Named(&'a [u8], Span),
+    /// A word that no suffix may follow.
+    Fresh,
+    /// A primary, which a suffix may follow.
+    Read(Expr),
+    /// A name, which may also begin the next definition.
+    Name(&'a [u8], Span),
+    /// The end.
+    Done,
+}
+
+/// Takes words, and makes definitions of them. It has the definitions that ended, the name of the one that goes on,
+/// what its open brackets interrupt, and the alternatives, the items and the prefix operator within the innermost one.
+#[derive(Drop)]
+pub(crate) struct Reader<'a> {
+    alloc: Global,
     definitions: Vec<Definition<'a>>,
     name: &'a [u8],
     span: Span,
     outer: Vec<Level>,
-    level: Level,
+    alternatives: Vec<Expr>,
+    items: Vec<Expr>,
+    prefix: Prefix,
+    at: At<'a>,
 }
 
-/// What the words so far have come to.
-#[derive(Drop)]
-pub(crate) enum Reader<'a> {
-    /// No word was taken.
-    Start,
-    /// The first definition's name, and where it stands.
-    Named(&'a [u8], Span),
-    /// A beginning of a definition's expression, behind which no suffix may stand.
-    Fresh(Body<'a>),
-    /// A beginning, and then a primary, which a suffix may follow.
-    Read(Body<'a>, Expr),
-    /// A beginning, and then a name, which may also begin the next definition.
-    Name(Body<'a>, &'a [u8], Span),
-    /// All definitions, and the end.
-    Done(Vec<Definition<'a>>),
-}
-
-// A sequence of one item is that item.
+// Makes a sequence of these items. A sequence of one item is that item.
 fn sequence(mut items: Vec<Expr>) -> Expr
     ensures { pattern_of result ≡ sequence_of (patterns_of items.items) }
 {
@@ -108,7 +113,7 @@ fn sequence(mut items: Vec<Expr>) -> Expr
     }
 }
 
-// An expression of one sequence is that sequence.
+// Makes a choice of these alternatives. A choice of one alternative is that alternative.
 fn choice(mut alternatives: Vec<Expr>) -> Expr
     ensures { pattern_of result ≡ choice_of (patterns_of alternatives.items) }
 {
@@ -121,7 +126,7 @@ fn choice(mut alternatives: Vec<Expr>) -> Expr
     }
 }
 
-// The expression of these alternatives and one more, of these items.
+// Makes a choice of these alternatives and of one more, the sequence of these items.
 fn finished(mut alternatives: Vec<Expr>, items: Vec<Expr>) -> Result<Expr, AllocError>
     ensures { IfOk result (λ e. pattern_of e ≡ finish (patterns_of alternatives.items) (patterns_of items.items)) }
 {
@@ -129,7 +134,7 @@ fn finished(mut alternatives: Vec<Expr>, items: Vec<Expr>) -> Result<Expr, Alloc
     Ok(choice(alternatives))
 }
 
-// An item under a prefix.
+// Puts an item under a prefix operator.
 fn prefixed(alloc: Global, prefix: Prefix, item: Expr) -> Result<Expr, AllocError>
     ensures { IfOk result (λ e. pattern_of e ≡ apply (mark_of prefix) (pattern_of item)) }
 {
@@ -140,347 +145,278 @@ fn prefixed(alloc: Global, prefix: Prefix, item: Expr) -> Result<Expr, AllocErro
     }
 }
 
-// Nothing yet.
-fn new_level(alloc: Global) -> Level
-    ensures alternatives { result.alternatives.items ≡ [] }
-    ensures items { result.items.items ≡ [] }
-    ensures prefix { result.prefix ≡ Prefix.Nothing }
-{
-    Level {
-        alternatives: Vec::new(alloc),
-        items: Vec::new(alloc),
-        prefix: Prefix::Nothing,
+impl<'a> Reader<'a> {
+    /// Returns a reader that has taken no word.
+    pub(crate) fn new(alloc: Global) -> Reader<'a>
+        ensures { config_of result ≡ machine.start }
+    {
+        Reader {
+            alloc,
+            definitions: Vec::new(alloc),
+            name: &[],
+            span: Span { start: 0, end: 0 },
+            outer: Vec::new(alloc),
+            alternatives: Vec::new(alloc),
+            items: Vec::new(alloc),
+            prefix: Prefix::Nothing,
+            at: At::Start,
+        }
     }
-}
 
-// A definition of that name, of which no word was taken, behind these.
-fn new_body<'a>(
-    alloc: Global,
-    definitions: Vec<Definition<'a>>,
-    name: &'a [u8],
-    span: Span,
-) -> Body<'a>
-    ensures { config_with result is_fresh ≡ a_body (head (rules_from definitions.entry.items) name.now span) [] none
-        none no_mark is_fresh }
-{
-    Body {
-        definitions,
-        name,
-        span,
-        outer: Vec::new(alloc),
-        level: new_level(alloc),
+    // Adds an item, under the prefix operator that waits for it.
+    fn push_item(&mut self, item: Expr) -> Result<(), Stop>
+        ensures { Steps (Some (machine.body (head_of self.old) (outer_of self.old) (ended_of self.old)
+            (snoc (last_items self.old) (apply (waiting_of self.old) (pattern_of item))) no_mark machine.fresh)) result
+            self.new }
+    {
+        let item = prefixed(self.alloc, self.prefix, item)?;
+        self.items.push(item)?;
+        self.prefix = Prefix::Nothing;
+        self.at = At::Fresh;
+        Ok(())
     }
-}
 
-// Adds an item, under the prefix that waits for it.
-fn with_item(alloc: Global, body: Body<'_>, item: Expr) -> Result<Body<'_>, AllocError>
-    ensures { IfOk result (λ b. AddsItem body.entry b (pattern_of item)) }
-{
-    let Body {
-        definitions,
-        name,
-        span,
-        outer,
-        level,
-    } = body;
-    let level = level_with_item(alloc, level, item)?;
-    Ok(Body {
-        definitions,
-        name,
-        span,
-        outer,
-        level,
-    })
-}
-
-fn level_with_item(alloc: Global, level: Level, item: Expr) -> Result<Level, AllocError>
-    ensures { IfOk result (λ l. level_of l ≡ a_level (patterns_of level.alternatives.items)
-        (snoc (patterns_of level.items.items) (apply (mark_of level.prefix) (pattern_of item))) no_mark) }
-{
-    let Level {
-        alternatives,
-        mut items,
-        prefix,
-    } = level;
-    items.push(prefixed(alloc, prefix, item)?)?;
-    Ok(Level {
-        alternatives,
-        items,
-        prefix: Prefix::Nothing,
-    })
-}
-
-// Lets a prefix wait.
-fn with_prefix(body: Body<'_>, prefix: Prefix) -> Body<'_>
-    ensures { config_with result is_fresh ≡ with_mark (config_with body.entry is_fresh) (mark_of prefix) }
-{
-    let Body {
-        definitions,
-        name,
-        span,
-        outer,
-        level,
-    } = body;
-    let Level {
-        alternatives,
-        items,
-        prefix: _,
-    } = level;
-    Body {
-        definitions,
-        name,
-        span,
-        outer,
-        level: Level {
+    // Opens a bracket.
+    fn open_bracket(&mut self) -> Result<(), Stop>
+        ensures { Steps (Some (machine.body (head_of self.old)
+            (a_level (ended_of self.old) (last_items self.old) (waiting_of self.old) ∷ outer_of self.old) none none
+            no_mark machine.fresh)) result self.new }
+    {
+        let alternatives = mem::replace(&mut self.alternatives, Vec::new(self.alloc));
+        let items = mem::replace(&mut self.items, Vec::new(self.alloc));
+        self.outer.push(Level {
             alternatives,
             items,
-            prefix,
-        },
+            prefix: self.prefix,
+        })?;
+        self.prefix = Prefix::Nothing;
+        self.at = At::Fresh;
+        Ok(())
     }
-}
 
-// Opens a bracket.
-fn with_bracket(alloc: Global, body: Body<'_>) -> Result<Body<'_>, AllocError>
-    ensures { IfOk result (λ b. IsOpened body.entry b) }
-{
-    let Body {
-        definitions,
-        name,
-        span,
-        mut outer,
-        level,
-    } = body;
-    outer.push(level)?;
-    Ok(Body {
-        definitions,
-        name,
-        span,
-        outer,
-        level: new_level(alloc),
-    })
-}
+    // Ends a sequence at a slash.
+    fn end_sequence(&mut self) -> Result<(), Stop>
+        ensures { Steps (Some (machine.body (head_of self.old) (outer_of self.old)
+            (snoc (ended_of self.old) (sequence_of (last_items self.old))) none (waiting_of self.old) machine.fresh))
+            result self.new }
+    {
+        let items = mem::replace(&mut self.items, Vec::new(self.alloc));
+        self.alternatives.push(sequence(items))?;
+        self.at = At::Fresh;
+        Ok(())
+    }
 
-// Ends a sequence at a slash.
-fn with_sequence(alloc: Global, body: Body<'_>) -> Result<Body<'_>, AllocError>
-    requires { body.level.prefix ≡ Prefix.Nothing }
-    ensures { IfOk result (λ b. HasNewSequence body.entry b) }
-{
-    let Body {
-        definitions,
-        name,
-        span,
-        outer,
-        level,
-    } = body;
-    let level = level_with_sequence(alloc, level)?;
-    Ok(Body {
-        definitions,
-        name,
-        span,
-        outer,
-        level,
-    })
-}
+    // Takes a primary, which a suffix may follow.
+    fn take_primary(&mut self, primary: Expr) -> Result<(), Stop>
+        ensures { Steps (Some (body_config self.old (machine.read (pattern_of primary)))) result self.new }
+    {
+        self.at = At::Read(primary);
+        Ok(())
+    }
 
-fn level_with_sequence(alloc: Global, level: Level) -> Result<Level, AllocError>
-    ensures { IfOk result (λ l. level_of l ≡ a_level
-        (snoc (patterns_of level.alternatives.items) (sequence_of (patterns_of level.items.items))) none
-        (mark_of level.prefix)) }
-{
-    let Level {
-        mut alternatives,
-        items,
-        prefix,
-    } = level;
-    alternatives.push(sequence(items))?;
-    Ok(Level {
-        alternatives,
-        items: Vec::new(alloc),
-        prefix,
-    })
-}
+    // Closes a bracket.
+    fn close_bracket(&mut self) -> Result<(), Stop>
+        ensures { Steps (close_step (outer_of self.old) (head_of self.old)
+            (finish (ended_of self.old) (last_items self.old))) result self.new }
+    {
+        let Some(level) = self.outer.pop() else {
+            return Err(Stop::Hopeless);
+        };
+        let alternatives = mem::replace(&mut self.alternatives, level.alternatives);
+        let items = mem::replace(&mut self.items, level.items);
+        self.prefix = level.prefix;
+        let e = finished(alternatives, items)?;
+        self.take_primary(e)
+    }
 
-// Closes a bracket.
-fn close_bracket(body: Body<'_>) -> Result<Reader<'_>, Stop>
-    ensures { Steps (close_step (levels_of body.entry.outer.items) (head_of body.entry)
-        (finish (patterns_of body.entry.level.alternatives.items) (patterns_of body.entry.level.items.items))) result }
-{
-    let Body {
-        definitions,
-        name,
-        span,
-        mut outer,
-        level,
-    } = body;
-    match outer.pop() {
-        Some(before) => {
-            let e = finished(level.alternatives, level.items)?;
-            let around = Body {
-                definitions,
-                name,
-                span,
-                outer,
-                level: before,
-            };
-            Ok(Reader::Read(around, e))
+    // Ends the definition that goes on.
+    fn end_definition(&mut self) -> Result<(), AllocError>
+        ensures { IfOk result (λ _. rules_from self.new.definitions.items ≡ ended (head_of self.old)
+            (finish (ended_of self.old) (last_items self.old))) }
+    {
+        let alternatives = mem::replace(&mut self.alternatives, Vec::new(self.alloc));
+        let items = mem::replace(&mut self.items, Vec::new(self.alloc));
+        let body = finished(alternatives, items)?;
+        self.definitions.push(Definition {
+            name: self.name,
+            span: self.span,
+            body,
+        })?;
+        Ok(())
+    }
+
+    // Begins the body of the definition of that name.
+    fn begin_body(&mut self, name: &'a [u8], span: Span)
+        ensures { config_of self.new ≡ machine.body (head (rules_from self.old.definitions.items) name.now span) []
+            none none no_mark machine.fresh }
+    {
+        self.name = name;
+        self.span = span;
+        self.outer = Vec::new(self.alloc);
+        self.alternatives = Vec::new(self.alloc);
+        self.items = Vec::new(self.alloc);
+        self.prefix = Prefix::Nothing;
+        self.at = At::Fresh;
+    }
+
+    // Takes the end.
+    fn take_end(&mut self) -> Result<(), Stop>
+        ensures { Steps (end_step (outer_of self.old) (ended (head_of self.old)
+            (finish (ended_of self.old) (last_items self.old)))) result self.new }
+    {
+        if !self.outer.is_empty() {
+            return Err(Stop::Hopeless);
         }
-        None => Err(Stop::Hopeless),
+        self.end_definition()?;
+        self.at = At::Done;
+        Ok(())
     }
-}
 
-// Ends the definition that goes on.
-fn end_definition(body: Body<'_>) -> Result<Vec<Definition<'_>>, AllocError>
-    ensures { IfOk result (λ ds. rules_from ds.items ≡ ended (head_of body.entry)
-        (finish (patterns_of body.entry.level.alternatives.items) (patterns_of body.entry.level.items.items))) }
-{
-    let Body {
-        mut definitions,
-        name,
-        span,
-        outer: _,
-        level,
-    } = body;
-    let body = finished(level.alternatives, level.items)?;
-    definitions.push(Definition { name, span, body })?;
-    Ok(definitions)
-}
-
-// Takes a word where no suffix may stand.
-fn take_fresh<'a>(alloc: Global, body: Body<'a>, word: Word<'a>) -> Result<Reader<'a>, Stop>
-    ensures { Steps (step_fresh body.entry (word_of word.entry)) result }
-{
-    match word {
-        Word::Ident(name, span) => Ok(Reader::Name(body, name, span)),
-        Word::Literal(bytes) => Ok(Reader::Read(body, Expr::Bytes(bytes))),
-        Word::Class(members) => Ok(Reader::Read(body, Expr::Set(members))),
-        Word::Dot => Ok(Reader::Read(body, Expr::Any)),
-        Word::Begin => Ok(Reader::Read(body, Expr::Open)),
-        Word::EndCap => Ok(Reader::Read(body, Expr::Close)),
-        Word::Action(template) => match body.level.prefix {
-            Prefix::And => Err(Stop::Hopeless),
-            _ => Ok(Reader::Read(body, Expr::Act(template))),
-        },
-        Word::LParen => Ok(Reader::Fresh(with_bracket(alloc, body)?)),
-        _ => match body.level.prefix {
-            Prefix::Nothing => take_unmarked(alloc, body, word),
-            _ => Err(Stop::Hopeless),
-        },
-    }
-}
-
-// Takes a word where no suffix may stand, and no prefix waits.
-fn take_unmarked<'a>(alloc: Global, body: Body<'a>, word: Word<'a>) -> Result<Reader<'a>, Stop>
-    requires { body.level.prefix ≡ Prefix.Nothing }
-    ensures { Steps (step_unmarked body.entry (word_of word.entry)) result }
-{
-    match word {
-        Word::Bang => Ok(Reader::Fresh(with_prefix(body, Prefix::Not))),
-        Word::Amp => Ok(Reader::Fresh(with_prefix(body, Prefix::And))),
-        Word::Slash => Ok(Reader::Fresh(with_sequence(alloc, body)?)),
-        Word::RParen => close_bracket(body),
-        Word::End => {
-            if !body.outer.is_empty() {
-                return Err(Stop::Hopeless);
+    // Takes a word where no suffix may stand and no prefix operator waits.
+    fn take_unmarked(&mut self, word: Word<'a>) -> Result<(), Stop>
+        requires { self.old.prefix ≡ Prefix.Nothing }
+        ensures { Steps (unmarked_step (head_of self.old) (outer_of self.old) (ended_of self.old) (last_items self.old)
+            (word_of word.entry)) result self.new }
+    {
+        match word {
+            Word::Bang => {
+                self.prefix = Prefix::Not;
+                self.at = At::Fresh;
+                Ok(())
             }
-            Ok(Reader::Done(end_definition(body)?))
+            Word::Amp => {
+                self.prefix = Prefix::And;
+                self.at = At::Fresh;
+                Ok(())
+            }
+            Word::Slash => self.end_sequence(),
+            Word::RParen => self.close_bracket(),
+            Word::End => self.take_end(),
+            _ => Err(Stop::Hopeless),
         }
-        _ => Err(Stop::Hopeless),
     }
-}
 
-// Takes a word behind a primary.
-fn take_behind<'a>(
-    alloc: Global,
-    body: Body<'a>,
-    e: Expr,
-    word: Word<'a>,
-) -> Result<Reader<'a>, Stop>
-    ensures { Steps (step_read body.entry (pattern_of e) (word_of word.entry)) result }
-{
-    match word {
-        Word::Quest => {
-            let item = Expr::Opt(Box::new(alloc, e)?);
-            Ok(Reader::Fresh(with_item(alloc, body, item)?))
+    // Takes a word where no suffix may stand.
+    fn take_fresh(&mut self, word: Word<'a>) -> Result<(), Stop>
+        ensures { Steps (fresh_step (head_of self.old) (outer_of self.old) (ended_of self.old) (last_items self.old)
+            (waiting_of self.old) (word_of word.entry)) result self.new }
+    {
+        match word {
+            Word::Ident(name, span) => {
+                self.at = At::Name(name, span);
+                Ok(())
+            }
+            Word::Literal(bytes) => self.take_primary(Expr::Bytes(bytes)),
+            Word::Class(members) => self.take_primary(Expr::Set(members)),
+            Word::Dot => self.take_primary(Expr::Any),
+            Word::Begin => self.take_primary(Expr::Open),
+            Word::EndCap => self.take_primary(Expr::Close),
+            Word::Action(template) => match self.prefix {
+                Prefix::And => Err(Stop::Hopeless),
+                _ => self.take_primary(Expr::Act(template)),
+            },
+            Word::LParen => self.open_bracket(),
+            _ => match self.prefix {
+                Prefix::Nothing => self.take_unmarked(word),
+                _ => Err(Stop::Hopeless),
+            },
         }
-        Word::Star => {
-            let item = Expr::Star(Box::new(alloc, e)?);
-            Ok(Reader::Fresh(with_item(alloc, body, item)?))
-        }
-        Word::Plus => {
-            let item = Expr::Plus(Box::new(alloc, e)?);
-            Ok(Reader::Fresh(with_item(alloc, body, item)?))
-        }
-        _ => take_fresh(alloc, with_item(alloc, body, e)?, word),
     }
-}
 
-// The rule of that name.
-fn named(alloc: Global, name: &[u8]) -> Result<Expr, AllocError>
-    ensures { IfOk result (λ e. pattern_of e ≡ Name name.now) }
-{
-    Ok(Expr::Name(Vec::from_slice(alloc, name)?))
-}
+    // Takes a word after a primary.
+    fn take_suffix(&mut self, primary: Expr, word: Word<'a>) -> Result<(), Stop>
+        ensures { Steps (read_step (head_of self.old) (outer_of self.old) (ended_of self.old) (last_items self.old)
+            (waiting_of self.old) (pattern_of primary) (word_of word.entry)) result self.new }
+    {
+        match word {
+            Word::Quest => {
+                let operand = Box::new(self.alloc, primary)?;
+                self.push_item(Expr::Opt(operand))
+            }
+            Word::Star => {
+                let operand = Box::new(self.alloc, primary)?;
+                self.push_item(Expr::Star(operand))
+            }
+            Word::Plus => {
+                let operand = Box::new(self.alloc, primary)?;
+                self.push_item(Expr::Plus(operand))
+            }
+            _ => {
+                self.push_item(primary)?;
+                self.take_fresh(word)
+            }
+        }
+    }
 
-// Takes a word behind a name, which an arrow makes the name of the next definition.
-fn take_behind_name<'a>(
-    alloc: Global,
-    body: Body<'a>,
-    name: &'a [u8],
-    span: Span,
-    word: Word<'a>,
-) -> Result<Reader<'a>, Stop>
-    ensures { Steps (step_name body.entry name.now span (word_of word.entry)) result }
-{
-    match word {
-        Word::Arrow => match body.level.prefix {
-            Prefix::Nothing => {
-                if !body.outer.is_empty() {
-                    return Err(Stop::Hopeless);
+    // Takes a word after a name, which an arrow makes the name of the next definition.
+    fn take_after_name(&mut self, name: &'a [u8], span: Span, word: Word<'a>) -> Result<(), Stop>
+        ensures { Steps (name_step (head_of self.old) (outer_of self.old) (ended_of self.old) (last_items self.old)
+            (waiting_of self.old) name.now span (word_of word.entry)) result self.new }
+    {
+        match word {
+            Word::Arrow => match self.prefix {
+                Prefix::Nothing => {
+                    if !self.outer.is_empty() {
+                        return Err(Stop::Hopeless);
+                    }
+                    self.end_definition()?;
+                    self.begin_body(name, span);
+                    Ok(())
                 }
-                let definitions = end_definition(body)?;
-                Ok(Reader::Fresh(new_body(alloc, definitions, name, span)))
+                _ => Err(Stop::Hopeless),
+            },
+            _ => {
+                let name = Vec::from_slice(self.alloc, name)?;
+                self.take_suffix(Expr::Name(name), word)
             }
-            _ => Err(Stop::Hopeless),
-        },
-        _ => {
-            let e = named(alloc, name)?;
-            take_behind(alloc, body, e, word)
         }
     }
-}
 
-/// Takes the next word.
-pub(crate) fn take<'a>(
-    alloc: Global,
-    reader: Reader<'a>,
-    word: Word<'a>,
-) -> Result<Reader<'a>, Stop>
-    ensures { Steps (step (config_of reader.entry) (word_of word.entry)) result }
-{
-    match reader {
-        Reader::Start => match word {
-            Word::Ident(name, span) => Ok(Reader::Named(name, span)),
-            _ => Err(Stop::Hopeless),
-        },
-        Reader::Named(name, span) => match word {
-            Word::Arrow => Ok(Reader::Fresh(new_body(alloc, Vec::new(alloc), name, span))),
-            _ => Err(Stop::Hopeless),
-        },
-        Reader::Fresh(body) => take_fresh(alloc, body, word),
-        Reader::Read(body, e) => take_behind(alloc, body, e, word),
-        Reader::Name(body, name, span) => take_behind_name(alloc, body, name, span, word),
-        Reader::Done(_) => Err(Stop::Hopeless),
+    /// Takes the next word. After an error nothing can be read.
+    pub(crate) fn take(&mut self, word: Word<'a>) -> Result<(), Stop>
+        ensures { Steps (step (config_of self.old) (word_of word.entry)) result self.new }
+    {
+        match mem::replace(&mut self.at, At::Start) {
+            At::Start => match word {
+                Word::Ident(name, span) => {
+                    self.at = At::Named(name, span);
+                    Ok(())
+                }
+                _ => Err(Stop::Hopeless),
+            },
+            At::Named(name, span) => match word {
+                Word::Arrow => {
+                    self.definitions = Vec::new(self.alloc);
+                    self.begin_body(name, span);
+                    Ok(())
+                }
+                _ => Err(Stop::Hopeless),
+            },
+            At::Fresh => self.take_fresh(word),
+            At::Read(primary) => self.take_suffix(primary, word),
+            At::Name(name, span) => self.take_after_name(name, span, word),
+            At::Done => Err(Stop::Hopeless),
+        }
     }
-}
 
-/// Returns how many brackets are open.
-pub(crate) fn open_brackets(reader: &Reader<'_>) -> usize
-    ensures { result ≡ levels_in (config_of reader.now) }
-{
-    match reader {
-        Reader::Fresh(body) => body.outer.len(),
-        Reader::Read(body, _) => body.outer.len(),
-        Reader::Name(body, _, _) => body.outer.len(),
-        _ => 0,
+    /// Returns how many brackets are open.
+    pub(crate) fn open_brackets(&self) -> usize
+        ensures { result ≡ levels_in (config_of self.now) }
+    {
+        match self.at {
+            At::Fresh | At::Read(_) | At::Name(_, _) => self.outer.len(),
+            _ => 0,
+        }
+    }
+
+    /// Returns the definitions after the end, and `None` before it.
+    pub(crate) fn into_definitions(self) -> Option<Vec<Definition<'a>>>
+        ensures done { (rules : List Rule) → config_of self.entry ≡ machine.done rules
+            → MatchOption result ⊥ (λ ds. rules_from ds.items ≡ rules) }
+    {
+        match self.at {
+            At::Done => Some(self.definitions),
+            _ => None,
+        }
     }
 }

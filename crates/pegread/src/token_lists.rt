@@ -9,8 +9,8 @@ ghost use Rattle.pegread.specs.Names.{IsName};
 ghost use Rattle.lexer.specs.TokenLists.{tok};
 ghost use Rattle.pegread.specs.Tokens.{Next};
 
-/// Says that the slice of a name, a literal, a class or an action is one by itself, whatever stands behind it. That of
-/// an action is some text between two braces.
+/// Says that the slice of a name, a literal, a class or an action is one by itself, whatever follows it. That of an
+/// action is some text between two braces.
 pub fn are_marked()
     ensures name { (total : ℕ) (t r z : List ℕ) (p : Span) → Next total t (tok Ident z p) r → IsName z }
     ensures literal { (total : ℕ) (t r z : List ℕ) (p : Span) → Next total t (tok Literal z p) r → IsLiteral z }

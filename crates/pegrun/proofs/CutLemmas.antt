@@ -254,7 +254,7 @@ units_were_run g sound settings remaining failed ended old now final out left fl
           agrees),
     ) flag
 
--- memory was refused before the first unit
+-- an allocation failed before the first unit
 pub no_unit_was_run : (g : Grammar) → IsSoundGrammar g → (settings : Settings) (r0 s0 : Option (List ℕ))
     (r_was r_failed o_was : Bool) →
     let r : Result Ending WriteFault = Ok (Plain NoMemory) in

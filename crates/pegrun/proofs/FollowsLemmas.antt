@@ -34,7 +34,7 @@ pub front_is_first : (rules : List Rule) (start : ℕ) (settings : Settings) (in
     (unit_before past.at.byte (length past.bytes.items))
 front_is_first rules start settings input past bytes = rw bytes none_before
 
--- the unit that was taken is kept behind the bytes before it
+-- the unit that was taken is kept after the bytes before it
 pub unit_at_byte : (at : TextPlace) (bytes before items : List ℕ) (n : ℕ) → at ≡ place_behind before
     → bytes ≡ take n items → n ≤ length items → 0 < n → unit_before at.byte (length bytes) ≡ Some (length before)
 unit_at_byte at bytes before items zero is kept le some = absurd (omega (arith, some))

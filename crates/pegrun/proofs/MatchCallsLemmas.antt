@@ -14,7 +14,7 @@ use Rattle.toolrun.specs.Input.{Input, input_from}
 use Rattle.toolrun.specs.declared.settings.Settings.{Settings}
 
 module _ (rules : List Rule) (start : ℕ) (settings : Settings) (was calls : ℕ) where
-  -- of a reader that tells its bytes
+  -- of a reader whose bytes are stated
   abbrev FewGiven : Option (List ℕ) → Option (List ℕ) → Bool → Type 0
   FewGiven old new failed = IfSome old (λ given. (taken : List ℕ) × Consumes old new taken
       × HasFewCalls rules start settings (input_from given taken failed) (length taken) was calls)

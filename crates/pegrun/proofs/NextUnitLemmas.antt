@@ -26,7 +26,7 @@ use Rattle.pegrun.specs.declared.unit.Step.TheVariants.{Stops}
 use Rattle.toolrun.proofs.AgreesLemmas.{bytes_len, rest_held, rest_is, taken_end, taken_full, window_is}
 use Rattle.pegrun.proofs.StepLemmas.{step_broken, step_is}
 
--- whether a place is the end depends on whether the lengths tell so
+-- whether a position is the end depends on the lengths
 same_stop : (s m n : ℕ) → (s == m) ≡ (s == n) → stop_at s m ≡ stop_at s n
 same_stop s m n e = ap (λ b. if b then stop.Quiet Done else stop.NoMatch s) e
 

@@ -75,7 +75,7 @@ module _ (rules : List Rule) (start : ℕ) (settings : Settings) (input : Input)
     before : Reaches s s' → Compares s text s' text'
     behind : Reaches s' s → Compares s text s' text'
 
-  -- one more unit behind units that begin so
+  -- one more unit after units that begin so
   begins_further : (at k : ℕ) (front more : List ℕ) → UnitAt at k more → 0 < k → Compares 0 [] at front
       → Compares 0 [] (at + k) (front ++ more)
   begins_further at k front more unit some (same here text) =

@@ -16,7 +16,7 @@ use Rattle.toolrun.specs.ToldNotes.{HintedNotes}
 use Rattle.toolrun.specs.declared.settings.Mode.TheVariants.{Run}
 use Rattle.toolrun.specs.declared.settings.Settings.{Settings}
 
--- what a run of an open grammar states is what a run of its text states, behind the notes
+-- what a run of an open grammar states is what a run of its text states after the notes
 pub open_peg_states : (text : List ℕ) (settings : Settings) (input : Input) (notes : List Said) (told : List ℕ)
     (grammar : Grammar) (stated : Reply) → settings.mode ≡ Run → IsPegOpened text settings notes (Some grammar)
     → HintedNotes settings (ExplainsNote text) (ArePegHints text) notes told

@@ -1,4 +1,4 @@
--- Each input has a reply, and the text of the first units is a beginning of it.
+-- Each input has a reply, and the text of the first units is a prefix of it.
 -- Serves: run_peg (right)
 use Rattle.std.proofs.Common.{◌≡◌, ℕ, suc, zero, ◌+◌, ◌<◌, ◌≤◌, Bool, true, false, List, [], ◌++◌, length, drop, refl}
 use Rattle.std.proofs.Common.{sym, arith, inl, inr, ◌⊎◌, length-drop}

@@ -1,4 +1,4 @@
--- What is stated for a grammar's text, settings and an input is one, but for want of memory.
+-- What is stated for a grammar's text, settings and an input is one, unless an allocation fails.
 -- Serves: one_statement
 use Rattle.std.proofs.Common.{◌≡◌, ◌≢◌, ℕ, inl, inr, List, [], refl, sym, ◌∙◌, ap, map, subst, arith}
 use Rattle.std.proofs.Common.{true, false, Option}
@@ -165,7 +165,7 @@ statement_is_one told one lines hints text settings input notes others a b g h m
 long-unread : {text : List ℕ} {definitions : List Rule} → IsFaultOf text TooLong → Reads text definitions → ⊥
 long-unread long r = let within = r.within in omega arith
 
--- a text that is too long is told so, whatever memory does
+-- a text that is too long is reported as that, whether an allocation fails or not
 pub long_is_told : (text : List ℕ) (settings : Settings) (input : Input) (notes : List ℕ) (reply : Reply)
     → IsFaultOf text TooLong → States text settings input notes reply
     → (notes ≡ []) × IsLongReply settings (Explains text TooLong) reply

@@ -19,21 +19,21 @@ use Rattle.toolrun.specs.ToldNotes.{CutNotes, HintedNotes, ToldNotes}
 use Rattle.toolrun.specs.declared.settings.Mode.TheVariants.{Run, Check, Print}
 use Rattle.toolrun.specs.declared.settings.Settings.{Settings}
 
--- what is stated for a grammar's text and an input: the notes, each explained and with hints behind them if that is
+-- what is stated for a grammar's text and an input: the notes, each explained and with hints after them if that is
 -- asked, and what follows them
 pub data States (text : List ℕ) (settings : Settings) (input : Input) : List ℕ → Reply → Type 0 where
-  -- the text has a fault, which is told, and explained if that is asked
+  -- the text has a fault, which is reported, and explained if that is asked
   refused : (fault : ReadFault) (why : List ℕ) → IsFaultOf text fault → fault ≢ Memory
       → Explained settings (Explains text fault) why → States text settings input [] (refusal fault why)
-  -- its fault is told, and an allocation failed in explaining it
+  -- its fault is reported, and an allocation failed in explaining it
   unexplained : (fault : ReadFault) → IsFaultOf text fault → fault ≢ Memory → settings.explain ≡ true
       → States text settings input [] (unexplained_fault fault)
-  -- the text is a grammar that a note refuses
+  -- the text is a grammar that a note rejects
   noted : (definitions : List Rule) (notes : List Said) (told : List ℕ) → Reads text definitions
       → AreNotesOn definitions (start_given settings) notes
       → HintedNotes settings (ExplainsNote text) (ArePegHints text) notes told →
       is_refused notes ≡ true → settings.mode ≢ Print → States text settings input told (notes_alone 2)
-  -- it is a grammar that no note refuses, and no more is asked
+  -- it is a grammar that no note rejects, and no more is asked
   checked : (definitions : List Rule) (notes : List Said) (told : List ℕ) → Reads text definitions
       → AreNotesOn definitions (start_given settings) notes
       → HintedNotes settings (ExplainsNote text) (ArePegHints text) notes told →
@@ -45,7 +45,7 @@ pub data States (text : List ℕ) (settings : Settings) (input : Input) : List �
       → settings.mode ≡ Run
       → IsStart (start_given settings) (firsts [] definitions) start →
       RunStates (firsts [] definitions) start settings input stated → States text settings input told stated
-  -- an allocation failed in explaining its notes: the first of them are told
+  -- an allocation failed in explaining its notes: the first of them are reported
   cut_notes : (definitions : List Rule) (notes : List Said) (told : List ℕ) → Reads text definitions
       → AreNotesOn definitions (start_given settings) notes → CutNotes settings (ExplainsNote text) notes told
       → settings.mode ≢ Print → States text settings input told (without_memory [] 0)

@@ -67,8 +67,8 @@ IsStepOn g items more settings s old new result = (attempted : Result Attempt Wr
     × IsAttempt g items more settings.raw old new attempted ×
     (result ≡ step_after settings.limit s (s + length items) attempted)
 
--- A unit of some bytes was printed, or the run ends here and the text of its last unit was printed, or memory was
--- refused and nothing was.
+-- A unit of some bytes was printed, or the run ends here and the text of its last unit was printed, or an allocation
+-- failed and nothing was.
 abbrev pub IsStep : List Rule → ℕ → Settings → Input → ℕ → Option (List ℕ) → Option (List ℕ) → Result Step WriteFault
     → Type 0
 IsStep rules start settings input s old new (Ok (Goes k)) =

@@ -15,7 +15,7 @@ pub record IsGrammarOf (definitions : List Rule) (settings : Settings) (grammar 
   pub rules : rules_of grammar.rules ≡ firsts [] definitions
   pub start : IsStart (start_given settings) (firsts [] definitions) grammar.start
 
--- The text is a grammar with these notes, one of which refuses it; or none does, and this is its grammar.
+-- The text is a grammar with these notes, one of which rejects it; or none does, and this is its grammar.
 pub record IsPegOpened (text : List ℕ) (settings : Settings) (notes : List Said) (grammar : Option Grammar) : Type
     0 where
   pub definitions : List Rule

@@ -15,7 +15,7 @@ use Rattle.toolrun.specs.declared.stop.Stop.{Stop}
 use Rattle.toolrun.specs.declared.stop.Stop.TheVariants.{Quiet, NoMatch, LongUnit, LongLine, Broken, NoMemory, Refused}
 use Rattle.toolrun.specs.declared.stop.Stop.TheVariants.{Unreadable}
 
--- behind these bytes the next unit begins, and the last of them are kept, unless an allocation failed
+-- the next unit begins after these bytes, and the last of them are kept, unless an allocation failed
 pub record Follows (past : Past) (before : List ℕ) : Type 0 where
   pub next : past.next ≡ place_behind before
   pub front : List ℕ
@@ -23,7 +23,7 @@ pub record Follows (past : Past) (before : List ℕ) : Type 0 where
   pub room : length front + length past.bytes.items ≤ length before
   pub whole : past.lost ≡ false → before ≡ front ++ past.bytes.items
 
--- the lines that explain a stop behind these bytes, where those are held
+-- the lines that explain a stop after these bytes, where those are held
 abbrev pub LinesBehind : List Rule → ℕ → Past → List ℕ → List ℕ → Stop → List ℕ → Type 0
 LinesBehind rules start past before held (Quiet status) why = ⊥
 LinesBehind rules start past before held (NoMatch at) why = (past.lost ≡ false)

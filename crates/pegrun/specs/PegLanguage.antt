@@ -17,7 +17,7 @@ abbrev pub IsReadAs : List ℕ → table.Rules Expr → List ℕ → Type 0
 IsReadAs text rules redefined =
     (definitions : List Rule) × Reads text definitions × IsTableOf definitions rules redefined
 
--- the text's grammar with its notes, ready to run where none of them refuses it
+-- the text's grammar with its notes, ready to run where none of them rejects it
 pub record IsChecked (text : List ℕ) (start : Option (List ℕ)) (notes : List Said) (sound : Option Grammar) : Type
     0 where
   pub definitions : List Rule

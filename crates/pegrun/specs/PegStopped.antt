@@ -12,7 +12,7 @@ use Rattle.toolrun.specs.RunSteps.{EndsTold}
 use Rattle.toolrun.specs.declared.ending.Ending.{Ending}
 
 -- After so many bytes were taken: the text of units and of a last one of no bytes, after which the run ends so, with
--- what explains that if it is asked, or memory is refused; or a beginning of the text of units.
+-- what explains that if it is asked, or an allocation fails; or a prefix of the text of units.
 abbrev pub IsCut : List Rule → ℕ → Settings → Input → ℕ → Option (List ℕ) → Option (List ℕ) → Result Ending WriteFault
     → Type 0
 IsCut rules start settings input taken old new (Ok ending) = (place : ℕ) × (text last : List ℕ) ×

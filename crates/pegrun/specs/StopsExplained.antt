@@ -23,7 +23,7 @@ HasLines NoMemory = ⊥
 HasLines (Refused fault) = ⊥
 HasLines Unreadable = ⊥
 
--- before its message such a run tells nothing
+-- such a run writes nothing before its message
 abbrev pub TellsNothing : ℕ → List ℕ → Type 0
 TellsNothing place told = told ≡ []
 

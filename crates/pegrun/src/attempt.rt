@@ -1,4 +1,4 @@
-//! An attempt at a unit by a matcher whose calls are counted.
+//! Matches a unit by a matcher whose calls are counted.
 ghost use Rattle.std.specs.Prelude.{◌≡◌, ◌+◌, ◌<◌, length, min, true, false};
 ghost use Rattle.ruletable.specs.Writing.{Flags};
 ghost use Rattle.pegrun.specs.Attempts.{IsAttempt};
@@ -8,7 +8,7 @@ use gramcheck::SoundPeg;
 use pegmatch::{Matcher, ReplayFault, Unit};
 use ruletable::{Sink, WriteFault};
 
-/// What came of the start rule at the front of a window.
+/// The result of the start rule at the front of a window.
 #[derive(Clone, Copy, PartialEq, Eq)]
 pub enum Attempt {
     /// It takes this many bytes, and its text is printed.
@@ -21,7 +21,7 @@ pub enum Attempt {
     NoMemory,
 }
 
-/// A matcher, and how many matches it was asked for.
+/// A matcher that counts the matches that it was asked for.
 #[derive(Drop)]
 pub struct CountedMatcher<M> {
     matcher: M,

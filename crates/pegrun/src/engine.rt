@@ -1,9 +1,11 @@
-//! The units of an input that is read as far as they need it.
-ghost use Rattle.std.specs.Prelude.{◌≡◌, ℕ, List, ◌+◌, [], length, false, IfSome};
+//! Runs the units of an input, which is read as far as they need it.
+ghost use Rattle.std.specs.Prelude.{◌≡◌, ℕ, List, ◌+◌, ◌≤◌, [], length, false, IfSome};
 ghost use Rattle.std.specs.Io.KnownBytes.{Consumes};
 ghost use Rattle.ruletable.specs.Writing.{Flags};
 ghost use Rattle.feed.specs.Feed.{IsTrueOfReader, SameLoan, allowance_of, bytes_of, capacity_of, flow_of, input_limit};
 ghost use Rattle.feed.specs.Feed.{reader_of};
+ghost use Rattle.gramcheck.specs.Grammar.{IsSoundGrammar};
+ghost use Rattle.matchfailure.specs.FailureSearches.{evaluated_by};
 ghost use Rattle.pegread.specs.PegViews.{rules_of};
 ghost use Rattle.toolrun.specs.Agrees.{Agrees};
 ghost use Rattle.toolrun.specs.Input.{Input, input_from};
@@ -18,21 +20,45 @@ use crate::past::{Past, ending_at};
 use crate::unit::{Step, next_unit};
 use feed::{Feed, Source};
 use gramcheck::SoundPeg;
+use matchfailure::FailureSearch;
 use pegmatch::Matcher;
 use ruletable::{Sink, WriteFault};
 use std::alloc::Global;
 use toolrun::{Ending, Settings, Stop};
 
+/// What a run evaluates units with. Each part counts its evaluations.
+#[derive(Drop)]
+pub struct Counted<M> {
+    /// Matches the units.
+    pub matcher: CountedMatcher<M>,
+    /// Evaluates the last units again to explain where the run stops.
+    pub search: FailureSearch,
+}
+
+impl<M: Matcher> Counted<M> {
+    /// Returns a matcher that was asked for no match yet, and a search that evaluated no unit yet.
+    pub fn new(matcher: M) -> Counted<M>
+        ensures calls { calls_of result.matcher ≡ 0 }
+        ensures explained { evaluated_by result.search ≡ 0 }
+    {
+        Counted {
+            matcher: CountedMatcher::new(matcher),
+            search: FailureSearch::new(),
+        }
+    }
+}
+
 /// Runs the units of an input in turn, each from where the one before ended, and prints the text of each. If settings
 /// ask for that, it explains how the run ends.
-pub fn cut<M: Matcher, R: Source, O: Sink>(
+fn cut<M: Matcher, R: Source, O: Sink>(
     alloc: Global,
-    matcher: &mut CountedMatcher<M>,
+    counted: &mut Counted<M>,
     peg: &SoundPeg,
     settings: &Settings<'_>,
     feed: &mut Feed<'_, R>,
     out: &mut O,
 ) -> Result<Ending, WriteFault>
+    requires sound { IsSoundGrammar peg.now }
     requires capacity { capacity_of feed.old ≡ settings.now.limit + 1 }
     requires empty { bytes_of feed.old ≡ [] }
     requires allowance { allowance_of feed.old ≡ input_limit }
@@ -46,20 +72,24 @@ pub fn cut<M: Matcher, R: Source, O: Sink>(
         ((input : Input) → Agrees seen (flow_of feed.new) input → IsCut (rules_of peg.now.rules) peg.now.start
         settings.now input (length seen)
         (O.contents out.old) (O.contents out.new) result × HasFewCalls (rules_of peg.now.rules) peg.now.start
-        settings.now input (length seen) (calls_of matcher.old) (calls_of matcher.new)) }
+        settings.now input (length seen) (calls_of counted.old.matcher) (calls_of counted.new.matcher)) }
     ensures flag { Flags (O.failed out.old) (O.failed out.new) result }
+    ensures explained { evaluated_by counted.new.search ≤ evaluated_by counted.old.search + 2 }
+    ensures unasked { settings.now.explain ≡ false → evaluated_by counted.new.search
+        ≡ evaluated_by counted.old.search }
 {
     let mut start = 0;
     let mut past = Past::new(alloc);
     loop {
-        match next_unit(matcher, peg, settings, feed, start, out) {
+        match next_unit(&mut counted.matcher, peg, settings, feed, start, out) {
             Ok(Step::Takes(n)) => {
                 past.pass(settings.explain, feed, n);
                 feed.skip(n);
                 start += n;
             }
             Ok(Step::Stops(stop)) => {
-                return Ok(ending_at(alloc, peg, settings, &mut past, feed, stop));
+                let search = &mut counted.search;
+                return Ok(ending_at(search, peg, settings, &mut past, feed, stop));
             }
             Err(fault) => return Err(fault),
         }
@@ -69,7 +99,7 @@ pub fn cut<M: Matcher, R: Source, O: Sink>(
 /// Runs the units of a grammar on what a reader gives.
 pub fn run_units<M: Matcher, R: Source, O: Sink>(
     alloc: Global,
-    matcher: &mut CountedMatcher<M>,
+    counted: &mut Counted<M>,
     peg: &SoundPeg,
     settings: &Settings<'_>,
     reader: &mut R,
@@ -83,7 +113,10 @@ pub fn run_units<M: Matcher, R: Source, O: Sink>(
     ensures calls { IfSome (R.remaining reader.old) (λ given. (taken : List ℕ) ×
         Consumes (R.remaining reader.old) (R.remaining reader.new) taken × HasFewCalls (rules_of peg.now.rules)
         peg.now.start settings.now (input_from given taken (R.failed reader.new)) (length taken)
-        (calls_of matcher.old) (calls_of matcher.new)) }
+        (calls_of counted.old.matcher) (calls_of counted.new.matcher)) }
+    ensures explained { evaluated_by counted.new.search ≤ evaluated_by counted.old.search + 2 }
+    ensures unasked { settings.now.explain ≡ false → evaluated_by counted.new.search
+        ≡ evaluated_by counted.old.search }
 {
     // its contract says that the grammar is sound
     let _ = peg.start();
@@ -92,7 +125,7 @@ pub fn run_units<M: Matcher, R: Source, O: Sink>(
         Err(_) => return Ok(Ending::Plain(Stop::NoMemory)),
     };
     let mut feed = Feed::new(ring, reader);
-    let ending = cut(alloc, matcher, peg, settings, &mut feed, out);
+    let ending = cut(alloc, counted, peg, settings, &mut feed, out);
     let _reader = feed.into_reader();
     ending
 }

@@ -1,4 +1,4 @@
-//! Laws of what is stated for a grammar and an input: there is at most one answer.
+//! Laws of what is stated for a grammar and an input: there is at most one reply.
 ghost use Rattle.std.specs.Prelude.{◌≡◌, ◌≢◌, ℕ, List, []};
 ghost use Rattle.ruletable.specs.declared.fault.ReadFault.{ReadFault};
 ghost use Rattle.pegexplain.specs.PegExplained.{Explains};
@@ -23,9 +23,10 @@ pub fn one_reply()
     one_no_match();
 }
 
-/// Says that a text is a grammar of at most one list of definitions, or has at most one fault, and never both; but
-/// memory may be refused in reading it. A text, settings and an input have at most one list of notes and one reply, but
-/// for those that tell want of memory, status 5. A text that is too long is told so, whatever memory does.
+/// Says that a text is a grammar of at most one list of definitions, or has at most one fault, and never both; but an
+/// allocation may fail in reading it. A text, settings and an input have at most one list of notes and one reply, apart
+/// from those of status 5, which report that an allocation failed. A text that is too long is reported as that, whether
+/// an allocation fails or not.
 pub fn one_statement()
     ensures definitions { (text : List ℕ) (a b : List Rule) → Reads text a → Reads text b → a ≡ b }
     ensures no_fault { (text : List ℕ) (definitions : List Rule) (fault : ReadFault) →

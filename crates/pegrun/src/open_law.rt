@@ -1,4 +1,4 @@
-//! The law of a grammar that was read once: what it gives is what a run tells.
+//! The law of a grammar that was read once: it gives what a run reports.
 ghost use Rattle.std.specs.Prelude.{◌≡◌, ℕ, List, Some};
 ghost use Rattle.gramcheck.specs.Grammar.{Grammar};
 ghost use Rattle.pegexplain.specs.PegNotes.{ExplainsNote};
@@ -14,8 +14,7 @@ ghost use Rattle.toolrun.specs.ToldNotes.{HintedNotes};
 ghost use Rattle.toolrun.specs.declared.settings.Mode.TheVariants.{Run};
 ghost use Rattle.toolrun.specs.declared.settings.Settings.{Settings};
 
-/// Says that what a run of an open grammar states is what a run of its text states, behind the notes
-/// and hints. It does nothing.
+/// Says that a run of an open grammar states what a run of its text states after the notes and hints. It does nothing.
 pub fn runs_as_a_run()
     ensures { (text : List ℕ) (settings : Settings) (input : Input) (notes : List Said) (told : List ℕ)
         (grammar : Grammar) (stated : Reply) → settings.mode ≡ Run → IsPegOpened text settings notes (Some grammar) →

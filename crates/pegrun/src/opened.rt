@@ -1,4 +1,4 @@
-//! A grammar of peg(1) that is read once, and is run as often as asked.
+//! Opens a grammar of peg(1) once, to run it on many inputs.
 ghost use Rattle.std.specs.Prelude.{◌≡◌, IfErr, IfOk, false, map, option_copied};
 ghost use Rattle.pegread.specs.PegViews.{rules_of};
 ghost use Rattle.pegread.specs.Reading.{IsFaultOf};
@@ -9,8 +9,7 @@ ghost use Rattle.ruletable.specs.Notes.{said_of};
 ghost use Rattle.toolrun.specs.Stopped.{Fulfils};
 ghost use Rattle.toolrun.specs.Stream.{passed};
 
-use crate::attempt::CountedMatcher;
-use crate::engine::run_units;
+use crate::engine::{Counted, run_units};
 use crate::peg_language::PegLanguage;
 use feed::Source;
 use gramcheck::SoundPeg;
@@ -25,7 +24,7 @@ use toolrun::{Checked, Ending, Language, Settings};
 #[derive(Drop)]
 pub struct PegRunner {
     grammar: SoundPeg,
-    matcher: CountedMatcher<Packrat>,
+    counted: Counted<Packrat>,
 }
 
 impl Model for PegRunner {
@@ -43,7 +42,7 @@ impl Model for PegRunner {
 
 impl PegRunner {
     /// Runs the grammar on what a reader gives, as settings ask: by their limit, verbatim or not, and explained or not.
-    /// All else of them is not looked at. `WriteFault` if the output fails; then a beginning is written.
+    /// It ignores the other settings. `WriteFault` if the output fails; then a prefix is written.
     pub fn run<R: Source, O: Sink>(
         &mut self,
         alloc: Global,
@@ -60,7 +59,7 @@ impl PegRunner {
     {
         run_units(
             alloc,
-            &mut self.matcher,
+            &mut self.counted,
             &self.grammar,
             settings,
             reader,
@@ -74,7 +73,7 @@ impl PegRunner {
 pub struct OpenedPeg {
     /// What there is to say of the grammar, in order.
     pub notes: Vec<Note>,
-    /// What runs it, unless it is refused.
+    /// What runs it, unless a note rejects it.
     pub runner: Option<PegRunner>,
 }
 
@@ -95,8 +94,8 @@ fn checked_text(
     }
 }
 
-/// Reads and checks a grammar's text, and returns the notes on it and what runs it from the rule that settings name, or
-/// the first. All else of the settings is not looked at. The text's fault if it is not a grammar, or if an allocation
+/// Reads and checks a grammar's text. Returns the notes on it, and what runs it from the rule that settings name, or
+/// the first. It ignores the other settings. Fails by the text's fault if it is not a grammar, or if an allocation
 /// fails.
 pub fn open_peg(alloc: Global, text: &[u8], settings: &Settings<'_>) -> Result<OpenedPeg, ReadFault>
     ensures opened { IfOk result (λ o. IsPegOpened text.now settings.now (map said_of o.notes.items) o.runner) }
@@ -109,9 +108,9 @@ pub fn open_peg(alloc: Global, text: &[u8], settings: &Settings<'_>) -> Result<O
             runner: None,
         });
     };
-    let matcher = CountedMatcher::new(Packrat::new(alloc));
+    let counted = Counted::new(Packrat::new(alloc));
     Ok(OpenedPeg {
         notes,
-        runner: Some(PegRunner { grammar, matcher }),
+        runner: Some(PegRunner { grammar, counted }),
     })
 }

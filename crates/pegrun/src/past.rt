@@ -1,6 +1,7 @@
-//! What a run that is to be explained keeps of its input, and how it is explained.
+//! Explains how a run ends, and keeps what that needs of the input.
 ghost use Rattle.std.specs.Prelude.{◌≡◌, ℕ, ◌+◌, ◌^◌, ◌<◌, ◌≤◌, ◌++◌, [], List, IfOk, length, take, true, false};
 ghost use Rattle.feed.specs.Feed.{SameFeed, bytes_of};
+ghost use Rattle.matchfailure.specs.FailureSearches.{evaluated_by};
 ghost use Rattle.matchfailure.specs.NoMatches.{IsNoMatchTold, unit_before};
 ghost use Rattle.matchfailure.specs.InputPlaces.{place_behind};
 ghost use Rattle.pegread.specs.PegViews.{rules_of};
@@ -8,7 +9,7 @@ ghost use Rattle.pegrun.specs.PastUnits.{EndsBehind, Follows, IsEndingWith};
 
 use feed::{Feed, Source};
 use gramcheck::SoundPeg;
-use matchfailure::{TextPlace, explain_long_unit, explain_no_match};
+use matchfailure::{FailureSearch, TextPlace, explain_long_unit};
 use ruletable::Memory;
 use std::alloc::Global;
 use toolrun::{Ending, Settings, Stop, ToldRefusals};
@@ -16,6 +17,8 @@ use toolrun::{Ending, Settings, Stop, ToldRefusals};
 /// The last unit that was taken, of which the bytes are kept, and where the next one begins.
 #[derive(Drop)]
 pub struct Past {
+    /// Where its bytes, and the lines of an explanation, are allocated.
+    pub alloc: Global,
     /// Where it begins; the front of the input if there is none.
     pub at: TextPlace,
     /// Its bytes; none if there is none.
@@ -35,6 +38,7 @@ impl Past {
         ensures next { result.next ≡ place_behind [] }
     {
         Past {
+            alloc,
             at: TextPlace::front(),
             bytes: Vec::new(alloc),
             lost: false,
@@ -99,7 +103,7 @@ impl Past {
     /// one failed in keeping the unit before.
     fn no_match_lines<R: Source>(
         &mut self,
-        alloc: Global,
+        search: &mut FailureSearch,
         peg: &SoundPeg,
         feed: &mut Feed<'_, R>,
     ) -> Result<Vec<u8>, Memory>
@@ -109,13 +113,14 @@ impl Past {
         ensures told { IfOk result (λ why. (before : List ℕ) → Follows self.old before → (self.old.lost ≡ false)
             × IsNoMatchTold (rules_of peg.now.rules) peg.now.start (before ++ bytes_of feed.old)
             (unit_before self.old.at.byte (length self.old.bytes.items)) (length before) why.items) }
+        ensures twice { evaluated_by search.new ≤ evaluated_by search.old + 2 }
     {
         if self.lost {
             return Err(Memory);
         }
         let last = self.bytes.len();
         self.bytes.extend_from_slice(feed.window())?;
-        explain_no_match(alloc, peg, self.bytes.as_slice(), last, self.at)
+        search.explain_no_match(self.alloc, peg, self.bytes.as_slice(), last, self.at)
     }
 }
 
@@ -132,7 +137,7 @@ fn with_lines(alloc: Global, stop: Stop, why: Result<Vec<u8>, Memory>) -> Ending
 
 /// Returns how a run ends that stopped so, with the lines that explain it.
 fn explained_stop<R: Source>(
-    alloc: Global,
+    search: &mut FailureSearch,
     peg: &SoundPeg,
     past: &mut Past,
     feed: &mut Feed<'_, R>,
@@ -143,9 +148,11 @@ fn explained_stop<R: Source>(
     ensures same { SameFeed feed.old feed.new }
     ensures told { (before : List ℕ) → Follows past.old before → EndsBehind (rules_of peg.now.rules) peg.now.start
         past.old before (bytes_of feed.old) stop result }
+    ensures twice { evaluated_by search.new ≤ evaluated_by search.old + 2 }
 {
+    let alloc = past.alloc;
     match stop {
-        Stop::NoMatch(_) => with_lines(alloc, stop, past.no_match_lines(alloc, peg, feed)),
+        Stop::NoMatch(_) => with_lines(alloc, stop, past.no_match_lines(search, peg, feed)),
         Stop::LongUnit { .. } => with_lines(alloc, stop, explain_long_unit(alloc, past.next)),
         _ => Ending::Plain(stop),
     }
@@ -153,7 +160,7 @@ fn explained_stop<R: Source>(
 
 /// Returns how a run ends that stopped so, with the lines that explain it if settings ask for that.
 pub fn ending_at<R: Source>(
-    alloc: Global,
+    search: &mut FailureSearch,
     peg: &SoundPeg,
     settings: &Settings<'_>,
     past: &mut Past,
@@ -166,9 +173,11 @@ pub fn ending_at<R: Source>(
     ensures told { settings.now.explain ≡ true → (before : List ℕ) → Follows past.old before
         → EndsBehind (rules_of peg.now.rules) peg.now.start past.old before (bytes_of feed.old) stop result }
     ensures plain { settings.now.explain ≡ false → result ≡ Ending.Plain stop }
+    ensures twice { evaluated_by search.new ≤ evaluated_by search.old + 2 }
+    ensures unasked { settings.now.explain ≡ false → evaluated_by search.new ≡ evaluated_by search.old }
 {
     if settings.explain {
-        return explained_stop(alloc, peg, past, feed, stop);
+        return explained_stop(search, peg, past, feed, stop);
     }
     Ending::Plain(stop)
 }

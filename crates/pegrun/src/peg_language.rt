@@ -9,8 +9,7 @@ ghost use Rattle.pegrun.specs.Answers.{States};
 ghost use Rattle.pegrun.specs.PegLanguage.{IsChecked, IsPrintable, IsReadAs};
 ghost use Rattle.pegrun.specs.PegReply.{RunStates};
 
-use crate::attempt::CountedMatcher;
-use crate::engine::run_units;
+use crate::engine::{Counted, run_units};
 use feed::Source;
 use gramcheck::{SoundPeg, check_peg, redefinitions};
 use packrat::Packrat;
@@ -105,8 +104,8 @@ impl Language for PegLanguage {
         reader: &mut R,
         out: &mut O,
     ) -> Result<Ending, WriteFault> {
-        let mut matcher = CountedMatcher::new(Packrat::new(alloc));
-        run_units(alloc, &mut matcher, grammar, settings, reader, out)
+        let mut counted = Counted::new(Packrat::new(alloc));
+        run_units(alloc, &mut counted, grammar, settings, reader, out)
     }
 
     fn follows() {}

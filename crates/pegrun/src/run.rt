@@ -1,4 +1,4 @@
-//! A run of the peg tool.
+//! Runs the peg tool.
 ghost use Rattle.std.specs.Prelude.{◌≡◌, ℕ, List, false, IfSome};
 ghost use Rattle.std.specs.Io.KnownBytes.{Appends, Consumes};
 ghost use Rattle.pegrun.specs.Answers.{States};
@@ -12,36 +12,36 @@ use std::alloc::Global;
 use toolrun::{Settings, Status, run_tool};
 
 /// Runs a grammar on what a reader gives: prints the texts of its units on `out` and writes why it stopped on `err`.
-/// None of the three may have failed before, and the reader may not have told its end.
+/// All three must be fresh: none has failed before, and the reader has not reported its end.
 ///
-/// - The grammar is in the syntax of peg(1). One that has a fault is told by that fault's line, status `Refused`, and
-///   nothing is read. If the settings ask for explanations, behind that line stand those that explain it: a picture of
-///   the token that decides, its column, exactly the kinds of tokens that could stand there, and a usual mistake.
-/// - If it is to be printed, its canonical text is written on `out`, `Done`; but if it defines a rule again, the notes
-///   on that are written on `err`, `Refused`. Nothing is read, and no other check is made.
-/// - Else the notes on it are written on `err`. If one of them refuses it, or it is only to be checked, that is all:
-///   `Refused`, or `Done`, and nothing is read.
-/// - If the settings ask for explanations, behind a note on a rule that is defined again, or not used, stand the lines
-///   of its definitions, behind one on a name that is not defined its first use, behind one on a loop the first
-///   repetition of what may take nothing, and behind one on left recursion the steps of the shortest way back to the
-///   rule, for the first 8 of them. Behind all notes stand hints on alternatives that are never taken, unless the
-///   grammar is to be printed.
+/// - The grammar is in the syntax of peg(1). A run reports a fault by its line, status `Refused`, and reads nothing.
+///   If the settings ask for explanations, further lines explain it: a picture of the token that decides, its column,
+///   exactly the kinds of tokens that could stand there, and a usual mistake.
+/// - If the settings ask for the canonical text, it is written on `out`, `Done`. If the grammar defines a rule again,
+///   the notes on that are written on `err` instead, `Refused`. Nothing is read, and no other check is made.
+/// - Else the notes on the grammar are written on `err`. If one of them rejects it, or it is only to be checked, the
+///   run ends: `Refused`, or `Done`, and nothing is read.
+/// - If the settings ask for explanations, further lines follow each note. After one on a rule that is defined again,
+///   or not used, come the lines of its definitions; after one on a name that is not defined, its first use; after one
+///   on a loop, the first repetition of what may take nothing; after one on left recursion, the steps of the shortest
+///   way back to the rule, for the first 8 such rules. After all notes come hints on alternatives that are never taken,
+///   unless the canonical text is asked for.
 /// - A unit is one success of the start rule, the one named in the settings or else the first; it begins where the one
 ///   before ended, and its actions are printed in order. The run ends where the rule fails or takes no byte:
 ///   `no match at byte S`, status `NoMatch`, but `Done` at the end of the input.
 /// - A unit that looks at more than `limit` bytes is not printed: `unit at byte S longer than L bytes`, `Overlong`.
-/// - If the settings ask for explanations, behind `no match at byte S` stand the farthest place at which a comparison
-///   of that unit or of the one before it failed outside of `!`, and what was expected there; behind the line of a unit
-///   that is too long, where that begins.
-/// - After a fault of the reader a unit is run only where `limit` + 1 bytes from its place on were read: else
+/// - If the settings ask for explanations, further lines follow `no match at byte S`: the farthest position at which a
+///   comparison of that unit or of the one before it failed outside of `!`, and what was expected there. Those of a
+///   unit that is too long report where it begins.
+/// - After a fault of the reader a unit is run only where `limit` + 1 bytes from its position on were read: else
 ///   `read error`, `Fault`. So is an input of 9,223,372,036,854,775,807 bytes taken to end.
-/// - Where a writer fails, nothing more is written to it, and the status is at least `Fault`. A fault of `out` is told
-///   by `write error` on `err`: right behind the notes, or behind all else where the flush of `out` failed. Where `err`
-///   fails in the notes, nothing is read, and nothing is written on `out`. Writers that have not failed are flushed
-///   once at the end, `out` first.
-/// - If an allocation fails, the text of the units before stands whole: `out of memory`, `NoMemory`. In an explanation
-///   the line of the fault or of the stop stands before that, without what explains it, or the first notes do, the last
-///   perhaps without.
+/// - Where a writer fails, nothing more is written to it, and the status is at least `Fault`. A fault of `out` is
+///   reported by `write error` on `err`: right after the notes, or after all else where the flush of `out` failed.
+///   Where `err` fails in the notes, nothing is read, and nothing is written on `out`. Writers that have not failed are
+///   flushed once at the end, `out` first.
+/// - If an allocation fails, the text of the units before stands whole: `out of memory`, `NoMemory`. If it fails in an
+///   explanation, the line of the fault or of the stop comes before that, without its explanation; or the first notes
+///   do, the last perhaps without its own.
 pub fn run_peg<R: Source, O: Sink, E: Sink>(
     alloc: Global,
     grammar: &[u8],

@@ -3,6 +3,7 @@ ghost use Rattle.std.specs.Prelude.{◌≡◌, ℕ, List, ◌≤◌, ◌<◌, �
 ghost use Rattle.ruletable.specs.Writing.{Flags};
 ghost use Rattle.feed.specs.Feed.{Grows, IsTrueOfReader, SameFeed, SameLoan, allowance_of, bytes_of, capacity_of};
 ghost use Rattle.feed.specs.Feed.{flow_of, input_limit};
+ghost use Rattle.gramcheck.specs.Grammar.{IsSoundGrammar};
 ghost use Rattle.pegread.specs.PegViews.{rules_of};
 ghost use Rattle.toolrun.specs.Agrees.{Agrees};
 ghost use Rattle.pegrun.specs.Attempts.{FrontFlags, IsAttempt, IsFrontAttempt, IsStep, IsStepOn, StaysWithin};
@@ -165,6 +166,7 @@ pub fn next_unit<M: Matcher, R: Source, O: Sink>(
     start: usize,
     out: &mut O,
 ) -> Result<Step, WriteFault>
+    requires sound { IsSoundGrammar peg.now }
     requires capacity { capacity_of feed.old ≡ settings.now.limit + 1 }
     requires within { start + length (bytes_of feed.old) + allowance_of feed.old ≡ input_limit }
     requires told { IsTrueOfReader R.remaining R.failed R.ended feed.old }
@@ -181,8 +183,6 @@ pub fn next_unit<M: Matcher, R: Source, O: Sink>(
     ensures flag { Flags (O.failed out.old) (O.failed out.new) result }
     ensures twice { calls_of matcher.new ≤ calls_of matcher.old + 2 }
 {
-    // its contract says that the grammar is sound
-    let _ = peg.start();
     match feed.fill() {
         Held::Full => unit_at(matcher, peg, feed, true, settings, start, out),
         Held::End => unit_at(matcher, peg, feed, false, settings, start, out),

@@ -1,4 +1,4 @@
--- The items of the pruned rules tell what the rules derive, and what begins it.
+-- The items of the pruned rules answer what the rules derive, and which prefixes are viable.
 -- Serves: lower_viable.
 use Rattle.std.proofs.Common.{◌≡◌, ◌↔◌, ℕ, zero, suc, ◌<◌, ◌≤◌, Bool, List, [], ◌∷◌, length, take, Some, refl, sym, ◌∙◌}
 use Rattle.std.proofs.Common.{ap, subst, arith}

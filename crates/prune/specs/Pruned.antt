@@ -11,7 +11,7 @@ use Rattle.flatgrammar.specs.Places.{places}
 use Rattle.lowering.specs.Sizes.{sizes}
 use Rattle.letters.specs.Letters.{HasLetter}
 
--- `has` tells the letters of the alphabet
+-- `has` marks the letters of the alphabet
 module _ (has : ℕ → Bool) (rules : List Rule) where
   -- an element derives some list of letters
   pub record IsProductive (e : Element) : Type 0 where

@@ -17,10 +17,9 @@ use ruletable::Memory;
 use std::alloc::Global;
 
 /// Lowers the productive parts of a grammar to numbered nodes, for lines of at most `limit` letters: those that derive
-/// some list of letters of the alphabet. The judged rule derives a list of so many letters exactly if the set after
-/// them holds the whole's end with origin 0; and the set after the first letters of such a list, one or more, is not
-/// empty exactly if they begin a list that the rule derives, of whatever length. The nodes spell the productive parts
-/// alone, with at most as many places as these have on such lines, and two.
+/// some list of letters of the alphabet. The flat grammar derives such a line exactly if the judged rule does. The set
+/// after the first letters of such a line, one or more, has an item exactly if they are a viable prefix. The nodes
+/// spell the productive parts alone, with at most as many places as these have on such lines, and two.
 ///
 /// `Memory` if an allocation fails.
 pub fn lower_viable(

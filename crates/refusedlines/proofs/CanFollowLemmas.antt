@@ -1,13 +1,13 @@
--- What can stand behind the letters of a line, by the items of its last set.
+-- What can follow the letters of a line, by the items of its last set.
 -- Serves: find_following
 use Rattle.std.proofs.Common.{◌≡◌, ◌↔◌, ℕ, zero, suc, ◌+◌, ◌<◌, ◌≤◌, Bool, true, List, [], ◌∷◌, ◌++◌}
 use Rattle.std.proofs.Common.{Option, Some, None, length, take, slice_get, refl, sym, ◌∙◌, ap, subst, arith}
-use Rattle.std.proofs.Common.{length-append}
+use Rattle.std.proofs.Common.{append-nil, length-append}
 use Rattle.std.proofs.Common.{IsTrue}
-use Rattle.std.proofs.lemmas.List.{length-take-le}
+use Rattle.std.proofs.lemmas.List.{length-take-le, take_all}
 use Rattle.std.proofs.Math.Seq.{take-length}
 use Rattle.abnfread.specs.Element.{Rule}
-use Rattle.abnfcheck.specs.Beginnings.{BeginsMember}
+use Rattle.abnfcheck.specs.Beginnings.{BeginsMember, IsFurthest}
 use Rattle.abnfcheck.specs.Derivable.{AreLetters, RuleDerives}
 use Rattle.flatgrammar.proofs.CallOfLemmas.{some_same}
 use Rattle.flatgrammar.proofs.PlacesLemmas.{holds_origin}
@@ -24,6 +24,20 @@ use Rattle.refusedlines.specs.LetterRuns.{AreApartFrom, RunsHave}
 use Rattle.refusedlines.specs.declared.letterruns.run.LetterRun.{LetterRun}
 use Rattle.refusedlines.specs.Following.{AreFollowing}
 use Rattle.refusedlines.specs.ReadLetters.{SpotReads, SpotsRead, read_by}
+
+-- what is derived is its own longest viable prefix
+pub derived_is_furthest : (has : ℕ → Bool) (rules : List Rule) (id : ℕ) (x : List ℕ) → RuleDerives has rules id x
+    → IsFurthest has rules id x (length x)
+derived_is_furthest has rules id x p = record {
+  within = omega arith;
+  begins = λ some. record {
+    rest = [];
+    letters = tt;
+    derives = subst (λ (v : List ℕ). RuleDerives has rules id v)
+        (sym (append-nil (take (length x) x) ∙ take_all (length x) x (omega arith))) p;
+  };
+  last = λ m past le b. absurd (omega (arith, past, le));
+}
 
 -- lines that agree in the first n letters
 abbrev Agree : List ℕ → List ℕ → ℕ → Type 0
@@ -51,7 +65,7 @@ module _ (flat : Flat) where
     reads : Reads flat place set next
     has : Has set c
 
-  -- so it is where the set behind it has an item
+  -- so it is where the set after it has an item
   item_reads : (x : List ℕ) (n c : ℕ) → slice_get x n ≡ Some c → {j i : ℕ} {p : Place} → Holds flat x j p i → j ≡ n + 1
       → ReadsOn x n c
   item_reads x n c is (begins st) e = absurd (omega (arith, e))
@@ -70,7 +84,7 @@ module _ (flat : Flat) where
       }
   item_reads x n c is (returned h d g k takes) e = item_reads x n c is h e
 
-  -- places and spots
+  -- places and dotted rules
   place_reads : {q r : Place} {set : Set} (c : ℕ) → Reads flat q set r → Has set c
       → (s : ℕ) × (k : ℕ) × (q ≡ at s k) × SpotReads flat (spot s k) c
   place_reads c (reads {s = s} {k = k} {set = set} node (letter {sets = sets} at_k)) has =
@@ -175,7 +189,7 @@ module _ (has : ℕ → Bool) (rules : List Rule) (id : ℕ) (flat : Flat) (tell
           );
         }
 
--- what can stand behind the first n letters of a line, by these letters alone
+-- what can follow the first n letters of a line, by these letters alone
 pub take_following : (has : ℕ → Bool) (rules : List Rule) (id : ℕ) (x z : List ℕ) (n m : ℕ) (runs : List LetterRun)
     (ends : Bool) → z ≡ take n x → n ≤ length x → m ≡ length z → AreFollowing has rules id z m runs ends
     → AreFollowing has rules id x n runs ends

@@ -84,7 +84,7 @@ have_behind n (r ∷ runs) c a (inl h) = let le = a.0 in let lo = h.0 in omega a
 have_behind n (r ∷ runs) c a (inr h) =
     let rest = have_behind (r.last + 2) runs c a.2 h in let le = a.0 in let some = a.1 in omega arith
 
--- a run put behind those that are apart from it
+-- a run put after those that are apart from it
 module _ (old front : List LetterRun) (last run : LetterRun) (is : old ≡ front ++ last ∷ [])
     (apart : AreApartFrom 0 old) (before : All (λ r. r.first ≤ run.first) old) (some : IsSomeRun run) where
   abbrev parts : AreApartTo 0 front last.first × IsSomeRun last
@@ -211,7 +211,7 @@ ends_by n r s runs others a b same begin = by (cases_lt r.last s.last)
     by (inl lt) = absurd (none lt (same (r.last + 1) (inl (omega arith, omega arith))))
     by (inr le) = le
 
--- what is not in the first run is behind it
+-- what is not in the first run is after it
 rest_same : (n : ℕ) (r s : LetterRun) (runs others : List LetterRun) → AreApartFrom n (r ∷ runs)
     → ((c : ℕ) → RunsHave (r ∷ runs) c → RunsHave (s ∷ others) c) → r.last ≡ s.last
     → (c : ℕ) → RunsHave runs c → RunsHave others c

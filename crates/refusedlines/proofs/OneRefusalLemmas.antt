@@ -1,4 +1,4 @@
--- One text explains a refused line, and where nothing can stand the rule derives nothing.
+-- One text explains a rejected line, and where nothing can follow the rule derives nothing.
 -- Serves: refusal_is_one, nothing_can_stand
 use Rattle.std.proofs.Common.{◌≡◌, ◌⊎◌, inl, inr, ℕ, ◌+◌, ◌<◌, ◌≤◌, nat_lt, Bool, false, List, [], ◌∷◌, ◌++◌}
 use Rattle.std.proofs.Common.{length, take, sym, ◌∙◌, ap, subst, arith, append_assoc, length-append}

@@ -1,4 +1,4 @@
--- The letters that spots read, one spot after another.
+-- The letters that dotted rules read, one after another.
 -- Serves: find_following
 use Rattle.std.proofs.Common.{◌≡◌, ◌↔◌, ◌⊎◌, inl, inr, ⊎_elim, ℕ, ◌+◌, ◌<◌, ◌≤◌, true, List, length, take, sym}
 use Rattle.std.proofs.Common.{subst, arith}
@@ -15,7 +15,7 @@ use Rattle.refusedlines.specs.declared.letterruns.run.LetterRun.{LetterRun}
 use Rattle.refusedlines.specs.ReadLetters.{GainLetters, SpotReads, SpotsRead}
 
 module _ (alphabet : Alphabet) (flat : Flat) (spots : List Spot) where
-  -- the letters that the first k spots read
+  -- the letters that the first k dotted rules read
   abbrev Read : ℕ → ℕ → Type 0
   Read k c = (has alphabet c ≡ true) × SpotsRead flat (take k spots) c
 

@@ -1,4 +1,4 @@
--- The texts that explain refused lines.
+-- The texts that explain rejected lines.
 -- Serves: explain_refused
 use Rattle.std.proofs.Common.{◌≡◌, ℕ, zero, suc, ◌+◌, ◌<◌, ◌≤◌, nat_lt, Bool, false, List, [], ◌∷◌, ◌++◌, map}
 use Rattle.std.proofs.Common.{Some, length, take, get_or, slice_get, slice_index_or, refl, sym, ◌∙◌, ap, subst, arith}

@@ -1,4 +1,4 @@
--- What can stand behind the first letters of a line.
+-- What can follow the first letters of a line.
 use Rattle.std.specs.Prelude.{◌≡◌, ℕ, ◌+◌, ◌↔◌, Bool, true, List, [], ◌∷◌, ◌++◌, take}
 use Rattle.abnfread.specs.Element.{Rule}
 use Rattle.abnfcheck.specs.Beginnings.{BeginsMember}
@@ -6,7 +6,7 @@ use Rattle.abnfcheck.specs.Derivable.{AreLetters, RuleDerives}
 use Rattle.refusedlines.specs.LetterRuns.{AreApartFrom, RunsHave}
 use Rattle.refusedlines.specs.declared.letterruns.run.LetterRun.{LetterRun}
 
--- the letter c can: the first n letters of x, with c behind them, begin a list that the rule of that id derives
+-- the letter c can: the first n letters of x with c after them are a viable prefix
 pub record CanFollow (has : ℕ → Bool) (rules : List Rule) (id : ℕ) (x : List ℕ) (n c : ℕ) : Type 0 where
   pub letter : has c ≡ true
   pub begins : BeginsMember has rules id (take n x ++ c ∷ []) (n + 1)

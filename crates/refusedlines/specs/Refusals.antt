@@ -1,4 +1,4 @@
--- What explains a line that the judged rule does not derive.
+-- The explanation of a line that the judged rule does not derive.
 use Rattle.std.specs.Prelude.{◌≡◌, ℕ, ◌+◌, nat_lt, Bool, if◌then◌else◌, List, [], ◌∷◌, ◌++◌, take, length}
 use Rattle.std.specs.Prelude.{slice_index_or, map}
 use Rattle.abnfread.specs.Element.{Rule}
@@ -20,7 +20,7 @@ abbrev pub octet_count : Alphabet → List ℕ → ℕ
 octet_count alphabet [] = 0
 octet_count alphabet (c ∷ cs) = octets alphabet c + octet_count alphabet cs
 
--- the letters of the first `size` bytes of a line: of all of them, or of its longest beginning that is UTF-8
+-- the letters of the first `size` bytes of a line: of all of them, or of its longest prefix that is UTF-8
 abbrev pub AreFirstLetters : Alphabet → List ℕ → List ℕ → ℕ → Type 0
 AreFirstLetters Bytes line x size = (x ≡ line) × (size ≡ length line)
 AreFirstLetters Utf8 line x size = IsLongestText line size × Spells x (take size line)
@@ -28,8 +28,8 @@ AreFirstLetters Utf8 line x size = IsLongestText line size × Spells x (take siz
 abbrev pub name_at : List Rule → ℕ → List ℕ
 name_at rules id = slice_index_or (map (λ rule. rule.name) rules) id []
 
--- The text tells of the line with that number where it is refused, and what can stand behind the longest viable
--- beginning of its letters.
+-- The text explains where the line with that number is rejected, and what can follow the longest viable prefix of its
+-- letters.
 pub record IsRefusalTold (alphabet : Alphabet) (rules : List Rule) (judged : ℕ) (line : List ℕ) (number : ℕ)
     (text : List ℕ) : Type 0 where
   pub first : List ℕ

@@ -1,4 +1,4 @@
--- The lines that explain a refused line.
+-- The lines that explain a rejected line.
 use Rattle.std.specs.Prelude.{ℕ, ◌+◌, nat_lt, Bool, true, false, if◌then◌else◌, List, [], ◌∷◌, ◌++◌, codes, decimal}
 use Rattle.refusedlines.specs.ToldLetters.{expected_text}
 use Rattle.refusedlines.specs.declared.letterruns.run.LetterRun.{LetterRun}
@@ -7,8 +7,8 @@ use Rattle.diagnostics.specs.ShownBytes.{cut}
 use Rattle.refusedlines.specs.declared.refusal.RefusedAt.{RefusedAt}
 use Rattle.refusedlines.specs.declared.refusal.RefusedAt.TheVariants.{Letter, NoText, End}
 
--- Where a line is refused: at the letter behind its longest viable beginning; if that has all its letters, at bytes
--- that are not UTF-8, or at its end. Letters count from 1.
+-- Where a line is rejected: at the letter after its longest viable prefix; if that has all its letters, at bytes that
+-- are not UTF-8, or at its end. Letters count from 1.
 abbrev pub refused_at : ℕ → ℕ → Bool → RefusedAt
 refused_at n count torn = if nat_lt n count then Letter (n + 1) else if torn then NoText (n + 1) else End
 
@@ -19,7 +19,7 @@ at_text number (NoText n) = codes "line " ++ (decimal number ++ (codes ", letter
     ++ codes ": not UTF-8, expected ")))
 at_text number End = codes "line " ++ (decimal number ++ codes " ends too early: expected ")
 
--- neither a letter nor the end can stand there
+-- neither a letter nor the end can follow there
 abbrev pub is_none : List LetterRun → Bool → Bool
 is_none [] ends = if ends then false else true
 is_none (run ∷ runs) ends = false
@@ -29,7 +29,7 @@ abbrev pub nothing_text : ℕ → List ℕ → List ℕ
 nothing_text number name = codes "line " ++ (decimal number ++ (codes ": rule '" ++ (cut name
     ++ codes "' derives nothing\n")))
 
--- what is expected at a place of a line of bytes, and a picture of the place
+-- what is expected at a position of a line of bytes, and a picture of the position
 abbrev pub told_expected : ℕ → List ℕ → RefusedAt → ℕ → List LetterRun → Bool → List ℕ
 told_expected number line at place runs ends = at_text number at ++ (expected_text runs ends ++ (codes "\n"
     ++ picture line place))

@@ -1,4 +1,4 @@
--- How letters are told in ABNF (RFC 5234, section 2.3; RFC 7405, section 2.1).
+-- The terms of ABNF for letters (RFC 5234, section 2.3; RFC 7405, section 2.1).
 use Prim.Native.Char.{code}
 use Rattle.std.specs.Prelude.{ℕ, ◌+◌, ◌-◌, ◌==◌, ◌&&◌, nat_le, nat_lt, not, Bool, true, false, if◌then◌else◌, List, []}
 use Rattle.std.specs.Prelude.{◌∷◌, ◌++◌}
@@ -9,11 +9,11 @@ use Rattle.refusedlines.specs.declared.letterruns.run.LetterRun.{LetterRun}
 use Rattle.refusedlines.specs.declared.letterruns.told.ToldLetters.{ToldLetters}
 use Rattle.refusedlines.specs.declared.letterruns.told.ToldLetters.TheVariants.{Quoted, Exactly, Numbered, Through}
 
--- one or two letters, which are told singly
+-- one or two letters, which are single
 abbrev pub is_short : LetterRun → Bool
 is_short run = nat_le (run.last - run.first) 1
 
--- a letter is told singly
+-- a letter is single
 abbrev pub is_single : List LetterRun → ℕ → Bool
 is_single runs c = list_any (λ run. is_short run && (nat_le run.first c && nat_le c run.last)) runs
 
@@ -26,7 +26,7 @@ other_case c = if nat_le (code "A") c && nat_le c (code "Z") then Some (c + 32) 
 abbrev pub told_plain : ℕ → ToldLetters
 told_plain c = if nat_le (code " ") c && nat_le c (code "~") && not (c == code "\"") then Quoted c else Numbered c
 
--- a letter whose other case is told singly too is told once, with the first of both
+-- a single letter whose other case is single too: the first of both has one term for both
 abbrev pub told_with : (ℕ → Bool) → ℕ → Option ℕ → Option ToldLetters
 told_with single c None = Some (told_plain c)
 told_with single c (Some other) = if single other then (if nat_lt c other then Some (Quoted c) else None)
@@ -35,12 +35,12 @@ told_with single c (Some other) = if single other then (if nat_lt c other then S
 abbrev pub told_letter : List LetterRun → ℕ → Option ToldLetters
 told_letter runs c = told_with (is_single runs) c (other_case c)
 
--- the letters of a run: singly, or all at once
+-- the terms for a run: those of single letters, or one for all
 abbrev pub told_run : List LetterRun → LetterRun → List ToldLetters
 told_run runs run = if is_short run then option_to_list (told_letter runs run.first)
     ++ (if nat_lt run.first run.last then option_to_list (told_letter runs run.last) else []) else Through run ∷ []
 
--- the letters of runs, one run after another
+-- the terms for runs, one run after another
 abbrev pub told_letters : List LetterRun → List ToldLetters
 told_letters runs = flat_map (told_run runs) runs
 
@@ -61,12 +61,12 @@ slashed (t ∷ ts) = t ++ flat_map (λ v. codes " / " ++ v) ts
 abbrev pub letters_text : List LetterRun → List ℕ
 letters_text runs = slashed (map told_text (told_letters runs))
 
--- that a line may end, behind the letters that may stand there
+-- that a line may end, after the letters that may follow
 abbrev pub end_text : List LetterRun → Bool → List ℕ
 end_text runs false = []
 end_text [] true = codes "the end of the line"
 end_text (run ∷ runs) true = codes " or the end of the line"
 
--- what may stand at a place: letters, or the end
+-- what may follow: letters, or the end
 abbrev pub expected_text : List LetterRun → Bool → List ℕ
 expected_text runs ends = letters_text runs ++ end_text runs ends

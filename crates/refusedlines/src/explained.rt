@@ -1,4 +1,4 @@
-//! What explains refused lines.
+//! The explanations of rejected lines.
 ghost use Rattle.std.specs.Prelude.{◌≡◌, ◌+◌, ◌<◌, ◌≤◌, ◌^◌, ℕ, Bool, false, List, [], length, take, IfOk};
 ghost use Rattle.abnfcheck.specs.Beginnings.{IsFurthest};
 ghost use Rattle.abnfread.specs.Element.{Rule};
@@ -19,7 +19,7 @@ use letters::{Alphabet, CodePoint, Letter, decode, utf8_is_decided, utf8_len};
 use ruletable::Memory;
 use std::alloc::Global;
 
-/// A grammar that refused lines, what the letters of lines are, and its flat grammar by `lower_viable` for that
+/// A grammar that rejected lines, what the letters of lines are, and its flat grammar by `lower_viable` for that
 /// alphabet.
 #[derive(Drop)]
 pub struct Explainer<'a> {
@@ -31,14 +31,14 @@ pub struct Explainer<'a> {
     pub flat: &'a Flat,
 }
 
-// The code points of the longest beginning of a line that is UTF-8, and how many bytes it has.
+// The code points of the longest prefix of a line that is UTF-8, and how many bytes it has.
 #[derive(Drop)]
 struct FirstPoints {
     size: usize,
     points: Vec<CodePoint>,
 }
 
-// Returns the code points of the longest beginning of a line that is UTF-8.
+// Returns the code points of the longest prefix of a line that is UTF-8.
 fn first_points(alloc: Global, line: &[u8]) -> Result<FirstPoints, Memory>
     ensures longest { IfOk result (λ f. IsLongestText line.now f.size) }
     ensures spelled { IfOk result (λ f. Spells (numbers f.points.items) (take f.size line.now)) }
@@ -85,7 +85,7 @@ fn judged_name(grammar: &SoundAbnf) -> &[u8]
     grammar.rules().name(id)
 }
 
-// Explains a refused line of bytes.
+// Explains a rejected line of bytes.
 fn explain_bytes(
     alloc: Global,
     chart: &mut Chart,
@@ -111,7 +111,7 @@ fn explain_bytes(
     Ok(())
 }
 
-// Explains a refused line of code points.
+// Explains a rejected line of code points.
 fn explain_points(
     alloc: Global,
     chart: &mut Chart,
@@ -140,9 +140,9 @@ fn explain_points(
     Ok(())
 }
 
-/// Adds the lines that explain a refused line: where it is refused, what can stand there, and a picture of the place;
-/// or that the judged rule derives nothing. The flat grammar must be that of `lower_viable` for the grammar and its
-/// letters, and the line must have fewer bytes than `flat.limit()`. The chart is filled anew.
+/// Adds the lines that explain a rejected line: where it is rejected, what can follow there, and a picture of that
+/// position; or that the judged rule derives nothing. The flat grammar must be that of `lower_viable` for the grammar
+/// and its letters, and the line must have fewer bytes than `flat.limit()`. The chart is filled anew.
 ///
 /// # Errors
 /// `Memory` if an allocation fails; a part of the lines may be added then.
@@ -165,7 +165,7 @@ pub fn explain_refused(
     }
 }
 
-/// Returns nothing. Its contract is a law: a refused line is explained by one text at most.
+/// Returns nothing. Its contract is a law: at most one text explains a rejected line.
 pub fn refusal_is_one()
     ensures { (alphabet : the_alphabet) (rules : List Rule) (judged : ℕ) (line : List ℕ) (number : ℕ) (a b : List ℕ) →
         IsRefusalTold alphabet rules judged line number a → IsRefusalTold alphabet rules judged line number b → a ≡ b }
@@ -175,8 +175,8 @@ pub fn refusal_is_one()
     utf8_is_decided();
 }
 
-/// Returns nothing. Its contract is a law: if nothing can stand behind the longest viable beginning of a line, the rule
-/// derives nothing.
+/// Returns nothing. Its contract is a law: if nothing can follow the longest viable prefix of a line, the rule derives
+/// nothing.
 pub fn nothing_can_stand()
     ensures { (has : ℕ → Bool) (rules : List Rule) (id : ℕ) (x : List ℕ) (n : ℕ) → IsFurthest has rules id x n →
         AreFollowing has rules id x n [] false → DerivesNothing has rules id }

@@ -1,4 +1,4 @@
-//! What can stand behind the longest viable beginning of a line.
+//! What can follow the longest viable prefix of a line.
 ghost use Rattle.std.specs.Prelude.{◌≡◌, ◌+◌, ◌≤◌, ℕ, Bool, List, length, map, IfOk};
 ghost use Rattle.abnfread.specs.Element.{Rule};
 ghost use Rattle.abnfcheck.specs.Beginnings.{IsFurthest};
@@ -10,16 +10,16 @@ ghost use Rattle.refusedlines.specs.Following.{AreFollowing};
 use crate::letterruns::{LetterRun, runs_are_one};
 use crate::read_letters::letters_read;
 use earley::{Chart, judge, viable};
-use flatgrammar::Flat;
+use flatgrammar::{Flat, Verdict};
 use letters::Letter;
-use lowering::{Verdict, values_are_letters};
+use lowering::{items_tell, values_are_letters};
 use ruletable::Memory;
 use std::alloc::Global;
 
-/// What can stand behind the longest viable beginning of a line.
+/// What can follow the longest viable prefix of a line.
 #[derive(Drop)]
 pub struct Following {
-    /// How many letters that beginning has.
+    /// How many letters that prefix has.
     pub after: usize,
     /// The maximal runs of the letters that can, in ascending order.
     pub runs: Vec<LetterRun>,
@@ -27,7 +27,7 @@ pub struct Following {
     pub ends: bool,
 }
 
-// Returns how many letters of a line are its longest viable beginning.
+// Returns how many letters the longest viable prefix of a line has.
 fn furthest_place<L: Letter>(chart: &mut Chart, flat: &Flat, line: &[L]) -> Result<usize, Memory>
     requires { length line.now ≤ flat.now.limit }
     ensures within { IfOk result (λ n. n ≤ length line.now) }
@@ -35,13 +35,15 @@ fn furthest_place<L: Letter>(chart: &mut Chart, flat: &Flat, line: &[L]) -> Resu
         → TellsBeginnings (has L.ALPHABET) rules judged flat.now →
         IsFurthest (has L.ALPHABET) rules judged (map L.number line.now) n) }
 {
+    values_are_letters(line);
+    items_tell();
     match viable(chart, flat, line)? {
         Verdict::Yes => Ok(line.len()),
-        Verdict::No(n) => Ok(n.min(line.len())),
+        Verdict::No(n) => Ok(n),
     }
 }
 
-// Returns what can stand behind the letters of a line.
+// Returns what can follow the letters of a line.
 fn find_behind<L: Letter>(
     alloc: Global,
     chart: &mut Chart,
@@ -62,12 +64,12 @@ fn find_behind<L: Letter>(
     Ok(Following { after, runs, ends })
 }
 
-/// Returns what can stand behind the longest viable beginning of a line: all letters that can and no others, and
-/// whether the end can. The flat grammar is that of `lower_viable` for the alphabet of the letters. The line must have
-/// fewer letters than `flat.limit()`.
+/// Returns what can follow the longest viable prefix of a line: all letters that can and no others, and whether the end
+/// can. The flat grammar is that of `lower_viable` for the alphabet of the letters. The line must have fewer letters
+/// than `flat.limit()`.
 ///
-/// It fills the chart with the item sets of the line, and then with those of that beginning, whose last set tells the
-/// letters: those that its items read. So it takes the time of judging the line twice, however many letters can follow.
+/// It fills the chart with the item sets of the line, and then with those of that prefix. The letters are those that
+/// the items of its last set read. So it takes the time of judging the line twice, however many letters can follow.
 ///
 /// `Memory` if an allocation fails.
 pub fn find_following<L: Letter>(
@@ -90,8 +92,8 @@ pub fn find_following<L: Letter>(
     Ok(following)
 }
 
-/// Returns nothing. Its contract is a law: what can stand behind the first letters of a line is told by one list of
-/// runs at most.
+/// Returns nothing. Its contract is a law: at most one list of runs has the letters that can follow the first letters
+/// of a line.
 pub fn following_is_one()
     ensures { (has : ℕ → Bool) (rules : List Rule) (id : ℕ) (x : List ℕ) (n : ℕ) (runs others : List the_run)
         (ends end : Bool) → AreFollowing has rules id x n runs ends → AreFollowing has rules id x n others end →

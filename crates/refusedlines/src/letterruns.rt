@@ -1,4 +1,4 @@
-//! Runs of letters: merged to the maximal ones of a set, and told as in ABNF.
+//! Runs of letters: merged to the maximal ones of a set, and written as in ABNF.
 
 mod merged;
 mod run;

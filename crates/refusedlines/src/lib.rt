@@ -1,5 +1,5 @@
-//! What explains a line that a grammar's judged rule does not derive: the letters that can follow its longest viable
-//! beginning.
+//! Explains a line that a grammar's judged rule does not derive: by the letters that can follow its longest viable
+//! prefix.
 #![tactic(auto)]
 
 mod explained;

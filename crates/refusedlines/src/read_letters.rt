@@ -101,7 +101,7 @@ fn add_node(
     }
 }
 
-// Adds the letters of an alphabet that a spot reads.
+// Adds the letters of an alphabet that a dotted rule reads.
 fn add_spot(
     alphabet: Alphabet,
     flat: &Flat,
@@ -119,7 +119,7 @@ fn add_spot(
     Ok(())
 }
 
-/// Returns the maximal runs of the letters of an alphabet that spots read, in ascending order. `Memory` if an
+/// Returns the maximal runs of the letters of an alphabet that dotted rules read, in ascending order. `Memory` if an
 /// allocation fails.
 pub(crate) fn letters_read(
     alloc: Global,

@@ -1,4 +1,4 @@
-//! The lines that explain a refused line.
+//! The lines that explain a rejected line.
 ghost use Rattle.std.specs.Prelude.{◌≡◌, ◌+◌, ◌<◌, ◌≤◌, ◌^◌, ◌++◌, codes, decimal, length, OnOk};
 ghost use Rattle.refusedlines.specs.RefusedText.{at_text, told_expected, nothing_text, refused_at as the_place};
 ghost use Rattle.refusedlines.specs.RefusedText.{refusal_text};
@@ -9,7 +9,7 @@ use diagnostics::{LineAround, push_cut, push_number, push_picture};
 use ruletable::Memory;
 use std::alloc::Global;
 
-/// A line that is refused, with its number.
+/// A line that is rejected, with its number.
 #[derive(Clone, Copy)]
 pub struct RefusedLine<'a> {
     /// Its bytes, without its end.
@@ -18,7 +18,7 @@ pub struct RefusedLine<'a> {
     pub number: usize,
 }
 
-/// Where a line is refused.
+/// Where a line is rejected.
 #[derive(Clone, Copy)]
 pub(crate) enum RefusedAt {
     /// At the letter with that number, from 1.
@@ -29,7 +29,7 @@ pub(crate) enum RefusedAt {
     End,
 }
 
-/// What is told of a refused line: where it is refused, behind how many of its bytes, and what can stand there.
+/// The explanation of a rejected line: where it is rejected, after how many of its bytes, and what can follow there.
 #[derive(Drop)]
 pub(crate) struct Refusal {
     pub(crate) at: RefusedAt,
@@ -37,7 +37,7 @@ pub(crate) struct Refusal {
     pub(crate) following: Following,
 }
 
-/// Returns where a line is refused: behind so many of its letters, of which there are that many, before bytes that are
+/// Returns where a line is rejected: after so many of its letters, of which there are that many, before bytes that are
 /// not UTF-8 or the end.
 pub(crate) fn refused_at(after: usize, letters: usize, torn: bool) -> RefusedAt
     requires { after + 1 < 2 ^ 64 }
@@ -52,7 +52,7 @@ pub(crate) fn refused_at(after: usize, letters: usize, torn: bool) -> RefusedAt
     }
 }
 
-// Adds the number of a letter, and what is told behind it.
+// Adds the number of a letter, and the text after it.
 fn push_letter(n: usize, told: &[u8], out: &mut Vec<u8>) -> Result<(), Memory>
     ensures { OnOk result (out.new.items ≡ out.old.items ++ (codes ", letter " ++ (decimal n ++ told.now))) }
 {
@@ -62,7 +62,7 @@ fn push_letter(n: usize, told: &[u8], out: &mut Vec<u8>) -> Result<(), Memory>
     Ok(())
 }
 
-// Adds where the line with that number is refused.
+// Adds where the line with that number is rejected.
 fn push_at(number: usize, at: RefusedAt, out: &mut Vec<u8>) -> Result<(), Memory>
     ensures { OnOk result (out.new.items ≡ out.old.items ++ at_text number at) }
 {
@@ -88,7 +88,7 @@ fn push_nothing(number: usize, name: &[u8], out: &mut Vec<u8>) -> Result<(), Mem
     Ok(())
 }
 
-// Adds what is expected at a place of a line, and a picture of the place.
+// Adds what is expected at a position of a line, and a picture of the position.
 fn push_lines(
     alloc: Global,
     line: RefusedLine<'_>,
@@ -111,8 +111,8 @@ fn push_lines(
     )
 }
 
-/// Adds the lines that explain a refused line: what is expected where it is refused, and a picture of that place; or
-/// that the rule of that name derives nothing, if nothing can stand there. The place must be within the line.
+/// Adds the lines that explain a rejected line: what is expected where it is rejected, and a picture of that position;
+/// or that the rule of that name derives nothing, if nothing can follow there. The position must be within the line.
 pub(crate) fn push_refusal(
     alloc: Global,
     name: &[u8],

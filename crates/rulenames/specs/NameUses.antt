@@ -23,7 +23,7 @@ pub data AreIdsOf (case : NameCase) (names : List (List ℕ)) : List (List ℕ) 
   one_use : {used : List ℕ} {uses : List (List ℕ)} {id : ℕ} {ids : List ℕ} → IsPlace case used names id
       → AreIdsOf case names uses ids → AreIdsOf case names (used ∷ uses) (id ∷ ids)
 
--- the names are those known, and behind them the new ones among those seen; of each of these uses the row has the id
+-- the names are those known, and after them the new ones among those seen; of each of these uses the row has the id
 pub record IsScanned (case : NameCase) (known seen uses : List (List ℕ)) (names : Rules (Unit {0}))
     (row : List ℕ) : Type 0 where
   pub compares : names.names ≡ case

@@ -1,25 +1,92 @@
--- A table's rules, as its map holds them.
+-- A table's rules, as its rows hold them and its map finds them.
 -- Serves: RuleTable::define, RuleTable::find, RuleTable::name, RuleTable::body, RuleTable::span, RuleTable::len
-use Rattle.std.proofs.Common.{◌≡◌, ℕ, zero, suc, ◌+◌, ◌<◌, Bool, true, false, cond, not, List, [], ◌∷◌, ◌++◌, length}
-use Rattle.std.proofs.Common.{map, get_or, slice_get, position, Option, Some, None, refl, sym, ap, subst, ◌∙◌, arith}
-use Rattle.std.proofs.Common.{Bor, Vec, Global, nat_lt}
-use Rattle.std.proofs.lemmas.List.{map-append, length-map}
-use Rattle.std.proofs.lemmas.List.Sums.{position_or_len_is}
-use Rattle.std.proofs.lemmas.Simd.{map-map}
-use Rattle.std.proofs.lemmas.Map.Keys.{apart_from_distinct}
-use Rattle.std.proofs.lemmas.Option.{slice_get-map, slice_get_within, get_or_from_slice_get}
+use Rattle.std.proofs.Common.{◌≡◌, ℕ, zero, suc, ◌+◌, ◌<◌, ◌≤◌, Bool, true, false, cond, not, List, [], ◌∷◌, ◌++◌}
+use Rattle.std.proofs.Common.{length, map, get_or, slice_get, position, Option, Some, None, refl, sym, ap, ◌∙◌, arith}
+use Rattle.std.proofs.Common.{Vec, Global, set, ◌⊎◌, inl, inr}
+use Rattle.std.proofs.Math.Logic.{⊎_elim}
+use Rattle.std.proofs.lemmas.Bool.{cases_Bool, eq-eqb, le-ltb, lt-ltb, ltb-false, ltb-true, ne_eqb}
+use Rattle.std.proofs.lemmas.List.{length-append, length-map, map-append}
+use Rattle.std.proofs.lemmas.List.Folds.{position_or_len_push}
+use Rattle.std.proofs.lemmas.List.Sums.{prefix_len-le-length}
+use Rattle.std.proofs.lemmas.Option.{slice_get-get_or, slice_get-map}
 use Rattle.std.proofs.lemmas.Slice.Eq.{bytes_eq-Decides}
-use Rattle.std.specs.List.{AllByRecursion, IsDistinct, position_or_len, prefix_len}
+use Rattle.std.specs.HashMap.{HashMap, UpdatesBy, get_by}
+use Rattle.std.specs.List.{position_or_len, prefix_len}
+use Rattle.std.specs.Map.{KeepsOthers, lookup}
+use Rattle.std.specs.Option.{option_map, option_map_or, unwrap_or}
 use Rattle.std.specs.Str.{bytes_eq}
-use Rattle.std.specs.Map.Iter.{deref_pair}
-use Rattle.std.specs.Option.{option_map, unwrap_or}
-use Rattle.std.proofs.lemmas.Bool.Decides.{nat_tests}
-use Rattle.indexmap.specs.Layout.{set_value_at}
-use Rattle.std.specs.Map.{values_of}
-use Rattle.ruletable.specs.Rules.{Rule, Rules, HasUniqueNames, find_in, key_of, set_body}
-use Rattle.ruletable.specs.RuleRows.{rule_in, rules_in, keys_in, KeysAreNames}
+use Rattle.ruletable.specs.Rules.{Rule, find_in, key_of, same_name, set_body}
+use Rattle.ruletable.specs.RuleRows.{rule_in, rules_in, table_of, HasIdsOf}
 use Rattle.ruletable.specs.declared.table.NameCase.{NameCase}
 use Rattle.ruletable.specs.declared.table.Row.{Row}
+
+-- two texts are equal where their bytes are
+bytes_eq-same : (xs : List ℕ) → bytes_eq xs xs ≡ true
+bytes_eq-same xs = (bytes_eq-Decides xs xs).1 refl
+
+same-bytes : (xs ys : List ℕ) → bytes_eq xs ys ≡ true → xs ≡ ys
+same-bytes xs ys = (bytes_eq-Decides xs ys).0
+
+bytes_eq-apart : (xs ys : List ℕ) → bytes_eq xs ys ≡ false → bytes_eq ys xs ≡ false
+bytes_eq-apart xs ys h = by (bytes_eq ys xs) refl
+  where
+    by : (b : Bool) → bytes_eq ys xs ≡ b → b ≡ false
+    by false e = refl
+    by true e = sym (bytes_eq-same ys) ∙ ap (λ zs. bytes_eq zs ys) (same-bytes ys xs e) ∙ h
+
+-- the first that passes, in a list and in the list with one more
+none_found : (b : Bool) (n : ℕ) → cond b (Some n) None ≡ None → b ≡ false
+none_found true n is = absurd (cc is)
+none_found false n is = refl
+
+some_found : (b : Bool) (n i : ℕ) → cond b (Some n) None ≡ Some i → (b ≡ true) × (n ≡ i)
+some_found true n i is = (refl, ap (λ o. unwrap_or o 0) is)
+some_found false n i is = absurd (cc is)
+
+module _ {X : Type 0} (p : X → Bool) (xs : List X) (y : X) where
+  at_end : position p xs ≡ None → position_or_len p xs ≡ length xs
+  at_end is =
+      let past = ltb-false (position_or_len p xs) (length xs) (none_found _ _ is) in
+      let within = prefix_len-le-length (λ x. not (p x)) xs in
+      omega (arith, past, within)
+
+  found_at : (i : ℕ) → position_or_len p (xs ++ y ∷ []) ≡ i → i ≤ length xs → position p (xs ++ y ∷ []) ≡ Some i
+  found_at i is le =
+      rw is (ap (λ b. cond b (Some i) None) (lt-ltb i (length (xs ++ y ∷ []))
+      (omega (arith, length-append xs (y ∷ [])))))
+
+  pub position-last : position p xs ≡ None → p y ≡ true → position p (xs ++ y ∷ []) ≡ Some (length xs)
+  position-last is fits =
+      found_at (length xs) (position_or_len_push p xs y
+      ∙ rw (at_end is, eq-eqb (length xs) (length xs) refl, fits) (omega arith)) (omega arith)
+
+  pub position-before : (i : ℕ) → position p xs ≡ Some i → position p (xs ++ y ∷ []) ≡ Some i
+  position-before i is =
+      let found = some_found _ _ _ is in
+      let lt = ltb-true (position_or_len p xs) (length xs) found.0 in
+      found_at i (position_or_len_push p xs y
+      ∙ ap (λ b. cond b (length xs + cond (p y) 0 1) (position_or_len p xs))
+      (ne_eqb (position_or_len p xs) (length xs) (λ same. absurd (omega (arith, lt, same))))
+      ∙ found.1) (omega (arith, lt, found.1))
+
+  pub position-other : p y ≡ false → position p (xs ++ y ∷ []) ≡ position p xs
+  position-other fails = by (position p xs) refl
+    where
+      by : (o : Option ℕ) → position p xs ≡ o → position p (xs ++ y ∷ []) ≡ position p xs
+      by (Some i) is = position-before i is ∙ sym is
+      by None is =
+          let end : position_or_len p (xs ++ y ∷ []) ≡ length xs + 1 =
+          position_or_len_push p xs y ∙ rw (at_end is, eq-eqb (length xs) (length xs) refl, fails) refl in
+          rw end (ap (λ b. cond b (Some (length xs + 1)) None) (le-ltb (length xs + 1) (length (xs ++ y ∷ []))
+          (omega (arith, length-append xs (y ∷ []))))) ∙ sym is
+
+-- an element of a list with one more is one before it or the last
+get_pushed : {X : Type 0} (xs : List X) (y : X) (n : ℕ) {x : X} → slice_get (xs ++ y ∷ []) n ≡ Some x
+    → (slice_get xs n ≡ Some x) ⊎ ((n ≡ length xs) × (y ≡ x))
+get_pushed [] y zero is = inr (refl, cc is)
+get_pushed [] y (suc n) is = absurd (cc is)
+get_pushed (z ∷ xs) y zero is = inl is
+get_pushed (z ∷ xs) y (suc n) is = ⊎_elim inl (λ last. inr (ap suc last.0, last.1)) (get_pushed xs y n is)
 
 -- where the first stands that passes, among what f makes of a list
 prefix_len-map : {X Y : Type 0} (f : X → Y) (p : Y → Bool) (xs : List X) → prefix_len p (map f xs)
@@ -31,152 +98,147 @@ pub position-map : {X Y : Type 0} (f : X → Y) (p : Y → Bool) (xs : List X)
     → position p (map f xs) ≡ position (λ x. p (f x)) xs
 position-map f p xs = rw (prefix_len-map f (λ y. not (p y)) xs, length-map xs f)
 
--- distinct values of f
-All-map : {X Y : Type 0} (f : X → Y) (P : Y → Type 0) (xs : List X) → AllByRecursion (λ x. P (f x)) xs
-    → AllByRecursion P (map f xs)
-All-map f P [] a = tt
-All-map f P (x ∷ xs) a = (a.0, All-map f P xs a.1)
-
-pub IsDistinct-map : {X Y : Type 0} (f : X → Y) (eq : Y → Y → Bool) (xs : List X)
-    → IsDistinct (λ x y. eq (f x) (f y)) xs → IsDistinct eq (map f xs)
-unfolding IsDistinct
-IsDistinct-map f eq [] d = tt
-IsDistinct-map f eq (x ∷ xs) d = (All-map f (λ y. eq (f x) y ≡ false) xs d.0, IsDistinct-map f eq xs d.1)
-
--- a text among distinct ones is found where it stands
-bytes_eq-same : (xs : List ℕ) → bytes_eq xs xs ≡ true
-bytes_eq-same xs = (bytes_eq-Decides xs xs).1 refl
-
-bytes_eq-apart : (xs ys : List ℕ) → bytes_eq xs ys ≡ false → bytes_eq ys xs ≡ false
-bytes_eq-apart xs ys h = by (bytes_eq ys xs) refl
-  where
-    by : (b : Bool) → bytes_eq ys xs ≡ b → b ≡ false
-    by false e = refl
-    by true e = sym (bytes_eq-same ys) ∙ ap (λ zs. bytes_eq zs ys) ((bytes_eq-Decides ys xs).0 e) ∙ h
-
-pub position-own : (texts : List (List ℕ)) (i : ℕ) (text : List ℕ) → IsDistinct bytes_eq texts
-    → slice_get texts i ≡ Some text → position (bytes_eq text) texts ≡ Some i
-position-own texts i text distinct at =
-    let within : i < length texts = slice_get_within texts i text at in
-    let own : get_or texts i [] ≡ text = get_or_from_slice_get texts i text [] at in
-    let first : position_or_len (bytes_eq text) texts ≡ i =
-    position_or_len_is (bytes_eq text) texts i [] (omega arith)
-    (λ k h. bytes_eq-apart (get_or texts k []) text
-    (subst (λ t. bytes_eq (get_or texts k []) t ≡ false) own
-    (apart_from_distinct bytes_eq texts k i [] distinct h within)))
-    (λ _. subst (λ t. bytes_eq text t ≡ true) (sym own) (bytes_eq-same text)) in
-    let test : nat_lt i (length texts) ≡ true = grind (arith, nat_tests) in
-    rw first (ap (λ b. cond b (Some i) None) test)
-
+-- another body leaves the names
 module _ {E : Type 0} where
-  -- the rule whose name has that key stands where the key does
-  pub position-rules : (names : NameCase) (key : List ℕ) (entries : List (Vec ℕ Global × Row E))
-      → KeysAreNames names entries →
-      position (λ k. bytes_eq key k.items) (map (λ entry. entry.0) entries)
-      ≡ position (λ rule. bytes_eq key (key_of names rule.name)) (rules_in entries)
-  position-rules names key entries keys =
-      position-map (λ entry. entry.0) (λ k. bytes_eq key k.items) entries
-      ∙ sym (position-map (λ entry. entry.0.items) (bytes_eq key) entries)
-      ∙ ap (position (bytes_eq key)) keys
-      ∙ position-map (λ rule. key_of names rule.name) (bytes_eq key) (rules_in entries)
-
-  -- so the place of a name's key is that of the rule of that name
-  pub position-found : (names : NameCase) (name key : List ℕ) (entries : List (Vec ℕ Global × Row E))
-      → KeysAreNames names entries → key ≡ key_of names name →
-      position (λ k. bytes_eq key k.items) (map (λ entry. entry.0) entries)
-      ≡ find_in (record { names = names; rules = rules_in entries }) name
-  position-found names name key entries keys is =
-      position-rules names key entries keys ∙ ap (λ k. position (λ rule. bytes_eq k (key_of names rule.name))
-      (rules_in entries)) is
-
-  -- a new rule goes last, under the key of its name
-  pub KeysAreNames-push : (names : NameCase) (entries : List (Vec ℕ Global × Row E)) (key : Vec ℕ Global) (row : Row E)
-      → KeysAreNames names entries →
-      key.items ≡ key_of names row.name.items → KeysAreNames names (entries ++ (key, row) ∷ [])
-  KeysAreNames-push names entries key row keys is =
-      simp (map-append) (ap (λ ks. ks ++ key.items ∷ []) keys
-      ∙ ap (λ k. map (λ rule. key_of names rule.name) (rules_in entries) ++ k ∷ []) is)
-
-  pub rules_in-push : (entries : List (Vec ℕ Global × Row E)) (key : Vec ℕ Global) (row : Row E)
-      → rules_in (entries ++ (key, row) ∷ []) ≡ rules_in entries ++ rule_in row ∷ []
-  rules_in-push entries key row = map-append (λ entry. rule_in entry.1) entries ((key, row) ∷ [])
-
-  -- a table with one more rule
-  pub with_rule : (names : NameCase) (entries new : List (Vec ℕ Global × Row E)) (key : Vec ℕ Global) (row : Row E)
-      (rule : Rule E) → new ≡ entries ++ (key, row) ∷ [] → rule_in row ≡ rule →
-      ◌≡◌ {A = Rules E} (record { names = names; rules = rules_in new })
-      (record { names = names; rules = rules_in entries ++ rule ∷ [] })
-  with_rule names entries new key row rule is same =
-      ap (λ rules. record { names = names; rules = rules }) (ap rules_in is ∙ rules_in-push entries key row
-      ∙ ap (λ r. rules_in entries ++ r ∷ []) same)
-
-  -- another body in a row is that of the rule
-  pub rules_in-set : (entries : List (Vec ℕ Global × Row E)) (id : ℕ) (row : Row E) (w : E)
-      → slice_get (values_of entries) id ≡ Some row →
-      rules_in (set_value_at entries id (record { name = row.name; body = w; span = row.span }))
-      ≡ set_body (rules_in entries) id w
-  rules_in-set [] id row w at = refl
-  rules_in-set (entry ∷ entries) zero row w at =
-      let same : entry.1 ≡ row = ap (λ o. unwrap_or o row) at in
-      ap (λ (r : Row E). record { name = r.name.items; body = w; span = r.span } ∷ rules_in entries) (sym same)
-  rules_in-set (entry ∷ entries) (suc id) row w at =
-      ap (λ rules. rule_in entry.1 ∷ rules) (rules_in-set entries id row w at)
-
-  -- and leaves the names
-  pub names_of-set_body : (rules : List (Rule E)) (id : ℕ) (w : E) → map (λ rule. rule.name) (set_body rules id w)
+  names_of-set_body : (rules : List (Rule E)) (id : ℕ) (w : E) → map (λ rule. rule.name) (set_body rules id w)
       ≡ map (λ rule. rule.name) rules
   names_of-set_body [] id w = refl
   names_of-set_body (rule ∷ rules) zero w = refl
   names_of-set_body (rule ∷ rules) (suc id) w = ap (λ l. rule.name ∷ l) (names_of-set_body rules id w)
 
-  -- and the keys
-  keys_in-set : (entries : List (Vec ℕ Global × Row E)) (id : ℕ) (row : Row E) → keys_in (set_value_at entries id row)
-      ≡ keys_in entries
-  keys_in-set [] id row = refl
-  keys_in-set (entry ∷ entries) zero row = refl
-  keys_in-set (entry ∷ entries) (suc id) row = ap (λ l. entry.0.items ∷ l) (keys_in-set entries id row)
+  name_kept : (rules : List (Rule E)) (id : ℕ) (w : E) (n : ℕ) (rule : Rule E)
+      → slice_get (set_body rules id w) n ≡ Some rule
+      → (old : Rule E) × (slice_get rules n ≡ Some old) × (rule.name ≡ old.name)
+  name_kept [] id w n rule is = absurd (cc is)
+  name_kept (r ∷ rules) zero w zero rule is =
+      (r, refl, ap (λ o. option_map_or (λ (q : Rule E). q.name) o []) (sym is))
+  name_kept (r ∷ rules) zero w (suc n) rule is = (rule, is, refl)
+  name_kept (r ∷ rules) (suc id) w zero rule is = (rule, is, refl)
+  name_kept (r ∷ rules) (suc id) w (suc n) rule is = name_kept rules id w n rule is
 
-  pub KeysAreNames-set : (names : NameCase) (entries : List (Vec ℕ Global × Row E)) (id : ℕ) (row : Row E) (w : E)
-      → slice_get (values_of entries) id ≡ Some row →
-      KeysAreNames names entries → KeysAreNames names
-      (set_value_at entries id (record { name = row.name; body = w; span = row.span }))
-  KeysAreNames-set names entries id row w at keys =
-      keys_in-set entries id _ ∙ keys
-      ∙ sym (map-map (key_of names) (λ rule. rule.name) (rules_in entries))
-      ∙ ap (map (key_of names)) (sym (names_of-set_body (rules_in entries) id w))
-      ∙ map-map (key_of names) (λ rule. rule.name) (set_body (rules_in entries) id w)
-      ∙ ap (map (λ (rule : Rule E). key_of names rule.name)) (sym (rules_in-set entries id row w at))
+  pub rules_in-push : (rows : List (Row E)) (row : Row E) → rules_in (rows ++ row ∷ [])
+      ≡ rules_in rows ++ rule_in row ∷ []
+  rules_in-push rows row = map-append rule_in rows (row ∷ [])
 
-  -- keys that are distinct make names unique
-  pub HasUniqueNames-rules : (names : NameCase) (entries : List (Vec ℕ Global × Row E)) → KeysAreNames names entries →
-      IsDistinct (λ x y. bytes_eq x.items y.items) (map (λ entry. entry.0) entries)
-      → HasUniqueNames (record { names = names; rules = rules_in entries })
-  HasUniqueNames-rules names entries keys distinct = record {
-    own = λ id rule at.
-        let texts = map (λ (r : Rule E). key_of names r.name) (rules_in entries) in
-        let apart : IsDistinct bytes_eq texts =
-        subst (IsDistinct bytes_eq) (map-map (λ k. k.items) (λ entry. entry.0) entries ∙ keys)
-        (IsDistinct-map (λ k. k.items) bytes_eq (map (λ entry. entry.0) entries) distinct) in
-        sym (position-map (λ r. key_of names r.name) (bytes_eq (key_of names rule.name)) (rules_in entries))
-        ∙ position-own texts id (key_of names rule.name) apart
-        (slice_get-map (λ r. key_of names r.name) (rules_in entries) id ∙ ap (option_map (λ r. key_of names r.name))
-        at);
-  }
+  -- another body in a row is that of the rule
+  pub rules_in-set : (rows : List (Row E)) (id : ℕ) (row : Row E) (w : E) → slice_get rows id ≡ Some row
+      → rules_in (set rows id (record { name = row.name; body = w; span = row.span }))
+      ≡ set_body (rules_in rows) id w
+  rules_in-set [] id row w at = refl
+  rules_in-set (r ∷ rows) zero row w at =
+      let same : r ≡ row = ap (λ o. unwrap_or o row) at in
+      ap (λ (r : Row E). record { name = r.name.items; body = w; span = r.span } ∷ rules_in rows) (sym same)
+  rules_in-set (r ∷ rows) (suc id) row w at = ap (λ rules. rule_in r ∷ rules) (rules_in-set rows id row w at)
+
+  -- the row at the id of a rule
+  pub row_at : (rows : List (Row E)) (id : ℕ) (row : Row E) → id < length (rules_in rows) → row ≡ get_or rows id row
+      → slice_get rows id ≡ Some row
+  row_at rows id row lt is =
+      slice_get-get_or rows id row (omega (arith, lt, length-map rows rule_in)) ∙ ap Some (sym is)
 
   -- a part of the rule at an id
-  pub part_at : {X : Type 0} (f : Rule E → X) (entries : List (Vec ℕ Global × Row E)) (id : ℕ)
-      (o : Option (Bor (Vec ℕ Global) × Bor (Row E))) (p : Bor (Vec ℕ Global) × Bor (Row E)) →
-      option_map deref_pair o ≡ slice_get entries id → o ≡ Some p → slice_get (map f (rules_in entries)) id
-      ≡ Some (f (rule_in p.1.now))
-  part_at f entries id o p at is =
-      slice_get-map f (rules_in entries) id
-      ∙ ap (option_map f) (slice_get-map (λ entry. rule_in entry.1) entries id
-      ∙ ap (option_map (λ entry. rule_in entry.1)) (sym at ∙ ap (option_map deref_pair) is))
+  pub part_at : {X : Type 0} (f : Rule E → X) (rows : List (Row E)) (id : ℕ) (row : Row E) → id < length (rules_in rows)
+      → row ≡ get_or rows id row → slice_get (map f (rules_in rows)) id ≡ Some (f (rule_in row))
+  part_at f rows id row lt is =
+      slice_get-map f (rules_in rows) id
+      ∙ ap (option_map f) (slice_get-map rule_in rows id ∙ ap (option_map rule_in) (row_at rows id row lt is))
 
-  pub body_at : (entries : List (Vec ℕ Global × Row E)) (id : ℕ) (row : Row E) → slice_get (values_of entries) id
-      ≡ Some row →
-      slice_get (map (λ rule. rule.body) (rules_in entries)) id ≡ Some row.body
-  body_at entries id row at =
-      ap (λ bodies. slice_get bodies id) (map-map (λ rule. rule.body) (λ entry. rule_in entry.1) entries
-      ∙ sym (map-map (λ r. r.body) (λ entry. entry.1) entries))
-      ∙ slice_get-map (λ r. r.body) (values_of entries) id ∙ ap (option_map (λ (r : Row E). r.body)) at
+module _ {E : Type 0} (names : NameCase) where
+  -- the id of a name's key is that of the rule of that name
+  pub found_by_key : {S : Type 0} (rows : List (Row E)) (ids : HashMap (Vec ℕ Global) ℕ S) (name key : List ℕ)
+      → HasIdsOf names rows ids → key ≡ key_of names name
+      → get_by (λ k. bytes_eq key k.items) ids ≡ find_in (table_of names rows) name
+  found_by_key rows ids name key has is = has.found key
+      ∙ ap (λ k. position (λ (rule : Rule E). bytes_eq k (key_of names rule.name)) (rules_in rows)) is
+
+  pub no_ids : {S : Type 0} (ids : HashMap (Vec ℕ Global) ℕ S) → ids.entries ≡ [] → HasIdsOf {E = E} names [] ids
+  no_ids ids empty = record {
+    found = λ key. ap (lookup (λ k. bytes_eq key k.items)) empty;
+    unique = record { own = λ id rule at. absurd (cc at) };
+  }
+
+  -- one more row, whose key is new
+  module _ {S : Type 0} (rows : List (Row E)) (row : Row E) (key : Vec ℕ Global) (old new : HashMap (Vec ℕ Global) ℕ S)
+      (has : HasIdsOf names rows old) (is : key.items ≡ key_of names row.name.items)
+      (none : get_by (λ k. bytes_eq key.items k.items) old ≡ None)
+      (updates : UpdatesBy (λ x y. bytes_eq x.items y.items) (λ k. bytes_eq key.items k.items) old new
+      (Some (length rows))) where
+    abbrev passes : List ℕ → Rule E → Bool
+    passes q rule = bytes_eq q (key_of names rule.name)
+
+    -- the new key
+    found_new : (q : List ℕ) → q ≡ key.items → get_by (λ k. bytes_eq q k.items) new
+        ≡ position (passes q) (rules_in rows ++ rule_in row ∷ [])
+    found_new q same =
+        rw same (updates.1 ∙ ap Some (sym (length-map rows rule_in))
+        ∙ sym (position-last (passes key.items) (rules_in rows) (rule_in row) (sym (has.found key.items) ∙ none)
+        (ap (bytes_eq key.items) (sym is) ∙ bytes_eq-same key.items)))
+
+    -- another key
+    found_other : (q : List ℕ) → bytes_eq q key.items ≡ false → get_by (λ k. bytes_eq q k.items) new
+        ≡ position (passes q) (rules_in rows ++ rule_in row ∷ [])
+    unfolding KeepsOthers
+    found_other q apart =
+        updates.3 (λ k. bytes_eq q k.items) (λ x y at. ap (λ z. bytes_eq z y.items) (same-bytes q x.items at))
+        (λ k at. ap (bytes_eq q) (sym (same-bytes key.items k.items at)) ∙ apart)
+        ∙ has.found q
+        ∙ sym (position-other (passes q) (rules_in rows) (rule_in row) (ap (bytes_eq q) (sym is) ∙ apart))
+
+    found_pushed : (q : List ℕ) → get_by (λ k. bytes_eq q k.items) new
+        ≡ position (passes q) (rules_in (rows ++ row ∷ []))
+    found_pushed q = rw (rules_in-push rows row) (⊎_elim (λ same. found_new q (same-bytes q key.items same))
+        (found_other q) (cases_Bool (bytes_eq q key.items)))
+
+    none_of_name : find_in (table_of names rows) row.name.items ≡ None
+    none_of_name = sym (found_by_key rows old row.name.items key.items has is) ∙ none
+
+    own_pushed : (id : ℕ) (rule : Rule E) → slice_get (rules_in rows ++ rule_in row ∷ []) id ≡ Some rule
+        → position (λ r. same_name names rule.name r.name) (rules_in rows ++ rule_in row ∷ []) ≡ Some id
+    own_pushed id rule at = ⊎_elim
+        (λ before. position-before _ (rules_in rows) (rule_in row) id (has.unique.own id rule before))
+        (λ last. rw (sym last.1) (position-last _ (rules_in rows) (rule_in row) none_of_name
+        (bytes_eq-same (key_of names row.name.items)) ∙ ap Some (sym last.0)))
+        (get_pushed (rules_in rows) (rule_in row) id at)
+
+    pub has_pushed : HasIdsOf names (rows ++ row ∷ []) new
+    has_pushed = record {
+      found = found_pushed;
+      unique = record {
+        own = λ id rule at.
+            ap (position (λ r. same_name names rule.name r.name)) (rules_in-push rows row) ∙ own_pushed id rule
+            (ap (λ l. slice_get l id) (sym (rules_in-push rows row)) ∙ at);
+      };
+    }
+
+  -- and leaves what finds the names
+  keys_kept : (test : List ℕ → Bool) (rules : List (Rule E)) (id : ℕ) (w : E)
+      → position (λ r. test (key_of names r.name)) (set_body rules id w)
+      ≡ position (λ r. test (key_of names r.name)) rules
+  keys_kept test rules id w =
+      sym (position-map (λ r. r.name) (λ n. test (key_of names n)) (set_body rules id w))
+      ∙ ap (position (λ n. test (key_of names n))) (names_of-set_body rules id w)
+      ∙ position-map (λ r. r.name) (λ n. test (key_of names n)) rules
+
+  pub has_set : {S : Type 0} (rows : List (Row E)) (ids : HashMap (Vec ℕ Global) ℕ S) (id : ℕ) (row : Row E) (w : E)
+      → slice_get rows id ≡ Some row → HasIdsOf names rows ids
+      → HasIdsOf names (set rows id (record { name = row.name; body = w; span = row.span })) ids
+  has_set rows ids id row w at has = record {
+    found = λ key. has.found key ∙ sym (keys_kept (bytes_eq key) (rules_in rows) id w)
+        ∙ ap (position (λ r. bytes_eq key (key_of names r.name))) (sym (rules_in-set rows id row w at));
+    unique = record {
+      own = λ n rule is.
+          ap (position (λ r. same_name names rule.name r.name)) (rules_in-set rows id row w at)
+          ∙ keys_kept (bytes_eq (key_of names rule.name)) (rules_in rows) id w
+          ∙ own_set (rules_in rows) has.unique.own n rule (ap (λ l. slice_get l n)
+          (sym (rules_in-set rows id row w at)) ∙ is);
+    };
+  }
+    where
+      own_set : (rules : List (Rule E))
+          → ((n : ℕ) (rule : Rule E) → slice_get rules n ≡ Some rule
+          → find_in (record { names = names; rules = rules }) rule.name ≡ Some n)
+          → (n : ℕ) (rule : Rule E) → slice_get (set_body rules id w) n ≡ Some rule
+          → find_in (record { names = names; rules = rules }) rule.name ≡ Some n
+      own_set rules own n rule is =
+          let there = name_kept rules id w n rule is in
+          ap (λ m. find_in (record { names = names; rules = rules }) m) there.2 ∙ own n there.0 there.1

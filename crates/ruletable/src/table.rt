@@ -6,8 +6,8 @@ ghost use Rattle.ruletable.specs.Rules.{find_in, names_of, bodies_of, spans_of, 
 
 use crate::memory::Memory;
 use crate::span::Span;
-use indexmap::IndexMap;
 use std::alloc::Global;
+use std::collections::HashMap;
 use std::marker::Model;
 
 /// How names compare.
@@ -39,7 +39,8 @@ pub enum Defined {
 #[derive(Drop)]
 pub struct RuleTable<E> {
     names: NameCase,
-    rows: IndexMap<Vec<u8>, Row<E>>,
+    rows: Vec<Row<E>>,
+    ids: HashMap<Vec<u8>, usize>,
 }
 
 impl<E> Model for RuleTable<E> {
@@ -47,11 +48,11 @@ impl<E> Model for RuleTable<E> {
 
     ghost Value = { Rules E };
 
-    ghost use Rattle.ruletable.specs.RuleRows.{rules_in, KeysAreNames};
+    ghost use Rattle.ruletable.specs.RuleRows.{rules_in, HasIdsOf};
 
-    ghost view = { λ t. record { names = t.names; rules = rules_in t.rows.entries } };
+    ghost view = { λ t. record { names = t.names; rules = rules_in t.rows.items } };
 
-    ghost invariant = { λ t. KeysAreNames t.names t.rows.entries };
+    ghost invariant = { λ t. HasIdsOf t.names t.rows.items t.ids };
 }
 
 impl<E> RuleTable<E> {
@@ -62,7 +63,8 @@ impl<E> RuleTable<E> {
     {
         RuleTable {
             names,
-            rows: IndexMap::new(alloc),
+            rows: Vec::new(alloc),
+            ids: HashMap::new(alloc),
         }
     }
 
@@ -81,16 +83,16 @@ impl<E> RuleTable<E> {
         self.rows.is_empty()
     }
 
-    /// Returns the id of the rule of that name. Folding copies the name, which may want memory.
+    /// Returns the id of the rule of that name. Folding copies the name: `Memory` if that allocation fails.
     pub fn find(&self, name: &[u8]) -> Result<Option<usize>, Memory>
         ensures found { IfOk result (λ id. id ≡ find_in self.now name.now) }
         ensures exact { self.now.names ≡ NameCase.Exact → IsOk result }
     {
         match self.names {
-            NameCase::Exact => Ok(self.rows.get_index_of(name)),
+            NameCase::Exact => Ok(self.ids.get(name).copied()),
             NameCase::Fold => {
                 let key = copied_key(*self.rows.allocator(), NameCase::Fold, name)?;
-                Ok(self.rows.get_index_of(key.as_slice()))
+                Ok(self.ids.get(key.as_slice()).copied())
             }
         }
     }
@@ -106,13 +108,19 @@ impl<E> RuleTable<E> {
     {
         let alloc = *self.rows.allocator();
         let key = copied_key(alloc, self.names, name)?;
-        if let Some(id) = self.rows.get_index_of(&key) {
-            return Ok(Defined::Duplicate(id));
+        if let Some(id) = self.ids.get(key.as_slice()) {
+            return Ok(Defined::Duplicate(*id));
         }
         let id = self.rows.len();
         let name = Vec::from_slice(alloc, name)?;
-        self.rows.insert(key, Row { name, body, span })?;
-        Ok(Defined::Added(id))
+        self.rows.push(Row { name, body, span })?;
+        match self.ids.insert(key, id) {
+            Ok(_) => Ok(Defined::Added(id)),
+            Err(_) => {
+                self.rows.truncate(id);
+                Err(Memory)
+            }
+        }
     }
 
     /// Returns the name of the rule with that id, as its definition spells it. There must be such a rule.
@@ -120,8 +128,7 @@ impl<E> RuleTable<E> {
         requires { id < length self.now.rules }
         ensures { slice_get (names_of self.now) id ≡ Some result.now }
     {
-        let (_, row) = self.rows.get_index(id).unwrap();
-        row.name.as_slice()
+        self.rows[id].name.as_slice()
     }
 
     /// Returns the body of the rule with that id. There must be such a rule.
@@ -129,8 +136,7 @@ impl<E> RuleTable<E> {
         requires { id < length self.now.rules }
         ensures { slice_get (bodies_of self.now) id ≡ Some result.now }
     {
-        let (_, row) = self.rows.get_index(id).unwrap();
-        &row.body
+        &self.rows[id].body
     }
 
     /// Returns where the name of the definition of the rule with that id stands. There must be such a rule.
@@ -138,8 +144,7 @@ impl<E> RuleTable<E> {
         requires { id < length self.now.rules }
         ensures { slice_get (spans_of self.now) id ≡ Some result }
     {
-        let (_, row) = self.rows.get_index(id).unwrap();
-        row.span
+        self.rows[id].span
     }
 
     /// Returns the body of the rule with that id, to write. There must be such a rule. The names, the spans and the
@@ -149,8 +154,7 @@ impl<E> RuleTable<E> {
         ensures* writes_back { sem 𝓛 (LendsBody E.row self.entry id result) }
         ensures value { slice_get (bodies_of self.old) id ≡ Some result.now }
     {
-        let row = &mut self.rows[id];
-        &mut row.body
+        &mut self.rows[id].body
     }
 }
 

@@ -2,10 +2,9 @@
 
 use crate::flat_grammars::viable_flat;
 use earley::{Chart, viable};
-use flatgrammar::Flat;
+use flatgrammar::{Flat, Verdict};
 use lazydfa::Automaton;
 use letters::{Alphabet, Letter, decode};
-use lowering::Verdict;
 use ruletable::Memory;
 use std::alloc::Global;
 use testio::{Fields, Text};

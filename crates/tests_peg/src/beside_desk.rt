@@ -53,7 +53,7 @@ fn is_alike(alloc: Global, peg: &SoundPeg, window: &[u8], more: bool) -> Result<
     are_implied(alloc, &mut packrat, &desk, peg, window)
 }
 
-// Whether both are alike on each beginning of a window, with more behind it and without.
+// Returns whether both are alike on each prefix of a window, with more bytes after it and without.
 fn are_alike(alloc: Global, peg: &SoundPeg, window: &[u8]) -> Result<bool, Memory> {
     for cut in 0..window.len() {
         let begins = &window[..cut + 1];

@@ -3,7 +3,7 @@
 use crate::nodes::sound;
 use gramcheck::SoundPeg;
 use matchfailure::{
-    TextPlace, Told, Visit, explain_long_unit, explain_no_match, failing_leaf_stops,
+    FailureSearch, TextPlace, Told, Visit, explain_long_unit, failing_leaf_stops,
     fails_so_in_input, farthest_failure, farthest_or_none, one_farthest, one_no_match, stops_fail,
     told_unit,
 };
@@ -81,7 +81,7 @@ fn told(
         return Ok(Vec::new(alloc));
     }
     let at = TextPlace::front().behind(input);
-    explain_no_match(alloc, peg, taken, before, at)
+    FailureSearch::new().explain_no_match(alloc, peg, taken, before, at)
 }
 
 /// `no_match GRAMMAR | INPUT | TAKEN | COUNT`: what explains that no unit goes on. The input stands before the unit

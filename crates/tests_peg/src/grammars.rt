@@ -66,7 +66,7 @@ pub(crate) fn spans_of(fields: &Fields, out: &mut Text) {
     }
 }
 
-// A mark for a text that is read, or that is refused on a line from 1 to 9.
+// A mark for a text that is read, or that is rejected on a line from 1 to 9.
 fn mark_of(alloc: Global, text: &[u8]) -> &'static [u8] {
     match read_peg(alloc, text) {
         Ok(_) => b"R",
@@ -76,7 +76,7 @@ fn mark_of(alloc: Global, text: &[u8]) -> &'static [u8] {
     }
 }
 
-/// `prefixes TEXT`: for each prefix, the empty one first, `R` if it is read, or the line on which it is refused.
+/// `prefixes TEXT`: for each prefix, the empty one first, `R` if it is read, or the line on which it is rejected.
 pub(crate) fn prefixes_read(alloc: Global, fields: &Fields, out: &mut Text) {
     let text = fields.text(0);
     for size in 0..=text.len() {

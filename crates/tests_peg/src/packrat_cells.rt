@@ -86,7 +86,8 @@ fn over_operand(node: &Node, place: usize, found: Option<Found>) -> Option<Found
     }
 }
 
-// What a spot gives: a key what is stored for it, and any other what the walk finds; nothing if the key is not stored.
+// Returns a task's result: of a memo key the stored one, else the one that the walk finds. Nothing if the key is not
+// stored.
 #[cycle(walk)]
 fn given(
     view: &mut View,
@@ -104,8 +105,8 @@ fn given(
     walk(view, packrat, text, spot, levels - 1)
 }
 
-// Walks over what is below a spot without passing a key. Each pair on the way gets its cell. It returns what the spot
-// gives.
+// Walks over what is below a task without passing a key. Each pair on the way gets its cell. Returns the task's
+// result.
 #[cycle(walk)]
 fn walk(
     view: &mut View,
@@ -211,7 +212,7 @@ fn walk_tail(
     }
 }
 
-// Walks from a key if it is stored, and tells whether it has the outcome that the walk finds.
+// Walks from a key if it is stored. Returns whether it has the outcome that the walk finds.
 fn is_right(
     view: &mut View,
     packrat: &mut Packrat,
@@ -246,7 +247,7 @@ fn are_right(
     Ok(so)
 }
 
-// Tells whether a node has the same cell at each place of a window, and walks from its keys before.
+// Walks from a node's keys at each position of a window. Returns whether each has the outcome that the walk finds.
 fn is_walked(
     view: &mut View,
     packrat: &mut Packrat,
@@ -260,7 +261,7 @@ fn is_walked(
     Ok(so)
 }
 
-// Tells whether each node has the cells of the plain machine.
+// Returns whether each node has the cells of the plain machine.
 fn are_same(view: &View, desk: &Desk, text: &Text<'_>) -> bool {
     let places = text.window.len().saturating_add(1);
     for at in 0..view.cells.len() {

@@ -1,4 +1,4 @@
-//! How a run ends: what was told of refused lines, a stop, and what explains it.
+//! How a run ends: the explanations of rejected lines, a stop, and what explains it.
 ghost use Rattle.std.specs.Prelude.{◌≡◌, ◌++◌, [], false};
 ghost use Rattle.ruletable.specs.Writing.{Flags, Writes};
 ghost use Rattle.toolrun.specs.RunEnd.{ended_status, ended_text, more_refused, plainly, refusals_text};
@@ -10,7 +10,7 @@ use itoa::Buffer;
 use ruletable::{Sink, WriteFault, write_pieces, write_whole};
 use std::alloc::Global;
 
-/// What is told of refused lines.
+/// The explanations of rejected lines.
 #[derive(Drop)]
 pub struct ToldRefusals {
     /// The lines that explain the first ones.
@@ -20,7 +20,7 @@ pub struct ToldRefusals {
 }
 
 impl ToldRefusals {
-    /// Returns what is told where no line is refused.
+    /// Returns the explanations where no line is rejected: none.
     pub fn none(alloc: Global) -> ToldRefusals
         ensures { refusals_text result ≡ [] }
     {
@@ -34,15 +34,15 @@ impl ToldRefusals {
 /// How a run ends.
 #[derive(Drop)]
 pub enum Ending {
-    /// It stops so, and nothing more is told.
+    /// It stops so, and writes nothing more.
     Plain(Stop),
-    /// Refused lines are told first; it stops so, and these lines explain that.
+    /// It writes the explanations of rejected lines first; it stops so, and these lines explain that.
     Explained {
         told: ToldRefusals,
         stop: Stop,
         why: Vec<u8>,
     },
-    /// Refused lines are told first; it stops so, and an allocation failed in explaining that.
+    /// It writes the explanations of rejected lines first; it stops so, and an allocation failed in explaining that.
     Unexplained {
         told: ToldRefusals,
         stop: Stop,
@@ -70,7 +70,7 @@ pub fn ending_status(ending: &Ending) -> Status
     }
 }
 
-/// Writes how many more lines were refused, if some were.
+/// Writes how many more lines were rejected, if some were.
 fn write_more<W: Sink>(more: usize, w: &mut W) -> Result<(), WriteFault>
     requires { W.failed w.old ≡ false }
     ensures bytes { Writes (W.contents w.old) (W.contents w.new) (more_refused more) result }
@@ -85,7 +85,7 @@ fn write_more<W: Sink>(more: usize, w: &mut W) -> Result<(), WriteFault>
     write_pieces(w, &pieces)
 }
 
-/// Writes what is told of refused lines.
+/// Writes the explanations of rejected lines.
 fn write_refusals<W: Sink>(told: &ToldRefusals, w: &mut W) -> Result<(), WriteFault>
     requires { W.failed w.old ≡ false }
     ensures bytes { Writes (W.contents w.old) (W.contents w.new) (refusals_text told.now) result }
@@ -97,7 +97,7 @@ fn write_refusals<W: Sink>(told: &ToldRefusals, w: &mut W) -> Result<(), WriteFa
     }
 }
 
-/// Writes the line of a stop, and more behind it.
+/// Writes the line of a stop, and then more.
 fn write_behind<W: Sink>(stop: Stop, more: &[u8], w: &mut W) -> Result<(), WriteFault>
     requires { W.failed w.old ≡ false }
     ensures bytes { Writes (W.contents w.old) (W.contents w.new) (message_of stop ++ more.now) result }
@@ -109,7 +109,7 @@ fn write_behind<W: Sink>(stop: Stop, more: &[u8], w: &mut W) -> Result<(), Write
     }
 }
 
-/// Writes what is told of refused lines, the line of a stop, and more behind it.
+/// Writes the explanations of rejected lines, the line of a stop, and then more.
 fn write_told<W: Sink>(
     told: &ToldRefusals,
     stop: Stop,
@@ -127,8 +127,8 @@ fn write_told<W: Sink>(
     }
 }
 
-/// Writes what is told of refused lines, the line of a stop, and behind it the lines that explain it, or that memory
-/// was wanting for them.
+/// Writes the explanations of rejected lines, the line of a stop, and then the lines that explain it, or
+/// `out of memory` if an allocation failed in that.
 pub fn write_ending<W: Sink>(ending: &Ending, w: &mut W) -> Result<(), WriteFault>
     requires { W.failed w.old ≡ false }
     ensures bytes { Writes (W.contents w.old) (W.contents w.new) (ended_text ending.now) result }

@@ -11,7 +11,7 @@ use crate::status::Status;
 use crate::stop::Stop;
 use ruletable::{Sink, WriteFault, write_whole};
 
-/// Flushes the output, and tells a fault on the error output.
+/// Flushes the output, and reports a fault on the error output.
 fn flush_out<O: Sink, E: Sink>(out: &mut O, err: &mut E)
     ensures kept { Keeps (O.contents out.old) (O.contents out.new) }
     ensures told { (more : List ℕ) × Appends (E.contents err.old) (E.contents err.new) more ×
@@ -41,7 +41,7 @@ fn flush_err<E: Sink>(err: &mut E)
     let _ = err.flush();
 }
 
-/// Tells the error output how a run ends, or of a fault of the output.
+/// Writes on the error output how a run ends, or that the output failed.
 fn tell<E: Sink>(ending: &Result<Ending, WriteFault>, err: &mut E) -> Result<(), WriteFault>
     requires { E.failed err.old ≡ false }
     ensures bytes { Writes (E.contents err.old) (E.contents err.new) (told_of ending.now) result }

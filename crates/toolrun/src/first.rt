@@ -1,4 +1,4 @@
-//! What is told before anything is read, on the error output.
+//! The messages before any input is read, on the error output.
 ghost use Rattle.std.specs.Prelude.{◌≡◌, ◌++◌, false};
 ghost use Rattle.ruletable.specs.Faults.{fault_text};
 ghost use Rattle.ruletable.specs.Writing.{Flags, Writes};
@@ -9,7 +9,7 @@ use crate::plan::First;
 use ruletable::{ReadFault, Sink, WriteFault, write_fault, write_whole};
 use std::alloc::Global;
 
-/// Writes the line of a fault, and behind it the lines that explain it.
+/// Writes the line of a fault, and then the lines that explain it.
 fn write_explained<W: Sink>(fault: &ReadFault, why: &[u8], w: &mut W) -> Result<(), WriteFault>
     requires { W.failed w.old ≡ false }
     ensures bytes { Writes (W.contents w.old) (W.contents w.new) (fault_text fault.now ++ why.now) result }
@@ -21,7 +21,7 @@ fn write_explained<W: Sink>(fault: &ReadFault, why: &[u8], w: &mut W) -> Result<
     }
 }
 
-/// Writes what is told before anything is read.
+/// Writes the messages before any input is read.
 pub fn write_first<W: Sink>(alloc: Global, first: &First, w: &mut W) -> Result<(), WriteFault>
     requires { W.failed w.old ≡ false }
     ensures bytes { Writes (W.contents w.old) (W.contents w.new) (first_text first.now) result }

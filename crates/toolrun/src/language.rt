@@ -21,7 +21,7 @@ use std::alloc::Global;
 pub struct Checked<S> {
     /// What there is to say of it, in order.
     pub notes: Vec<Note>,
-    /// The grammar, ready to run, unless it is refused.
+    /// The grammar, ready to run, unless a note rejects it.
     pub sound: Option<S>,
 }
 
@@ -30,7 +30,7 @@ pub trait Language {
     /// What a text is read as.
     type Grammar: Drop;
 
-    /// A grammar that was checked and is not refused.
+    /// A grammar that was checked and that no note rejects.
     type Sound: Drop;
 
     /// Where a text says what explains notes on its grammar.
@@ -42,13 +42,13 @@ pub trait Language {
     /// What is wrong with a text.
     ghost has_fault: { List ℕ → Fault → Type 0 };
 
-    /// What explains a fault of a text: the lines behind its message.
+    /// What explains a fault of a text: the lines after its message.
     ghost explains: { List ℕ → Fault → List ℕ → Type 0 };
 
     /// What such places of a text are, where a name is given for the start rule.
     ghost are_places: { List ℕ → Option (List ℕ) → Self.Places → Type 0 };
 
-    /// What explains a note on the grammar of a text, where a name is given for the start rule: the lines behind it.
+    /// What explains a note on the grammar of a text, where a name is given for the start rule: the lines after it.
     ghost explains_note: { List ℕ → Option (List ℕ) → Said → List ℕ → Type 0 };
 
     /// What else there is to say of the grammar of a text, as settings ask: its hints.
@@ -117,13 +117,13 @@ pub trait Language {
         ensures { IfOk result (λ notes. (text : List ℕ) → is_read text grammar.now →
             is_printable text grammar.now (map said_of notes.items)) };
 
-    /// Writes the canonical text of a grammar. `WriteFault` if the writer fails; then a beginning of it is written.
+    /// Writes the canonical text of a grammar. `WriteFault` if the writer fails; then a prefix of it is written.
     fn print<O: Sink>(grammar: &Self::Grammar, out: &mut O) -> Result<(), WriteFault>
         requires { O.failed out.old ≡ false }
         ensures bytes { Writes (O.contents out.old) (O.contents out.new) (canonical grammar.now) result }
         ensures flag { Flags (O.failed out.old) (O.failed out.new) result };
 
-    /// Runs a grammar on what a reader gives. `WriteFault` if the output fails; then a beginning is written.
+    /// Runs a grammar on what a reader gives. `WriteFault` if the output fails; then a prefix is written.
     fn run<R: Source, O: Sink>(
         alloc: Global,
         grammar: &Self::Sound,

@@ -10,7 +10,7 @@ use std::alloc::Global;
 /// How many notes one write hands on: without a block of them each note would cost system calls.
 const BLOCK: usize = 64;
 
-/// Writes the lines of the notes, one behind the other, each by pieces.
+/// Writes the lines of the notes in order, each by pieces.
 fn write_lines<W: Sink>(notes: &[Note], w: &mut W) -> Result<(), WriteFault>
     requires { W.failed w.old ≡ false }
     ensures bytes { Writes (W.contents w.old) (W.contents w.new) (notes_text (map said_of notes.now)) result }
@@ -25,7 +25,7 @@ fn write_lines<W: Sink>(notes: &[Note], w: &mut W) -> Result<(), WriteFault>
     Ok(())
 }
 
-/// Returns the lines of the notes, one behind the other. `Memory` if an allocation fails.
+/// Returns the lines of the notes in order. `Memory` if an allocation fails.
 fn text_of(alloc: Global, notes: &[Note]) -> Result<Vec<u8>, Memory>
     ensures { IfOk result (λ text. text.items ≡ notes_text (map said_of notes.now)) }
 {
@@ -59,7 +59,7 @@ fn write_block<W: Sink>(alloc: Global, notes: &[Note], w: &mut W) -> Result<(), 
     }
 }
 
-/// Writes the lines of the notes, one behind the other, a block of them by one write.
+/// Writes the lines of the notes in order, a block of them by one write.
 pub fn write_notes<W: Sink>(alloc: Global, notes: &[Note], w: &mut W) -> Result<(), WriteFault>
     requires { W.failed w.old ≡ false }
     ensures bytes { Writes (W.contents w.old) (W.contents w.new) (notes_text (map said_of notes.now)) result }

@@ -24,7 +24,7 @@ pub enum Task<G, S> {
     Runs(S),
 }
 
-/// What is told before anything is read.
+/// The messages before any input is read.
 #[derive(Drop)]
 pub enum First {
     /// The notes on the grammar.
@@ -35,7 +35,7 @@ pub enum First {
     Fault { fault: ReadFault, why: Vec<u8> },
 }
 
-/// What is to be done for a grammar's text: what is told first is written, and then the task is performed, or the run
+/// What is to be done for a grammar's text: the first messages are written, and then the task is performed, or the run
 /// stops at once.
 #[derive(Drop)]
 pub struct Plan<G, S> {
@@ -105,7 +105,7 @@ fn plan_stop<G, S>(alloc: Global, fault: ReadFault) -> Plan<G, S>
     }
 }
 
-/// Returns the plan for a text whose fault is explained: that is told, and the run stops at once.
+/// Returns the plan for a text whose fault is explained: the fault is written, and the run stops at once.
 fn plan_explained<L: Language>(
     alloc: Global,
     text: &[u8],
@@ -134,7 +134,7 @@ fn plan_explained<L: Language>(
     }
 }
 
-/// Returns the plan for a text that has a fault, which is explained if that is asked and it is not want of memory.
+/// Returns the plan for a text that has a fault, which is explained if settings ask for that and it is not `Memory`.
 fn plan_fault<L: Language>(
     alloc: Global,
     text: &[u8],
@@ -155,8 +155,8 @@ fn plan_fault<L: Language>(
     plan_explained::<L>(alloc, text, settings, fault)
 }
 
-/// Returns the plan that tells notes before a task, each explained if that is asked. Where an allocation fails in
-/// explaining them, the run stops behind those before.
+/// Returns the plan that writes notes before a task, each explained if settings ask for that. Where an allocation fails
+/// in explaining them, the run stops after the notes before.
 fn plan_noted<L: Language>(
     alloc: Global,
     text: &[u8],
@@ -185,8 +185,8 @@ fn plan_noted<L: Language>(
     }
 }
 
-/// Returns the plan that tells notes and hints before a task, the notes each explained, if explanations are asked for;
-/// else the notes alone. Where an allocation fails in that, the run stops behind the notes before.
+/// Returns the plan that writes notes and hints before a task, the notes each explained, if settings ask for
+/// explanations; else the notes alone. Where an allocation fails in that, the run stops after the notes before.
 fn plan_hinted<L: Language>(
     alloc: Global,
     text: &[u8],

@@ -5,11 +5,11 @@ ghost use Rattle.toolrun.specs.Status.{code_of};
 /// What a run came to. The greater code stands where two apply.
 #[derive(Clone, Copy, Debug, PartialEq, Eq)]
 pub enum Status {
-    /// All input was taken, or nothing was refused.
+    /// All input was taken, or nothing was rejected.
     Done,
-    /// A place where nothing matches.
+    /// Nothing matches at some position, or some line is rejected.
     NoMatch,
-    /// The grammar or the arguments are refused.
+    /// The grammar or the arguments are rejected.
     Refused,
     /// A unit longer than the limit.
     Overlong,

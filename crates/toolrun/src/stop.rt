@@ -7,14 +7,14 @@ use crate::status::Status;
 use itoa::Buffer;
 use ruletable::{ReadFault, Sink, WriteFault, write_fault, write_pieces, write_whole};
 
-/// Why a run stopped. A place counts the bytes before it, a line from 1.
+/// Why a run stopped. A position counts the bytes before it; lines count from 1.
 #[derive(Clone, Copy, PartialEq, Eq)]
 pub enum Stop {
-    /// All is said; the run has this status.
+    /// The run writes no message; it has this status.
     Quiet(Status),
-    /// Nothing goes on at this place.
+    /// No unit matches at this position.
     NoMatch(usize),
-    /// The unit at this place looks at more bytes than the limit.
+    /// The unit at this position looks at more bytes than the limit.
     LongUnit { place: usize, limit: usize },
     /// The line of this number has more bytes than the limit.
     LongLine { line: usize, limit: usize },
@@ -54,7 +54,7 @@ pub fn stop_unread(fault: ReadFault) -> Stop
     }
 }
 
-/// Writes the line for it, with its LF; nothing where all is said.
+/// Writes the line for it, with its LF; nothing for `Quiet`.
 pub fn write_stop<W: Sink>(stop: Stop, w: &mut W) -> Result<(), WriteFault>
     requires { W.failed w.old ≡ false }
     ensures bytes { Writes (W.contents w.old) (W.contents w.new) (message_of stop) result }

@@ -9,7 +9,7 @@ use crate::settings::Settings;
 use ruletable::{Memory, Note};
 use std::alloc::Global;
 
-/// What is told of notes with the lines that explain them.
+/// The text of notes with the lines that explain them.
 #[derive(Drop)]
 pub enum Told {
     /// All of them.
@@ -107,8 +107,8 @@ fn push_hints<L: Language>(
     Ok(())
 }
 
-/// Returns the notes on the grammar of a text, each with the lines that explain it, and behind them its hints. Where an
-/// allocation fails, the first notes, the last perhaps without.
+/// Returns the notes on the grammar of a text, each with the lines that explain it, and then its hints. Where an
+/// allocation fails, the first notes, the last perhaps without its lines.
 pub fn told_hints<L: Language>(
     alloc: Global,
     text: &[u8],

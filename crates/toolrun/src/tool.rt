@@ -35,7 +35,7 @@ fn print_grammar<L: Language, O: Sink>(
     }
 }
 
-/// Performs a task. `WriteFault` if the output fails; then a beginning is written.
+/// Performs a task. `WriteFault` if the output fails; then a prefix of its text is written.
 fn perform<L: Language, R: Source, O: Sink>(
     task: &Task<L::Grammar, L::Sound>,
     alloc: Global,
@@ -55,7 +55,7 @@ fn perform<L: Language, R: Source, O: Sink>(
     }
 }
 
-/// Performs what a plan leaves to do, if anything is. `WriteFault` if the output fails; then a beginning is written.
+/// Performs the task of a plan, if it has one. `WriteFault` if the output fails; then a prefix of its text is written.
 pub fn act<L: Language, R: Source, O: Sink>(
     task: &Result<Task<L::Grammar, L::Sound>, Stop>,
     alloc: Global,

@@ -7,7 +7,7 @@ ghost use Rattle.letters.specs.Letters.{has};
 use abnfcheck::SoundAbnf;
 use earley::{Chart, judge};
 use letters::Alphabet;
-use lowering::lower;
+use lowering::{lower, values_are_letters};
 use ruletable::Memory;
 use std::alloc::Global;
 
@@ -18,5 +18,6 @@ pub fn derives(alloc: Global, grammar: &SoundAbnf, line: &[u8]) -> Result<bool, 
 {
     let flat = lower(alloc, grammar, line.len())?;
     let mut chart = Chart::new(alloc);
+    values_are_letters(line);
     judge(&mut chart, &flat, line)
 }

@@ -16,7 +16,7 @@ pub(crate) enum Before {
 }
 
 impl Before {
-    // Whether such a line goes, whatever stands behind it.
+    // Returns whether such a line goes, whatever follows it.
     pub(crate) fn takes(self, kind: LineKind) -> bool
         ensures { result ≡ goes_behind self kind }
     {
@@ -28,7 +28,7 @@ impl Before {
         }
     }
 
-    // What stands nearest before the next line, behind such a line.
+    // Returns what stands nearest before the next line, after such a line.
     pub(crate) fn behind(self, kind: LineKind) -> Before
         ensures { result ≡ next_behind self kind }
     {

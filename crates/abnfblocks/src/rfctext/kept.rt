@@ -78,7 +78,7 @@ fn cut_part(text: &[u8]) -> Parts<'_>
 /// Returns the lines of a text without page furniture, in order. LF or CR LF ends a line; the last line may lack it.
 /// A CR that no LF follows belongs to its line. Form feeds that begin a line belong to none.
 ///
-/// Furniture are form feeds, the feet of pages, which end with `[Page N]`, the heads behind a form feed or a foot,
+/// Furniture are form feeds, the feet of pages, which end with `[Page N]`, the heads after a form feed or a foot,
 /// which are not indented and end with a year, and the blank lines round them. A text without pages keeps all lines.
 ///
 /// # Errors

@@ -35,7 +35,7 @@ impl LineKind {
         matches!(self, LineKind::Feed | LineKind::Foot)
     }
 
-    // The kind of a line with these bytes behind its form feeds, if it has some.
+    // Returns the kind of a line with these bytes after its form feeds, if it has some.
     pub(crate) fn of(line: &[u8], has_feed: bool) -> LineKind
         ensures { result ≡ kind_of has_feed line.now }
     {

@@ -1,4 +1,4 @@
-//! A law of texts that stand one behind the other.
+//! A law of texts that stand one after another.
 ghost use Rattle.std.specs.Prelude.{◌≡◌, ◌≤◌, ◌++◌, ◌∷◌, [], true, List, ℕ, length, map};
 ghost use Rattle.std.specs.Char.{is_ascii_alphabetic};
 ghost use Rattle.abnfread.specs.AbnfReading.{Reads};
@@ -7,10 +7,10 @@ ghost use Rattle.abnfread.specs.Element.{Definition};
 ghost use Rattle.abnftexts.specs.LinkedTexts.{EndsLine, SpellsAtMargin, moved_definition};
 ghost use Rattle.lexer.specs.GrammarLimits.{max_grammar};
 
-/// Says what texts of ABNF spell one behind the other, where LF ends the first one and the second one's first rule is
-/// not indented: the definitions of the first, and those of the second, whose names stand further on. Comments and
-/// blank lines before a text only move its names. What such a text spells it reads as, if it is not too long; and a
-/// text that reads spells that, if a letter begins it.
+/// Says what texts of ABNF spell one after another, where LF ends the first one and the second one's first rule is not
+/// indented: the definitions of the first, and those of the second, whose names stand further on. Comments and blank
+/// lines before a text only move its names. What such a text spells it reads as, if it is not too long; and a text that
+/// reads spells that, if a letter begins it.
 pub fn linked_reading()
     ensures linked { (a b : List ℕ) (first second : List Definition) → EndsLine a → SpellsAtMargin a first
         → SpellsAtMargin b second

@@ -55,7 +55,7 @@ fn push_adding(order: &mut Vec<usize>, rule: &GivenRule, rules: &[GivenRule]) ->
     Ok(())
 }
 
-// Adds what is printed at the place of a rule.
+// Adds what is printed at the position of a rule.
 fn push_printed(
     order: &mut Vec<usize>,
     rules: &[GivenRule],
@@ -80,8 +80,8 @@ fn push_printed(
     Ok(())
 }
 
-/// Returns the numbers of the rules in the order in which they are printed: that of the list, but what adds to a
-/// definition behind it stands right behind that definition. All of the rules must stand.
+/// Returns the numbers of the rules in the order in which they are printed: that of the list, but what adds to a later
+/// definition directly follows that definition. All of the rules must stand.
 ///
 /// # Errors
 /// `Memory` if an allocation fails.
@@ -115,7 +115,7 @@ fn push_clash(
     Ok(())
 }
 
-/// Returns the definitions of a name behind its first one, in order. All of the rules must stand.
+/// Returns the definitions of a name after its first one, in order. All of the rules must stand.
 ///
 /// # Errors
 /// `Memory` if an allocation fails.

@@ -5,7 +5,7 @@ ghost use Rattle.diagnostics.specs.BodyMentions.{MentionedAt};
 ghost use Rattle.diagnostics.specs.DefinitionHeads.{DefinedAt};
 ghost use Rattle.diagnostics.specs.FirstMentions.{IsFirstIfAny, earliest};
 
-/// Says which of some mentions is told: one that stands in the first rule, and there before the others.
+/// Says which of some mentions is reported: one that stands in the first rule, and there before the others.
 pub fn first_mention()
     ensures { (names : NameCase) (definitions : List DefinedAt) (mentions : List MentionedAt) →
         IsFirstIfAny names definitions mentions (earliest names definitions mentions None) }

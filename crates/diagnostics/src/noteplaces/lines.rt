@@ -1,4 +1,4 @@
-//! The lines behind a note.
+//! The lines that definitions add to a note.
 ghost use Rattle.std.specs.Prelude.{◌≡◌, ◌++◌, map, flat_map, OnOk, IfOk};
 ghost use Rattle.ruletable.specs.Rules.{same_name};
 ghost use Rattle.diagnostics.specs.DefinitionHeads.{defined_at};
@@ -6,14 +6,16 @@ ghost use Rattle.diagnostics.specs.NoteLines.{agains_told, first_line, lines_of,
 ghost use Rattle.diagnostics.specs.NoteLines.{not_adding, redefined_lines};
 
 use crate::noteplaces::heads::Head;
+use crate::noteplaces::number_lists::{items_at, numbers_of};
+use crate::noteplaces::places::Places;
 use crate::picture::{push_cut, push_number};
 use ruletable::{Memory, NameCase, NoteKind};
 use std::alloc::Global;
 
-/// How many of the further definitions of a rule are told.
+/// How many of the further definitions of a rule are reported.
 pub const MAX_AGAIN: usize = 8;
 
-// Adds a line that tells of a definition.
+// Adds the line of a definition.
 fn push_name_line(out: &mut Vec<u8>, head: &Head, told: &[u8]) -> Result<(), Memory>
     ensures { OnOk result (out.new.items ≡ out.old.items ++ name_line told.now (defined_at head.now)) }
 {
@@ -52,29 +54,17 @@ pub(crate) fn is_same_name(names: NameCase, a: &[u8], b: &[u8]) -> bool
     }
 }
 
-/// Returns whether a definition has the name.
-pub(crate) fn is_named(names: NameCase, name: &[u8], head: &Head) -> bool
-    ensures { result ≡ same_name names name.now head.now.name.items }
-{
-    is_same_name(names, name, head.name.as_slice())
-}
-
 /// Returns the definitions of a name.
 pub(crate) fn heads_named<'a>(
     alloc: Global,
-    heads: &'a [Head],
-    names: NameCase,
+    places: &'a Places,
     name: &[u8],
 ) -> Result<Vec<&'a Head>, Memory>
-    ensures { IfOk result (λ v. map (λ h. defined_at h.now) v.items ≡ named names name.now (map defined_at heads.now)) }
+    ensures { IfOk result (λ v. map (λ h. defined_at h.now) v.items
+        ≡ named places.now.names name.now (map defined_at places.now.heads.items)) }
 {
-    let mut found = Vec::new(alloc);
-    for head in heads {
-        if is_named(names, name, head) {
-            found.push(head)?;
-        }
-    }
-    Ok(found)
+    let positions = numbers_of(&places.index.heads, name)?;
+    items_at(alloc, &places.heads, positions)
 }
 
 // The definitions that do not add to a rule.

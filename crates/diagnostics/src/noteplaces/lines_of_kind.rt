@@ -1,27 +1,27 @@
 //! On which lines the first definition of a name mentions what is of a kind.
-ghost use Rattle.std.specs.Prelude.{◌≡◌, ◌==◌, ◌&&◌, map, IfOk};
+ghost use Rattle.std.specs.Prelude.{◌≡◌, map, IfOk};
 ghost use Rattle.diagnostics.specs.BodyMentions.{mentioned_at};
 ghost use Rattle.diagnostics.specs.MentionLines.{mention_lines_by, mentions_within};
 
 use crate::noteplaces::mentions::{Mention, MentionKind, is_kind};
 use crate::noteplaces::places::Places;
-use crate::noteplaces::uses::rule_of_name;
+use crate::noteplaces::uses::{mentions_under, rule_of_name};
 use ruletable::Memory;
 use std::alloc::Global;
 
-// The lines of the mentions of a kind in the definition at a place.
+// Returns the lines of the mentions of a kind in the definition that starts at a position.
 fn lines_within(
     alloc: Global,
-    mentions: &[Mention],
+    mentions: &[&Mention],
     kind: MentionKind,
-    place: usize,
+    start: usize,
 ) -> Result<Vec<usize>, Memory>
     ensures { IfOk result (λ lines. lines.items
-        ≡ map (λ m. m.line) (mentions_within kind place (map mentioned_at mentions.now))) }
+        ≡ map (λ m. m.line) (mentions_within kind start (map (λ m. mentioned_at m.now) mentions.now))) }
 {
     let mut lines = Vec::new(alloc);
     for mention in mentions {
-        if is_kind(kind, mention) && mention.within == place {
+        if is_kind(kind, mention) && mention.within == start {
             lines.push(mention.line)?;
         }
     }
@@ -41,8 +41,9 @@ pub fn mention_lines(
 ) -> Result<Vec<usize>, Memory>
     ensures { IfOk result (λ lines. lines.items ≡ mention_lines_by places.now kind name.now) }
 {
-    match rule_of_name(&places.heads, places.names, name) {
-        Some(head) => lines_within(alloc, &places.mentions, kind, head.start),
-        None => Ok(Vec::new(alloc)),
-    }
+    let Some(head) = rule_of_name(places, name)? else {
+        return Ok(Vec::new(alloc));
+    };
+    let mentions = mentions_under(alloc, places, name)?;
+    lines_within(alloc, &mentions, kind, head.start)
 }

@@ -17,7 +17,7 @@ pub enum MentionKind {
     Use,
     /// Prose.
     Prose,
-    /// The mark behind what is repeated.
+    /// The mark after what is repeated.
     Repeat,
     /// Numbers.
     Number,

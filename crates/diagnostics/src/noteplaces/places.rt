@@ -1,20 +1,10 @@
-//! What a grammar's text says of its rules, and what that explains.
-ghost use Rattle.std.specs.Prelude.{◌≡◌, ◌++◌, map, IfOk, OnOk, option_copied};
-ghost use Rattle.ruletable.specs.Notes.{said_of};
-ghost use Rattle.diagnostics.specs.BodyMentions.{mentioned_at};
-ghost use Rattle.diagnostics.specs.DefinitionHeads.{defined_at};
-ghost use Rattle.diagnostics.specs.ExplainedNotes.{ArePlaces, told_by};
-ghost use Rattle.diagnostics.specs.UseLines.{lines_by};
+//! What a grammar's text says of its rules.
+ghost use Rattle.diagnostics.specs.NameIndexes.{ListBodies, ListHeads, ListUses, Rises, Rises-prop, starts_of};
 
-use crate::noteplaces::heads::{Head, heads_of};
-use crate::noteplaces::lines::{heads_named, push_by_heads};
-use crate::noteplaces::mentions::{Mention, mentions_of};
-use crate::noteplaces::prose::push_first_prose;
-use crate::noteplaces::sign::Signs;
-use crate::noteplaces::uses::push_used;
-use lexer::{Kind, one_list};
-use ruletable::{LineRule, Memory, NameCase, Note, NoteKind};
-use std::alloc::Global;
+use crate::noteplaces::heads::Head;
+use crate::noteplaces::mentions::Mention;
+use crate::noteplaces::name_index::NameIndex;
+use ruletable::NameCase;
 
 /// Where a grammar's text defines its rules, and what their bodies mention.
 #[derive(Drop)]
@@ -25,75 +15,9 @@ pub struct Places {
     pub heads: Vec<Head>,
     /// What their bodies mention, in order.
     pub mentions: Vec<Mention>,
-}
-
-/// Returns where a text defines its rules, and what their bodies mention.
-///
-/// # Errors
-/// `Memory` if an allocation fails.
-pub fn places_of<K: Kind, S: Signs<K>>(
-    alloc: Global,
-    text: &[u8],
-    rule: LineRule,
-    names: NameCase,
-) -> Result<Places, Memory>
-    ensures { IfOk result (λ places. ArePlaces K.white K.first K.is_end S.sign_of rule names text.now places) }
-{
-    one_list::<K>();
-    let heads = heads_of::<K, S>(alloc, text, rule)?;
-    let mentions = mentions_of::<K, S>(alloc, text, rule)?;
-    Ok(Places {
-        names,
-        heads,
-        mentions,
-    })
-}
-
-// Adds the lines behind a note of a kind that has the name.
-fn push_lines(
-    alloc: Global,
-    out: &mut Vec<u8>,
-    places: &Places,
-    start: Option<&str>,
-    kind: NoteKind,
-    name: &[u8],
-) -> Result<(), Memory>
-    ensures { OnOk result (out.new.items ≡ out.old.items ++ lines_by places.now.names
-        (map defined_at places.now.heads.items) (map mentioned_at places.now.mentions.items)
-        (option_copied start.entry) kind name.now) }
-{
-    match kind {
-        NoteKind::Undefined => push_used(alloc, out, places, start, name),
-        NoteKind::Prose => push_first_prose(alloc, out, places, name),
-        _ => {
-            let heads = heads_named(alloc, &places.heads, places.names, name)?;
-            push_by_heads(alloc, out, &heads, kind)
-        }
-    }
-}
-
-/// Returns the lines that explain a note on the grammar, where a name may be given for the start rule: where the note's
-/// rule is first defined, and where it is defined again; the use by which a name is noted that no rule has; the first
-/// prose of a rule. There are none for notes of other kinds.
-///
-/// # Errors
-/// `Memory` if an allocation fails.
-pub fn explain_note(
-    alloc: Global,
-    places: &Places,
-    start: Option<&str>,
-    note: &Note,
-) -> Result<Vec<u8>, Memory>
-    ensures { IfOk result (λ why. why.items ≡ told_by places.now (option_copied start.entry) (said_of note.now)) }
-{
-    let mut out = Vec::new(alloc);
-    push_lines(
-        alloc,
-        &mut out,
-        places,
-        start,
-        note.kind,
-        note.name.as_slice(),
-    )?;
-    Ok(out)
+    pub(crate) index: NameIndex,
+    ghost rise: { Rises 0 (starts_of heads.items) } by { Rises-prop 0 (starts_of heads.items) },
+    ghost heads_listed: { ListHeads names heads.items index.heads },
+    ghost uses_listed: { ListUses names mentions.items index.uses },
+    ghost bodies_listed: { ListBodies names heads.items mentions.items index.bodies },
 }

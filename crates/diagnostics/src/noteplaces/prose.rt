@@ -10,6 +10,7 @@ use crate::noteplaces::heads::Head;
 use crate::noteplaces::lines::heads_named;
 use crate::noteplaces::mentions::{Mention, MentionKind, is_kind};
 use crate::noteplaces::places::Places;
+use crate::noteplaces::uses::mentions_under;
 use crate::picture::{push_cut, push_number};
 use ruletable::Memory;
 use std::alloc::Global;
@@ -28,7 +29,7 @@ fn push_adding<'a>(found: &mut Vec<&'a Head>, heads: &[&'a Head]) -> Result<(), 
     Ok(())
 }
 
-// Of the definitions of a rule those that stand: the first one, and those behind it that add to it.
+// Of the definitions of a rule those that stand: the first one, and those after it that add to it.
 fn standing_heads<'a>(alloc: Global, heads: &[&'a Head]) -> Result<Vec<&'a Head>, Memory>
     ensures { IfOk result (λ v. map (λ h. defined_at h.now) v.items
         ≡ standing_definitions (map (λ h. defined_at h.now) heads.now)) }
@@ -41,12 +42,12 @@ fn standing_heads<'a>(alloc: Global, heads: &[&'a Head]) -> Result<Vec<&'a Head>
     Ok(found)
 }
 
-// Whether one of the definitions is that at a place.
-fn is_among(heads: &[&Head], place: usize) -> bool
-    ensures { result ≡ list_any (λ d. d.start == place) (map (λ h. defined_at h.now) heads.now) }
+// Whether one of the definitions starts at a position.
+fn is_among(heads: &[&Head], start: usize) -> bool
+    ensures { result ≡ list_any (λ d. d.start == start) (map (λ h. defined_at h.now) heads.now) }
 {
     for head in heads {
-        if head.start == place {
+        if head.start == start {
             return true;
         }
     }
@@ -62,19 +63,19 @@ fn is_prose_within(heads: &[&Head], mention: &Mention) -> bool
 }
 
 // The first prose in the definitions.
-fn first_prose<'a>(mentions: &'a [Mention], heads: &[&Head]) -> Option<&'a Mention>
+fn first_prose<'a>(mentions: &[&'a Mention], heads: &[&Head]) -> Option<&'a Mention>
     ensures { option_map (λ m. mentioned_at m.now) result
-        ≡ first_of (map (λ h. defined_at h.now) heads.now) (map mentioned_at mentions.now) }
+        ≡ first_of (map (λ h. defined_at h.now) heads.now) (map (λ m. mentioned_at m.now) mentions.now) }
 {
     for mention in mentions {
         if is_prose_within(heads, mention) {
-            return Some(mention);
+            return Some(*mention);
         }
     }
     None
 }
 
-// Adds a line that tells where prose stands.
+// Adds the line of prose.
 fn push_prose(out: &mut Vec<u8>, found: Option<&Mention>) -> Result<(), Memory>
     ensures { OnOk result (out.new.items
         ≡ out.old.items ++ prose_line (option_map (λ m. mentioned_at m.now) found.entry)) }
@@ -99,8 +100,8 @@ pub(crate) fn push_first_prose(
     ensures { OnOk result (out.new.items ≡ out.old.items ++ prose_lines places.now.names
         (map defined_at places.now.heads.items) (map mentioned_at places.now.mentions.items) None name.now) }
 {
-    let heads = heads_named(alloc, &places.heads, places.names, name)?;
+    let heads = heads_named(alloc, places, name)?;
     let standing = standing_heads(alloc, &heads)?;
-    push_prose(out, first_prose(&places.mentions, &standing))?;
-    Ok(())
+    let mentions = mentions_under(alloc, places, name)?;
+    push_prose(out, first_prose(&mentions, &standing))
 }

@@ -6,15 +6,15 @@ ghost use Rattle.std.specs.Prelude.{◌≡◌};
 pub enum Sign {
     /// A name, of a rule that is defined or used.
     Name,
-    /// It stands right behind the name of a rule that it defines.
+    /// It stands right after the name of a rule that it defines.
     Defines,
-    /// It stands right behind the name of a rule to which it adds.
+    /// It stands right after the name of a rule to which it adds.
     Adds,
     /// Prose.
     Prose,
-    /// It stands right behind what it repeats.
+    /// It stands right after what it repeats.
     Repeats,
-    /// It tells numbers.
+    /// It gives numbers.
     Number,
     /// It is a text in quotes.
     Literal,

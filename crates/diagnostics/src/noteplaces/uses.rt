@@ -1,17 +1,19 @@
 //! The use by which a name is noted.
-ghost use Rattle.std.specs.Prelude.{◌≡◌, ◌++◌, ◌==◌, ◌&&◌, None, map, option_map, IfOk, OnOk, option_copied};
-ghost use Rattle.std.specs.List.{find};
-ghost use Rattle.ruletable.specs.Rules.{same_name};
-ghost use Rattle.diagnostics.specs.BodyMentions.{is_kind as same_kind, mentioned_at};
+ghost use Rattle.std.specs.Prelude.{◌≡◌, ◌++◌, ◌==◌, None, map, option_map, IfOk, OnOk, option_copied};
+ghost use Rattle.std.specs.List.{filter, list_any};
+ghost use Rattle.diagnostics.specs.BodyMentions.{mentioned_at};
 ghost use Rattle.diagnostics.specs.DefinitionHeads.{defined_at};
 ghost use Rattle.diagnostics.specs.FirstMentions.{earlier, earliest, rule_named};
-ghost use Rattle.diagnostics.specs.FirstMentions.{rule_standing_at, uses_of};
+ghost use Rattle.diagnostics.specs.FirstMentions.{rule_standing_at, stands_in, uses_of};
 ghost use Rattle.diagnostics.specs.FoundMentions.{mention_found};
+ghost use Rattle.diagnostics.specs.NoteLines.{named};
 ghost use Rattle.diagnostics.specs.UseLines.{is_given, use_line, used_lines};
 
 use crate::noteplaces::heads::Head;
-use crate::noteplaces::lines::{is_named, is_same_name};
-use crate::noteplaces::mentions::{Mention, MentionKind, is_kind};
+use crate::noteplaces::lines::is_same_name;
+use crate::noteplaces::mentions::Mention;
+use crate::noteplaces::name_index::head_at;
+use crate::noteplaces::number_lists::{items_at, numbers_of};
 use crate::noteplaces::places::Places;
 use crate::picture::{push_cut, push_number};
 use ruletable::{Memory, NameCase};
@@ -24,44 +26,45 @@ pub(crate) struct Found<'a> {
     mention: &'a Mention,
 }
 
-// The definition at a place.
-fn head_at(heads: &[Head], place: usize) -> Option<&Head>
-    ensures { option_map (λ h. defined_at h.now) result
-        ≡ find (λ d. d.start == place) (map defined_at heads.now) }
-{
-    for head in heads {
-        if head.start == place {
-            return Some(head);
-        }
-    }
-    None
-}
-
 /// Returns the rule of a name: its first definition.
-pub(crate) fn rule_of_name<'a>(heads: &'a [Head], names: NameCase, name: &[u8]) -> Option<&'a Head>
-    ensures { option_map (λ h. defined_at h.now) result ≡ rule_named names (map defined_at heads.now) name.now }
+///
+/// `Memory` if an allocation fails.
+pub(crate) fn rule_of_name<'a>(places: &'a Places, name: &[u8]) -> Result<Option<&'a Head>, Memory>
+    ensures { IfOk result (λ rule. option_map (λ h. defined_at h.now) rule
+        ≡ rule_named places.now.names (map defined_at places.now.heads.items) name.now) }
 {
-    for head in heads {
-        if is_named(names, name, head) {
-            return Some(head);
-        }
+    let positions = numbers_of(&places.index.heads, name)?;
+    match positions.first() {
+        Some(position) => Ok(places.heads.get(*position)),
+        None => Ok(None),
     }
-    None
 }
 
-// The rule in which the definition at a place stands.
-fn rule_around(heads: &[Head], names: NameCase, place: usize) -> Option<&Head>
-    ensures { option_map (λ h. defined_at h.now) result ≡ rule_standing_at names (map defined_at heads.now) place }
+// Returns the rule in which a definition stands, where that is the rule of its name.
+fn standing_in<'a>(head: &Head, rule: Option<&'a Head>) -> Option<&'a Head>
+    ensures { option_map (λ h. defined_at h.now) result
+        ≡ stands_in (defined_at head.now) (option_map (λ h. defined_at h.now) rule.entry) }
 {
-    let head = head_at(heads, place)?;
-    let rule = rule_of_name(heads, names, head.name.as_slice())?;
+    let rule = rule?;
     if rule.start == head.start || head.adds {
         return Some(rule);
     }
     None
 }
 
-// The mention whose rule comes first, of one and another behind it.
+// Returns the rule in which the definition stands that starts at a position.
+fn rule_around(places: &Places, start: usize) -> Result<Option<&Head>, Memory>
+    ensures { IfOk result (λ rule. option_map (λ h. defined_at h.now) rule
+        ≡ rule_standing_at places.now.names (map defined_at places.now.heads.items) start) }
+{
+    let Some(head) = head_at(&places.heads, start) else {
+        return Ok(None);
+    };
+    let rule = rule_of_name(places, head.name.as_slice())?;
+    Ok(standing_in(head, rule))
+}
+
+// Returns the mention whose rule comes first, of one and another after it.
 fn earlier_of<'a>(
     rule: Option<&'a Head>,
     mention: &'a Mention,
@@ -73,61 +76,64 @@ fn earlier_of<'a>(
     let Some(rule) = rule else {
         return other;
     };
-    if let Some(behind) = other {
-        if behind.rule.start < rule.start {
-            return Some(behind);
+    if let Some(later) = other {
+        if later.rule.start < rule.start {
+            return Some(later);
         }
     }
     Some(Found { rule, mention })
 }
 
-// The first of the mentions, in the order of the rules and of their bodies.
+// Returns the first of the mentions, in the order of the rules and of their bodies.
 fn earliest_of<'a>(
-    heads: &'a [Head],
-    names: NameCase,
+    places: &'a Places,
     mentions: &[&'a Mention],
-) -> Option<Found<'a>>
-    ensures { option_map mention_found result ≡ earliest names (map defined_at heads.now)
-        (map (λ m. mentioned_at m.now) mentions.now) None }
+) -> Result<Option<Found<'a>>, Memory>
+    ensures { IfOk result (λ found. option_map mention_found found ≡ earliest places.now.names
+        (map defined_at places.now.heads.items) (map (λ m. mentioned_at m.now) mentions.now) None) }
 {
     let mut found = None;
     let mut left = mentions.len();
     while left > 0 {
         left -= 1;
         let mention = mentions[left];
-        let rule = rule_around(heads, names, mention.within);
+        let rule = rule_around(places, mention.within)?;
         found = earlier_of(rule, mention, found);
-    }
-    found
-}
-
-// Whether a mention is a use of the name.
-fn is_use(names: NameCase, name: &[u8], mention: &Mention) -> bool
-    ensures { result ≡ (same_kind MentionKind.Use mention.now.kind && same_name names name.now mention.now.text.items) }
-{
-    is_kind(MentionKind::Use, mention) && is_same_name(names, name, mention.text.as_slice())
-}
-
-// The uses of a name.
-fn uses_named<'a>(
-    alloc: Global,
-    mentions: &'a [Mention],
-    names: NameCase,
-    name: &[u8],
-) -> Result<Vec<&'a Mention>, Memory>
-    ensures { IfOk result (λ v. map (λ m. mentioned_at m.now) v.items
-        ≡ uses_of names name.now (map mentioned_at mentions.now)) }
-{
-    let mut found = Vec::new(alloc);
-    for mention in mentions {
-        if is_use(names, name, mention) {
-            found.push(mention)?;
-        }
     }
     Ok(found)
 }
 
-// Adds a line that tells where a name is used.
+// Returns the uses of a name.
+fn uses_named<'a>(
+    alloc: Global,
+    places: &'a Places,
+    name: &[u8],
+) -> Result<Vec<&'a Mention>, Memory>
+    ensures { IfOk result (λ v. map (λ m. mentioned_at m.now) v.items
+        ≡ uses_of places.now.names name.now (map mentioned_at places.now.mentions.items)) }
+{
+    let positions = numbers_of(&places.index.uses, name)?;
+    items_at(alloc, &places.mentions, positions)
+}
+
+/// Returns the mentions in the definitions of a name.
+///
+/// `Memory` if an allocation fails.
+pub(crate) fn mentions_under<'a>(
+    alloc: Global,
+    places: &'a Places,
+    name: &[u8],
+) -> Result<Vec<&'a Mention>, Memory>
+    ensures { IfOk result (λ v. map (λ m. mentioned_at m.now) v.items
+        ≡ filter (λ m. list_any (λ d. d.start == m.within)
+        (named places.now.names name.now (map defined_at places.now.heads.items)))
+        (map mentioned_at places.now.mentions.items)) }
+{
+    let positions = numbers_of(&places.index.bodies, name)?;
+    items_at(alloc, &places.mentions, positions)
+}
+
+// Adds the line of the use of a name.
 fn push_use(out: &mut Vec<u8>, found: Option<Found<'_>>) -> Result<(), Memory>
     ensures { OnOk result (out.new.items ≡ out.old.items ++ use_line (option_map mention_found found.entry)) }
 {
@@ -167,7 +173,7 @@ pub(crate) fn push_used(
         out.extend_from_slice(b"  given by -s\n")?;
         return Ok(());
     }
-    let uses = uses_named(alloc, &places.mentions, places.names, name)?;
-    push_use(out, earliest_of(&places.heads, places.names, &uses))?;
-    Ok(())
+    let uses = uses_named(alloc, places, name)?;
+    let first = earliest_of(places, &uses)?;
+    push_use(out, first)
 }

@@ -51,7 +51,7 @@ fn push_right(out: &mut Vec<u8>, place: LineAround<'_>) -> Result<(), Memory>
     push_dots(out, limit < line.len())
 }
 
-/// Adds a picture of a place: its line, and below it a caret under the byte there, both behind two spaces. Of a long
+/// Adds a picture of a place: its line, and below it a caret under the byte there, both after two spaces. Of a long
 /// line 72 bytes are shown, with `..` where others are left out.
 ///
 /// # Errors
@@ -71,7 +71,7 @@ pub fn push_picture(out: &mut Vec<u8>, place: LineAround<'_>) -> Result<(), Memo
     Ok(())
 }
 
-/// Adds a picture of the place at an offset of a text, and `column C: ` for what is told of it, where C counts the
+/// Adds a picture of the place at an offset of a text, and `column C: ` for what is reported of it, where C counts the
 /// bytes of the line from 1.
 ///
 /// # Errors

@@ -1,18 +1,18 @@
-//! What the first bytes of a text tell.
+//! What the first bytes of a text show.
 ghost use Rattle.std.specs.Prelude.{◌≡◌, ◌++◌, [], map, OnOk, MatchOption};
 ghost use Rattle.diagnostics.specs.FirstBytes.{first_told, fact_line};
 ghost use Rattle.diagnostics.specs.FactRows.{row_of};
 
 use ruletable::Memory;
 
-/// What is told of a text that begins so.
+/// What is reported of a text that begins so.
 #[derive(Clone, Copy)]
 pub struct Fact {
     pub begins: &'static [u8],
     pub told: &'static [u8],
 }
 
-// Adds a line behind two spaces.
+// Adds a line after two spaces.
 fn push_line(out: &mut Vec<u8>, told: &[u8]) -> Result<(), Memory>
     ensures { OnOk result (out.new.items ≡ out.old.items ++ fact_line told.now) }
 {

@@ -5,7 +5,7 @@ ghost use Rattle.diagnostics.specs.ShownBytes.{hex_digit as the_digit, shown_byt
 use itoa::Buffer;
 use ruletable::Memory;
 
-/// How many bytes of a name, an expression or a part are told.
+/// How many bytes of a name, an expression or a part are reported.
 pub const MAX_CUT: usize = 60;
 
 fn hex_digit(d: u8) -> u8

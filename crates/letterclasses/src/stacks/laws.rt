@@ -7,7 +7,7 @@ ghost use Rattle.flatgrammar.specs.Holds.{HasItem};
 ghost use Rattle.letterclasses.specs.Stacks.{Reach, Accepts, ReadBy, TellsLast, AreUncounted, AreAlike};
 ghost use Rattle.letterclasses.specs.Stacks.{IsPlain, IsFront, IsNext, IsUnfolded, Lifted, IsReading};
 
-/// Returns nothing. Its contract is a law: stacks tell what item sets tell.
+/// Returns nothing. Its contract is a law: stacks and item sets hold the same places, and accept the same lines.
 pub fn stacks_tell()
     ensures { (flat : Flat) (last : Place → Bool) (body : ℕ) (x : List ℕ) → TellsLast flat last → AreUncounted flat
         → slice_get flat.nodes flat.whole ≡ Some (Concat (body ∷ [])) → (j : ℕ) →

@@ -1,6 +1,7 @@
 //! The machine that evaluates each node at each place at most once.
 ghost use Rattle.std.specs.Prelude.{◌≡◌, ℕ, ◌+◌, ◌*◌, ◌<◌, ◌≤◌, Bool, List, [], ◌∷◌, length, true, slice_get, Some};
 ghost use Rattle.std.specs.Prelude.{IfOk, OnOk, OnErr};
+ghost use Rattle.gramcheck.specs.Grammar.{IsSoundGrammar};
 ghost use Rattle.memo.specs.Entries.{found_at};
 ghost use Rattle.matchfailure.specs.declared.desk.frame.Frame.{Frame};
 ghost use Rattle.matchfailure.specs.Desk.{empty, beginning as begun_at, Fits, HasFrames, IsStep, unit_of};
@@ -60,6 +61,7 @@ fn step_on(
     frames: &mut Frames,
     begun: &mut u128,
 ) -> Result<Option<Unit>, Memory>
+    requires sound { IsSoundGrammar peg.now }
     requires some { more ≡ true → 0 < length window.now }
     requires frame { (top : Frame) × (below : List Frame) × (frames.old ≡ top ∷ below) }
     requires fits { Fits peg.now window.now more (record {
@@ -71,7 +73,6 @@ fn step_on(
         (record { cells = cells.old; frames = frames.old; begun = begun.old })
         (record { cells = cells.new; frames = frames.new; begun = begun.new })) }
 {
-    let _start = peg.start();
     let top = frames.top();
     match next_turn(peg, window, more, cells, top) {
         Turn::Need => Ok(Some(Unit::Need)),

@@ -28,7 +28,7 @@ pub(crate) enum Turn {
     },
     /// It is done.
     Answer(Found),
-    /// It would compare the last byte of a window behind which there is more.
+    /// It would compare the last byte of a window that more bytes follow.
     Need,
 }
 
@@ -43,7 +43,7 @@ fn ask(node: usize, place: usize) -> Turn
     }
 }
 
-/// Returns what was tried, where its comparison does not reach the last byte of a window behind which there is more.
+/// Returns what was tried, if its comparison does not reach the last byte of a window that more bytes follow.
 fn leaf_turn(tried: Tried, window: &[u8], more: bool) -> Turn
     ensures { IsLeafTurn tried (length window.now) more result }
 {

@@ -1,23 +1,24 @@
-//! What explains why no unit goes on.
-ghost use Rattle.std.specs.Prelude.{◌≡◌, ℕ, ◌+◌, ◌^◌, ◌<◌, ◌≤◌, ◌++◌, List, length, drop, IfOk, IfSome};
+//! Explains why no unit goes on.
+ghost use Rattle.std.specs.Prelude.{◌≡◌, ℕ, ◌+◌, ◌^◌, ◌<◌, ◌≤◌, ◌++◌, List, length, drop, min, IfOk, IfSome};
+ghost use Rattle.gramcheck.specs.Grammar.{IsSoundGrammar};
 ghost use Rattle.pegnodes.specs.Nodes.{shapes_of};
 ghost use Rattle.pegread.specs.PegViews.{rules_of};
+ghost use Rattle.matchfailure.specs.FailureSearches.{evaluated_by, most_evaluated};
 ghost use Rattle.matchfailure.specs.FittingFailures.{IsFitting};
-ghost use Rattle.matchfailure.specs.FoundFailures.{failure_found};
+ghost use Rattle.matchfailure.specs.FoundFailures.{IsFound, IsFoundBefore, failure_found};
 ghost use Rattle.matchfailure.specs.NoMatchLines.{long_unit_lines};
-ghost use Rattle.matchfailure.specs.NoMatches.{IsNoMatchTold, lines_of_failure, unit_before};
+ghost use Rattle.matchfailure.specs.NoMatches.{IsNoMatchTold, failing_byte, lines_of_failure, unit_before};
 ghost use Rattle.matchfailure.specs.InputPlaces.{place_behind};
 
-use crate::explain::found::{byte_of, failure_before, failure_in};
 use crate::explain::lines::lines_of_farthest;
 use crate::explain::place::TextPlace;
-use crate::farthest::{Farthest, Told, told_unit};
+use crate::farthest::{Farthest, Told, farthest_failure, farthest_is_within, told_unit};
 use diagnostics::push_number;
 use gramcheck::SoundPeg;
 use ruletable::Memory;
 use std::alloc::Global;
 
-// The lines of what was found of the unit that begins so many bytes behind a place, where `seen` stands.
+/// Returns the lines of what was found of a unit. `seen` stands at `at`; the unit begins `offset` bytes after that.
 fn lines_of_found(
     alloc: Global,
     peg: &SoundPeg,
@@ -48,41 +49,122 @@ fn lines_of_found(
     }
 }
 
-/// Returns the lines that explain why no unit goes on behind the last one: where it, or the unit before it, fails
-/// farthest, by the byte, the line and the column of the input and by a picture, and what was expected there, each
-/// expression with its rule.
-///
-/// `seen` holds all that is taken of the input from the beginning of the unit before on, which stands at `at`; the last
-/// unit begins `last` bytes behind that. If there is no unit before, `last` is 0.
-///
-/// It evaluates the start rule anew, once for each of both units.
-///
-/// # Errors
-/// `Memory` if an allocation fails.
-pub fn explain_no_match(
-    alloc: Global,
-    peg: &SoundPeg,
-    seen: &[u8],
-    last: usize,
-    at: TextPlace,
-) -> Result<Vec<u8>, Memory>
-    requires last { last ≤ length seen.now }
-    requires stands { (front : List ℕ) × (at ≡ place_behind front) × (length front + length seen.now < 2 ^ 63) }
-    ensures { IfOk result (λ why. (front : List ℕ) → at ≡ place_behind front → IsNoMatchTold (rules_of peg.now.rules)
-        peg.now.start (front ++ seen.now) (unit_before at.byte last) (at.byte + last) why.items) }
+/// Returns the failing byte in the input, where the unit begins after so many bytes.
+fn byte_of(found: &Option<Farthest>, unit: usize) -> Option<u128>
+    requires { IfSome found.now (λ far. unit + far.place < 2 ^ 63) }
+    ensures { result ≡ failing_byte (failure_found unit found.now) }
 {
-    // its contract says how the nodes are numbered
-    let _ = peg.start();
-    let before = failure_before(alloc, peg, seen, at.byte, last)?;
-    let latest = failure_in(alloc, peg, &seen[last..], at.byte + last)?;
-    match told_unit(byte_of(&before, at.byte), byte_of(&latest, at.byte + last)) {
-        Told::Before => {
-            let why = lines_of_found(alloc, peg, seen, at, 0, &before)?;
-            Ok(why)
+    match found {
+        Some(farthest) => Some((unit + farthest.place) as u128),
+        None => None,
+    }
+}
+
+/// A search for the farthest failures of units, which counts the units that it evaluated.
+#[derive(Drop)]
+pub struct FailureSearch {
+    evaluated: u128,
+}
+
+impl FailureSearch {
+    /// Returns a search that evaluated no unit yet.
+    pub fn new() -> FailureSearch
+        ensures { evaluated_by result ≡ 0 }
+    {
+        FailureSearch { evaluated: 0 }
+    }
+
+    /// Returns where a unit fails farthest. `seen` holds what is seen of the unit, which begins after `unit` bytes.
+    ///
+    /// # Errors
+    /// `Memory` if an allocation fails.
+    fn failure_in(
+        &mut self,
+        alloc: Global,
+        peg: &SoundPeg,
+        seen: &[u8],
+        unit: usize,
+    ) -> Result<Option<Farthest>, Memory>
+        requires sound { IsSoundGrammar peg.now }
+        requires fits { unit + length seen.now < 2 ^ 63 }
+        ensures found { IfOk result (IsFound (rules_of peg.now.rules) peg.now.start (shapes_of peg.now.nodes)
+            peg.now.bodies seen.now) }
+        ensures fitting { IfOk result (λ found. IfSome found (IsFitting (length peg.now.nodes) (length seen.now)
+            unit)) }
+        ensures once { evaluated_by self.new ≡ min (evaluated_by self.old + 1) most_evaluated }
+    {
+        farthest_is_within();
+        self.evaluated = self.evaluated.saturating_add(1);
+        let found = farthest_failure(alloc, peg, seen)?;
+        Ok(found)
+    }
+
+    /// Returns where the unit before the last one fails farthest, if the last one begins `last` bytes after it; nothing
+    /// if `last` is 0.
+    ///
+    /// # Errors
+    /// `Memory` if an allocation fails.
+    fn failure_before(
+        &mut self,
+        alloc: Global,
+        peg: &SoundPeg,
+        seen: &[u8],
+        unit: usize,
+        last: usize,
+    ) -> Result<Option<Farthest>, Memory>
+        requires sound { IsSoundGrammar peg.now }
+        requires fits { unit + length seen.now < 2 ^ 63 }
+        ensures found { IfOk result (IsFoundBefore (rules_of peg.now.rules) peg.now.start (shapes_of peg.now.nodes)
+            peg.now.bodies seen.now last) }
+        ensures fitting { IfOk result (λ found. IfSome found (IsFitting (length peg.now.nodes) (length seen.now)
+            unit)) }
+        ensures once { evaluated_by self.new ≤ evaluated_by self.old + 1 }
+    {
+        if last == 0 {
+            return Ok(None);
         }
-        Told::Last => {
-            let why = lines_of_found(alloc, peg, seen, at, last, &latest)?;
-            Ok(why)
+        self.failure_in(alloc, peg, seen, unit)
+    }
+
+    /// Returns the lines that explain why no unit goes on after the last one: where it, or the unit before it, fails
+    /// farthest, by the byte, the line and the column of the input and by a picture, and what was expected there, each
+    /// expression with its rule.
+    ///
+    /// `seen` holds all that is taken of the input from the front of the unit before on, which stands at `at`. The last
+    /// unit begins `last` bytes after that. If there is no unit before, `last` is 0.
+    ///
+    /// It evaluates the start rule anew, once for each of both units.
+    ///
+    /// # Errors
+    /// `Memory` if an allocation fails.
+    pub fn explain_no_match(
+        &mut self,
+        alloc: Global,
+        peg: &SoundPeg,
+        seen: &[u8],
+        last: usize,
+        at: TextPlace,
+    ) -> Result<Vec<u8>, Memory>
+        requires last { last ≤ length seen.now }
+        requires stands { (front : List ℕ) × (at ≡ place_behind front) × (length front + length seen.now < 2 ^ 63) }
+        ensures lines { IfOk result (λ why. (front : List ℕ) → at ≡ place_behind front → IsNoMatchTold
+            (rules_of peg.now.rules) peg.now.start (front ++ seen.now) (unit_before at.byte last) (at.byte + last)
+            why.items) }
+        ensures twice { evaluated_by self.new ≤ evaluated_by self.old + 2 }
+    {
+        // its contract says that the grammar is sound and how its nodes are numbered
+        let _ = peg.start();
+        let before = self.failure_before(alloc, peg, seen, at.byte, last)?;
+        let latest = self.failure_in(alloc, peg, &seen[last..], at.byte + last)?;
+        match told_unit(byte_of(&before, at.byte), byte_of(&latest, at.byte + last)) {
+            Told::Before => {
+                let why = lines_of_found(alloc, peg, seen, at, 0, &before)?;
+                Ok(why)
+            }
+            Told::Last => {
+                let why = lines_of_found(alloc, peg, seen, at, last, &latest)?;
+                Ok(why)
+            }
         }
     }
 }

@@ -1,4 +1,4 @@
-//! Laws of what explains that no unit goes on.
+//! Laws of the explanation that no unit goes on.
 ghost use Rattle.std.specs.Prelude.{◌≡◌, ◌<◌, ◌++◌, ℕ, List, Option, drop, length};
 ghost use Rattle.gramcheck.specs.Outcome.{Outcome, RuleGives};
 ghost use Rattle.gramcheck.specs.Sound.{IsRanked};
@@ -8,7 +8,7 @@ ghost use Rattle.matchfailure.specs.NoMatches.{IsNoMatchTold, IsUnitFailure, Uni
 
 use crate::farthest::{farthest_or_none, one_farthest, same_on_longer};
 
-/// Says that at most one text explains that no unit goes on behind the last one of an input.
+/// Says that at most one text explains that no unit goes on after the last one of an input.
 pub fn one_no_match()
     ensures { (rules : List Rule) (start : ℕ) (text : List ℕ) (before : Option ℕ) (last : ℕ) (a b : List ℕ) →
         IsNoMatchTold rules start text before last a → IsNoMatchTold rules start text before last b → a ≡ b }
@@ -18,7 +18,7 @@ pub fn one_no_match()
 }
 
 /// Says that a unit fails farthest in what is taken of an input just as in the whole input, if the start rule looks at
-/// less than what is taken from the unit's beginning on.
+/// fewer bytes than are taken from the unit's first byte on.
 pub fn fails_so_in_input()
     ensures { (rules : List Rule) (start : ℕ) (nodes : List Shape) (bodies ranks text behind : List ℕ) (unit k : ℕ)
         (o : Outcome) (failure : Option UnitFailure) → IsRanked rules start nodes bodies ranks →

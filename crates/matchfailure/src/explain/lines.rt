@@ -1,4 +1,4 @@
-//! The lines that tell where a unit fails farthest.
+//! The lines that report where a unit fails farthest.
 ghost use Rattle.std.specs.Prelude.{◌≡◌, ℕ, ◌+◌, ◌^◌, ◌<◌, ◌≤◌, ◌++◌, length, OnOk, IfOk};
 ghost use Rattle.std.specs.List.{flat_map};
 ghost use Rattle.matchfailure.specs.VisitLists.{ListsVisit};
@@ -16,10 +16,10 @@ use gramcheck::SoundPeg;
 use ruletable::{LineRule, Memory};
 use std::alloc::Global;
 
-/// How many of the expressions that were expected are told.
+/// How many of the expressions that were expected are reported.
 pub const MAX_EXPECTED: usize = 16;
 
-// Adds the line of the place where the unit fails that begins behind so many bytes.
+// Adds the line of the position where a unit fails. The unit begins after `unit` bytes.
 fn push_failing_place(out: &mut Vec<u8>, at: TextPlace, unit: usize) -> Result<(), Memory>
     ensures { OnOk result (out.new.items ≡ out.old.items ++ failing_place at unit) }
 {
@@ -43,7 +43,7 @@ fn push_failing_picture(out: &mut Vec<u8>, text: &[u8], place: usize) -> Result<
     push_picture(out, line_around(text, place, LineRule::Lf))
 }
 
-// Adds where an expression begins, unless it begins at the place where it fails.
+// Adds where an expression begins, unless it begins where it fails.
 fn push_begun(out: &mut Vec<u8>, unit: usize, place: usize, begin: usize) -> Result<(), Memory>
     requires { unit + begin < 2 ^ 63 }
     ensures { OnOk result (out.new.items ≡ out.old.items ++ begun_at unit place begin) }
@@ -129,7 +129,7 @@ fn push_expected(
     Ok(())
 }
 
-/// Returns the lines of the farthest failure of a unit that begins behind so many bytes: where in the input the failing
+/// Returns the lines of the farthest failure of a unit that begins after `unit` bytes: where in the input the failing
 /// byte stands, a picture of its line in what is seen of the unit, and what was expected there.
 ///
 /// # Errors

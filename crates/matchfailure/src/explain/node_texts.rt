@@ -1,4 +1,4 @@
-//! How a grammar's nodes are told.
+//! Writes a grammar's nodes in explanations.
 ghost use Rattle.std.specs.Prelude.{◌≡◌, ◌<◌, Some, length, slice_get, IfOk};
 ghost use Rattle.pegnodes.specs.Nodes.{shape_of, shapes_of};
 ghost use Rattle.pegread.specs.PegViews.{rules_of};

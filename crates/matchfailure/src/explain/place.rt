@@ -17,7 +17,7 @@ pub struct TextPlace {
 }
 
 impl TextPlace {
-    /// Returns the place of an input's first byte.
+    /// Returns the position of an input's first byte.
     pub fn front() -> TextPlace
         ensures { result ≡ place_behind [] }
     {
@@ -28,7 +28,7 @@ impl TextPlace {
         }
     }
 
-    /// Returns the place behind these bytes, which stand at this one.
+    /// Returns the position after these bytes, which begin at this one.
     pub fn behind(self, bytes: &[u8]) -> TextPlace
         requires { (front : List ℕ) × (self ≡ place_behind front) × (length front + length bytes.now < 2 ^ 63) }
         ensures { (front : List ℕ) → self ≡ place_behind front → result ≡ place_behind (front ++ bytes.now) }

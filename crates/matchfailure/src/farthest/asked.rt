@@ -25,7 +25,7 @@ fn end_at(desk: &Desk, node: usize, place: usize) -> Option<usize>
     }
 }
 
-// Tells whether the node's cell at the place holds a failure.
+// Returns whether the node's cell at the position holds a failure.
 fn fails_at(desk: &Desk, node: usize, place: usize) -> bool
     ensures { (result ≡ true) ↔ (found_at desk.now.cells node place ≡ Some Found.Failed) }
 {

@@ -1,5 +1,6 @@
 //! The plain machine, run to its end.
 ghost use Rattle.std.specs.Prelude.{ℕ, false, IfOk, OnOk};
+ghost use Rattle.gramcheck.specs.Grammar.{IsSoundGrammar};
 ghost use Rattle.matchfailure.specs.Desk.{IsDone};
 
 use crate::desk::Desk;
@@ -10,9 +11,9 @@ use std::alloc::Global;
 // Evaluates the start rule at the front of a window that is taken as the whole rest: each pair that is visited has a
 // cell then.
 fn evaluate(desk: &mut Desk, peg: &SoundPeg, window: &[u8]) -> Result<(), Memory>
+    requires { IsSoundGrammar peg.now }
     ensures { OnOk result (IsDone peg.now window.now false desk.new) }
 {
-    let _start = peg.start();
     desk.begin(peg)?;
     'steps: loop {
         if let Some(_) = desk.step(peg, window, false)? {
@@ -27,6 +28,7 @@ fn evaluate(desk: &mut Desk, peg: &SoundPeg, window: &[u8]) -> Result<(), Memory
 /// # Errors
 /// `Memory` if an allocation fails.
 pub(crate) fn evaluated(alloc: Global, peg: &SoundPeg, window: &[u8]) -> Result<Desk, Memory>
+    requires { IsSoundGrammar peg.now }
     ensures { IfOk result (λ desk. IsDone peg.now window.now false desk) }
 {
     let mut desk = Desk::new(alloc);

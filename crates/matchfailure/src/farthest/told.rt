@@ -1,4 +1,4 @@
-//! Of which unit the farthest failure is told.
+//! Chooses the unit whose farthest failure is reported.
 ghost use Rattle.std.specs.Prelude.{◌≡◌};
 ghost use Rattle.matchfailure.specs.ToldUnit.{told_unit_of};
 

@@ -1,5 +1,5 @@
 //! The log of the events.
-ghost use Rattle.std.specs.Prelude.{◌≡◌, ℕ, List, [], ◌∷◌, ◌++◌, ◌+◌, length, false, IfOk, OnOk, OnErr};
+ghost use Rattle.std.specs.Prelude.{◌≡◌, List, [], ◌∷◌, ◌++◌, ◌+◌, length, false, IfOk, OnOk, OnErr};
 ghost use Rattle.pegnodes.specs.Nodes.{shapes_of};
 ghost use Rattle.gramcheck.specs.Outcome.{Event};
 ghost use Rattle.gramcheck.specs.Rising.{Rise};
@@ -17,7 +17,7 @@ use ruletable::{Memory, Sink};
 use std::alloc::Global;
 use std::marker::Model;
 
-/// Events that successes leave behind, seen as links, the last one first. A head is a number that stands for a list of
+/// Events that successes leave, seen as links, the last one first. A head is a number that stands for a list of
 /// events: 0 for none, and i + 1 for link i, which is one event, or joins two heads before it. A part is shared where
 /// its head is used again.
 #[derive(Drop)]
@@ -133,7 +133,7 @@ impl EventLog {
     ///
     /// # Errors
     /// - `Memory` if an allocation fails, or if the head does not fit in 32 bits; nothing was written.
-    /// - `Write` if the writer failed; a beginning was written.
+    /// - `Write` if the writer failed; a prefix was written.
     pub fn replay<W: Sink>(
         &mut self,
         peg: &SoundPeg,

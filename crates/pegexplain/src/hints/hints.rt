@@ -20,7 +20,7 @@ pub(crate) struct Hint<'a> {
     pub(crate) earlier: &'a [u8],
 }
 
-// Adds the hint that a literal of a rule tells, if it tells one.
+// Adds the hint on a literal of a rule, if there is one.
 fn push_hint<'a>(
     found: &mut Vec<Hint<'a>>,
     rule: &'a [u8],
@@ -41,7 +41,7 @@ fn push_hint<'a>(
     Ok(())
 }
 
-// Adds the hints that the literals of a rule tell.
+// Adds the hints on the literals of a rule.
 fn push_hints<'a>(
     found: &mut Vec<Hint<'a>>,
     rule: &'a [u8],

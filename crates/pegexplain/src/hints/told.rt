@@ -17,7 +17,7 @@ use pegread::print_literal;
 use ruletable::{Memory, SinkOf};
 use std::alloc::Global;
 
-/// How many hints are told.
+/// How many hints are reported.
 pub const MAX_HINTS: usize = 16;
 
 // The canonical text of a literal.
@@ -62,7 +62,7 @@ fn push_line(
     Ok(())
 }
 
-// Adds what a hint tells of its rule.
+// Adds what a hint reports of its rule.
 fn push_rule(out: &mut Vec<u8>, rule: &[u8]) -> Result<(), Memory>
     ensures { OnOk result (out.new.items ≡ out.old.items ++ rule_told rule.now) }
 {
@@ -144,7 +144,7 @@ fn hints_text(alloc: Global, places: &PegPlaces) -> Result<Vec<u8>, Memory>
     Ok(out)
 }
 
-/// Returns what is told of the alternatives of a grammar that are never taken, since a literal before them is taken
+/// Returns what is reported of the alternatives of a grammar that are never taken, since a literal before them is taken
 /// wherever they would be: of each of the first `MAX_HINTS` its rule and both literals, with the line of the later one,
 /// and how many more there are.
 ///

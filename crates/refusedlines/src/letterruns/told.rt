@@ -1,4 +1,4 @@
-//! What is told of runs of letters.
+//! The terms of ABNF for runs of letters.
 ghost use Rattle.std.specs.Prelude.{◌≡◌, ◌≤◌, ◌++◌, option_to_list, IfOk, IfSome, OnOk};
 ghost use Rattle.refusedlines.specs.ToldLetters.{is_short, is_single, other_case, told_letter, told_letters};
 ghost use Rattle.refusedlines.specs.ToldLetters.{told_plain};
@@ -8,12 +8,12 @@ use crate::letterruns::run::LetterRun;
 use ruletable::Memory;
 use std::alloc::Global;
 
-/// What is told of letters.
+/// A term of ABNF for letters.
 #[derive(Clone, Copy)]
 pub enum ToldLetters {
     /// In quotes: this letter, or if it is one of US-ASCII's A to Z, either case of it.
     Quoted(u8),
-    /// In quotes behind `%s`: this letter of US-ASCII, and not its other case.
+    /// In quotes after `%s`: this letter of US-ASCII, and not its other case.
     Exactly(u8),
     /// By its number.
     Numbered(u32),
@@ -54,7 +54,7 @@ fn other_case(letter: u32) -> Option<u32>
     None
 }
 
-// Returns what is told of a letter that has no other case.
+// Returns the term for a letter that has no other case.
 fn told_plain(letter: u32) -> ToldLetters
     ensures { result ≡ told_plain letter }
 {
@@ -64,7 +64,7 @@ fn told_plain(letter: u32) -> ToldLetters
     ToldLetters::Numbered(letter)
 }
 
-// Returns what is told of a letter that is told singly; nothing if it is told with its other case.
+// Returns the term for a single letter; nothing if the term for its other case has it too.
 fn told_letter(runs: &[LetterRun], letter: u32) -> Option<ToldLetters>
     ensures { result ≡ told_letter runs.now letter }
 {
@@ -80,7 +80,7 @@ fn told_letter(runs: &[LetterRun], letter: u32) -> Option<ToldLetters>
     None
 }
 
-// Adds what is told of a letter that is told singly.
+// Adds the term for a single letter.
 fn add_letter(runs: &[LetterRun], letter: u32, told: &mut Vec<ToldLetters>) -> Result<(), Memory>
     ensures { OnOk result (told.new.items ≡ told.old.items ++ option_to_list (told_letter runs.now letter)) }
 {
@@ -90,7 +90,7 @@ fn add_letter(runs: &[LetterRun], letter: u32, told: &mut Vec<ToldLetters>) -> R
     Ok(())
 }
 
-// Adds what is told of one of the runs.
+// Adds the terms for one of the runs.
 fn add_run(runs: &[LetterRun], run: LetterRun, told: &mut Vec<ToldLetters>) -> Result<(), Memory>
     ensures { OnOk result (told.new.items ≡ told.old.items ++ told_run runs.now run) }
 {
@@ -105,8 +105,9 @@ fn add_run(runs: &[LetterRun], run: LetterRun, told: &mut Vec<ToldLetters>) -> R
     Ok(())
 }
 
-/// Returns what is told of the letters of some runs, in their order. One or two letters of a run are told singly, more
-/// at once. A letter of US-ASCII whose other case is told singly too is told once. `Memory` if an allocation fails.
+/// Returns the terms for the letters of some runs, in their order. One or two letters of a run are single, and more
+/// have one term. A single letter of US-ASCII has one term with its other case, if that is single too. `Memory` if an
+/// allocation fails.
 pub fn told_letters(alloc: Global, runs: &[LetterRun]) -> Result<Vec<ToldLetters>, Memory>
     ensures { IfOk result (λ told. told.items ≡ told_letters runs.now) }
 {

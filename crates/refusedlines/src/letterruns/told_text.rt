@@ -1,4 +1,4 @@
-//! The text of what is told of letters.
+//! The text of terms for letters.
 ghost use Rattle.std.specs.Prelude.{◌≡◌, ◌<◌, ◌==◌, ◌++◌, [], true, if◌then◌else◌, codes, map, OnOk};
 ghost use Rattle.std.specs.Fmt.{digit_glyph};
 ghost use Rattle.abnfprint.specs.CanonicalAbnf.{hexadecimal, upper_digits};
@@ -87,7 +87,7 @@ fn push_all(told: &[ToldLetters], out: &mut Vec<u8>) -> Result<(), Memory>
     Ok(())
 }
 
-// Returns the words for the end of a line, behind the letters of runs.
+// Returns the words for the end of a line, after the letters of runs.
 fn end_words(runs: &[LetterRun], ends: bool) -> &'static [u8]
     ensures { result.now ≡ end_text runs.now ends }
 {

@@ -1,4 +1,4 @@
--- The ids, the marks, the notes, and what refuses.
+-- The ids, the marks, the notes, and what rejects.
 use Rattle.std.proofs.Common.{◌∙◌, ap, arith, length, subst, sym}
 use Rattle.std.specs.Prelude.{Contains}
 use Rattle.std.proofs.lemmas.List.{length-map}

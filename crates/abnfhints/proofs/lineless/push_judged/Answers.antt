@@ -1,4 +1,4 @@
--- What is told of it, or nothing.
+-- What is reported of it, or nothing.
 use Rattle.std.proofs.Common.{[], arith, sym, subst, Some}
 use Rattle.std.proofs.lemmas.List.{append-nil, length-map}
 use Rattle.abnfread.specs.AbnfViews.{rule_of, rules_of}

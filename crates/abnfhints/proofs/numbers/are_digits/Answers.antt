@@ -1,4 +1,4 @@
--- All are digits if nothing stands behind these.
+-- All are digits if nothing stands after these.
 use Rattle.abnfhints.proofs.IsReversedLemmas.{told_digits}
 use Rattle.abnfhints.proofs.numbers.are_digits.Goals as goal
 

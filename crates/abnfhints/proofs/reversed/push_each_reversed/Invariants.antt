@@ -1,4 +1,4 @@
--- What is told of the ranges so far.
+-- What is reported of the ranges so far.
 use Rattle.std.proofs.Common.{◌≡◌, ◌++◌, map, take}
 use Rattle.std.specs.List.{flat_map}
 use Rattle.abnfhints.specs.AbnfHints.{reversed_told}

@@ -1,4 +1,4 @@
--- What is told of the texts, the grammar and the end, together.
+-- What is reported of the texts, the grammar and the end, together.
 use Rattle.std.proofs.Common.{◌≡◌, [], sym, true, false, ap, map, refl, Ok, Some}
 use Rattle.std.specs.Result.{is_err}
 use Rattle.ruletable.proofs.AppendsLemmas.{Appends-same}

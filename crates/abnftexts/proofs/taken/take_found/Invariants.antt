@@ -7,7 +7,7 @@ use Rattle.abnftexts.specs.TakenRules.{TakesMore}
 use Rattle.abnftexts.specs.TextRules.{GivesFound}
 use Rattle.abnftexts.proofs.taken.take_found.Given as goal
 
--- what is found behind completes what was taken so far
+-- what is found after it completes what was taken so far
 abbrev pub invariant-loop-it : goal.invariant-loop-it
 invariant-loop-it l = (text : List ℕ) → KeepsLines [] (text_lines text) (map numbered l.kept)
     → AreFound 0 (map numbered l.kept) l.found → (end : RulesGathered)

@@ -5,7 +5,7 @@ use Rattle.abnftexts.specs.UsedNames.{undefined_told}
 use Rattle.abnftexts.proofs.UndefinedLemmas.{told-from}
 use Rattle.abnftexts.proofs.undefined.push_undefined.Given as goal
 
--- what the uses to come tell completes what is told so far
+-- the reports of the uses to come complete those so far
 abbrev pub invariant-loop-number : goal.invariant-loop-number
 invariant-loop-number l =
     let rules = map text_rule l.rules in

@@ -1,4 +1,4 @@
--- What is told is told before the end.
+-- The report comes before the end.
 use Rattle.std.proofs.Common.{◌≡◌, [], sym, true, false, ap, Some}
 use Rattle.std.specs.List.{flat_map}
 use Rattle.std.specs.Result.{is_err}

@@ -1,4 +1,4 @@
--- One form is asked for, or two, which is told.
+-- One form is asked for, or two, which is reported.
 use Rattle.std.proofs.Common.{sym}
 use Rattle.toolrun.specs.Plan.{IsToldAnd}
 use Rattle.toolrun.specs.Status.{code_of}

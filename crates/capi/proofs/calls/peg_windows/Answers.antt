@@ -1,4 +1,4 @@
--- The runs of the windows, behind what is told once.
+-- The runs of the windows, after the messages that stand once.
 use Rattle.pegrun.specs.Answers.{States}
 use Rattle.capi.specs.WindowsRun.{all_ran}
 use Rattle.capi.proofs.FrontTextLemmas.{front_is_behind, front_stands_first}

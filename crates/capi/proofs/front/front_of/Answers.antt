@@ -1,4 +1,4 @@
--- All is told once, or an allocation failed.
+-- All messages stand once, or an allocation failed.
 use Rattle.capi.specs.FrontText.{not_told, told_once}
 use Rattle.capi.proofs.front.front_of.Goals as goal
 

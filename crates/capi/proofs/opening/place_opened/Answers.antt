@@ -1,4 +1,4 @@
--- The notes are told, and the judge stands in the place; or an allocation failed.
+-- The notes are reported, and the judge stands in the place; or an allocation failed.
 use Rattle.std.proofs.Common.{map}
 use Rattle.capi.specs.OpenCall.{opens, refuses}
 use Rattle.capi.proofs.OpenCallLemmas.{opens_nothing}

@@ -1,4 +1,4 @@
--- The grammar was opened into an empty place, or what is wrong is told.
+-- The grammar was opened into an empty place, or what is wrong is reported.
 use Rattle.capi.specs.BufferRun.{IsLaid}
 use Rattle.capi.specs.OpenCall.{tried}
 use Rattle.capi.proofs.OpenCallLemmas.{closed_is_none}

@@ -1,4 +1,4 @@
--- The fault is told, or an allocation failed.
+-- The fault is reported, or an allocation failed.
 use Rattle.std.proofs.Common.{◌≢◌, rules}
 use Rattle.ruletable.specs.declared.fault.ReadFault.TheVariants.{Memory}
 use Rattle.capi.proofs.OpenCallLemmas.{tells_fault, tells_nothing}

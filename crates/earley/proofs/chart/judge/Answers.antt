@@ -1,27 +1,26 @@
-use Rattle.std.proofs.Common.{◌↔◌, map, subst, arith}
-use Rattle.std.proofs.lemmas.List.{length-map}
-use Rattle.abnfcheck.specs.Derivable.{RuleDerives}
+use Rattle.std.proofs.Common.{ℕ, ◌+◌, ◌*◌, ◌≤◌, Bool, List, Result, Ok, Err, IfOk, length, map, subst}
+use Rattle.std.specs.Prelude.{IfSome}
 use Rattle.earleyitems.proofs.ChartSetsLemmas.{set_bound}
-use Rattle.earleyitems.specs.ChartSets.{set_at}
-use Rattle.flatgrammar.specs.Flat.{at}
-use Rattle.flatgrammar.specs.Holds.{Holds}
-use Rattle.letters.specs.Letters.{has}
+use Rattle.earleyitems.specs.ChartSets.{set_at, IsSet}
+use Rattle.flatgrammar.specs.Flat.{Flat, Place}
+use Rattle.flatgrammar.specs.Places.{places}
 use Rattle.earley.proofs.chart.judge.Goals as goal
 
-chain : {A B C : Type 0} → (A ↔ B) → (B ↔ C) → A ↔ C
-chain f g = ((λ a. g.0 (f.0 a)), (λ c. f.1 (g.1 c)))
+sets_bound : {E : Type 0} (flat : Flat) (x : List ℕ) (sets : List (List (Place × ℕ))) (r : Result Bool E)
+    → IfOk r (λ _. (j : ℕ) → IsSet flat x j (set_at sets j))
+    → IfOk r (λ _. (j : ℕ) → length (set_at sets j) ≤ places flat.nodes * (j + 1))
+sets_bound flat x sets (Ok b) are = λ j. set_bound flat x j (set_at sets j) (are j)
+sets_bound flat x sets (Err e) are = tt
 
-pub returns-clause-bound : goal.returns-clause-bound
-returns-clause-bound g c = λ j. set_bound c.args.flat.now (map g.L.Letter.number c.args.line.now) j
-    (set_at c.judge_by.new.chart j) (c.in_ok-answer.ensures.sets j)
+pub returns-in-Some-clause-bound : goal.returns-in-Some-clause-bound
+returns-in-Some-clause-bound g c =
+    let flat = c.args.flat.now in
+    let x = map g.L.Letter.number c.args.line.now in
+    let are = subst (λ o. IfSome o (λ _. (j : ℕ) → IsSet flat x j (set_at c.judge_within.new.chart j))) c.in-Some.is
+    c.in_ok-yes.ensures.sets in
+    λ j. set_bound flat x j (set_at c.judge_within.new.chart j) (are j)
 
-pub returns-clause-derives : goal.returns-clause-derives
-returns-clause-derives g c = λ rules judged lowered.
-    chain c.in_ok-answer.ensures.answer
-    (subst (λ n. Holds c.args.flat.now (map g.L.Letter.number c.args.line.now) n (at c.args.flat.now.whole 1) 0
-    ↔ RuleDerives (has g.L.Letter.ALPHABET) rules judged (map g.L.Letter.number c.args.line.now))
-    (length-map c.args.line.now g.L.Letter.number)
-    (c.items_tell.ensures (has g.L.Letter.ALPHABET) rules judged c.args.flat.now
-    (map g.L.Letter.number c.args.line.now) lowered
-    (let short = c.requires in let size = length-map c.args.line.now g.L.Letter.number in omega (arith, short, size))
-    c.values_are_letters.ensures))
+pub returns-in-None-clause-bound : goal.returns-in-None-clause-bound
+returns-in-None-clause-bound g c =
+    sets_bound c.args.flat.now (map g.L.Letter.number c.args.line.now) c.judge_many.new.chart c.judge_many.result
+    c.judge_many.ensures.sets

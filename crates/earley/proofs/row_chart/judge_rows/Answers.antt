@@ -1,54 +1,28 @@
-use Rattle.std.proofs.Common.{◌≡◌, ◌↔◌, ◌<◌, ℕ, IsTrue, length, map, subst, sym, arith}
-use Rattle.std.proofs.lemmas.List.{length-map}
+use Rattle.std.proofs.Common.{◌≡◌, ◌↔◌, ℕ, IsTrue, length, map, subst, sym}
 use Rattle.std.specs.Prelude.{IfSome}
-use Rattle.earleyitems.proofs.ChartSetsLemmas.{chart_sets}
-use Rattle.earleyitems.proofs.IsBuiltLemmas.{built_exact}
 use Rattle.earleyitems.specs.ChartSets.{set_at, IsSet}
 use Rattle.flatgrammar.specs.Blocks.{AreExact}
 use Rattle.flatgrammar.specs.Flat.{at}
 use Rattle.flatgrammar.specs.Holds.{Holds}
 use Rattle.flatgrammar.specs.NodeSteps.{flat_of}
-use Rattle.flatgrammar.specs.declared.flat_item.Item.{Item}
-use Rattle.earley.specs.RowCharts.{row_views, rows_chart}
-use Rattle.earley.specs.RowItems.{row_items, IsRowItem}
-use Rattle.earley.proofs.RowChartLemmas.{row_answer}
-use Rattle.earley.proofs.RowStepLemmas.{view_at}
+use Rattle.earley.specs.RowCharts.{rows_chart}
 use Rattle.earley.proofs.row_chart.judge_rows.Goals as goal
+
+pub judge_by_table-requires-clause-exact : goal.judge_by_table-requires-clause-exact
+judge_by_table-requires-clause-exact g c =
+    subst (λ f. AreExact f.value)
+    (sym (subst (λ o. IfSome o (λ t. t.flat ≡ c.args.flat)) c.in-Some.is c.in_ok-table.ensures.same)) c.requires
 
 pub returns-clause-sets : goal.returns-clause-sets
 returns-clause-sets g c =
-    let x = map g.L.Letter.number c.args.line.now in
-    let spots = c.in-Some.table.spots.items in
-    let same = subst (λ o. IfSome o (λ t. t.flat ≡ c.args.flat)) c.in-Some.is c.in_ok-table.ensures.same in
-    let exact = subst (λ f. AreExact f.value) (sym same) c.requires in
-    let views = length-map c.in_ok-sets.sets.items (λ s. row_items spots s.rows.items) in
-    let count = c.in_ok-sets.ensures.count in
-    let letters = length-map c.args.line.now g.L.Letter.number in
-    subst (λ f. (j : ℕ) → IsSet (flat_of f.value) x j (set_at
-    (rows_chart (record { table = c.in-Some.table; sets = c.in_ok-sets.sets })) j)) same
-    (chart_sets c.in-Some.table.flat.value x (row_views spots c.in_ok-sets.sets.items)
-    (omega (arith, views, count, letters))
-    (built_exact c.in-Some.table.flat.value exact.roots x (row_views spots c.in_ok-sets.sets.items)
-    c.in_ok-sets.ensures.built))
+    subst (λ f. (j : ℕ) → IsSet (flat_of f.value) (map g.L.Letter.number c.args.line.now) j
+    (set_at (rows_chart c.in_ok-judged.judged.chart) j))
+    (subst (λ o. IfSome o (λ t. t.flat ≡ c.args.flat)) c.in-Some.is c.in_ok-table.ensures.same)
+    c.in_ok-judged.ensures.sets
 
 pub returns-clause-answer : goal.returns-clause-answer
 returns-clause-answer g c =
-    let x = map g.L.Letter.number c.args.line.now in
-    let spots = c.in-Some.table.spots.items in
-    let same = subst (λ o. IfSome o (λ t. t.flat ≡ c.args.flat)) c.in-Some.is c.in_ok-table.ensures.same in
-    let exact = subst (λ f. AreExact f.value) (sym same) c.requires in
-    let kept = c.index.result.now in
-    let low : length c.args.line.now < length c.in_ok-sets.sets.items = (let count = c.in_ok-sets.ensures.count in
-    omega (arith, count)) in
-    let told = row_answer c.in-Some.table.flat.value exact.roots x spots c.in_ok-sets.sets.items kept
-    (length c.args.line.now) c.in_ok-sets.ensures.built
-    (view_at spots c.in_ok-sets.sets.items (length c.args.line.now) kept low c.index.ensures) in
-    let item : Item = record { node = c.deref.result.now.whole; step = 1; origin = 0 } in
-    let one = subst (λ v. IsTrue c.has_item-yes.result ↔ IsRowItem v c.deref-3.result.now item) c.deref-2.ensures.value
-    c.has_item-yes.ensures in
-    let two = subst (λ v. IsTrue c.has_item-yes.result ↔ IsRowItem spots v item) c.deref-3.ensures.value one in
-    let three = subst (λ f. IsTrue c.has_item-yes.result ↔ IsRowItem spots kept.rows.items
-    (record { node = f.whole; step = 1; origin = 0 })) c.deref.ensures two in
-    subst (λ f. IsTrue c.has_item-yes.result ↔ Holds (flat_of f.value) x (length c.args.line.now)
-    (at f.value.whole 1) 0) same
-    ((λ t. told.0 (three.0 t)), (λ h. three.1 (told.1 h)))
+    subst (λ f. IsTrue c.in_ok-judged.judged.yes ↔ Holds (flat_of f.value) (map g.L.Letter.number c.args.line.now)
+    (length c.args.line.now) (at f.value.whole 1) 0)
+    (subst (λ o. IfSome o (λ t. t.flat ≡ c.args.flat)) c.in-Some.is c.in_ok-table.ensures.same)
+    c.in_ok-judged.ensures.answer

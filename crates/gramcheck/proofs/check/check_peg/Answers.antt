@@ -1,4 +1,4 @@
--- No note refuses the grammar, so it is sound.
+-- No note rejects the grammar, so it is sound.
 use Rattle.std.proofs.Common.{◌≡◌, ◌∙◌, ap, false, map, sym}
 use Rattle.std.proofs.lemmas.List.{length-map}
 use Rattle.ruletable.specs.Notes.{said_of}

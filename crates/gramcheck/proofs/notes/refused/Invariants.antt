@@ -1,4 +1,4 @@
--- Whether one of the notes refuses is decided by those that are left.
+-- Whether one of the notes rejects is decided by those that are left.
 use Rattle.std.proofs.Common.{◌≡◌, map, drop}
 use Rattle.std.specs.List.{list_any}
 use Rattle.ruletable.specs.Notes.{said_of}

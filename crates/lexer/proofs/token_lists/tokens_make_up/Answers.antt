@@ -26,7 +26,7 @@ module _ {K : Type 0} (White : List ℕ → List ℕ → Type 0) (First Stands :
       let p = w.part in
       made_more (p.whole ∙ ap (λ (z : List ℕ). p.front ++ z) n.cut) w.alone (make-up more)
 
-  -- where a token stands in the whole text: behind some front, and white space
+  -- where a token stands in the whole text: after some prefix, and white space
   record Placed (text : List ℕ) (front : List ℕ) (x : Tok K) (r : List ℕ) : Type 0 where
     lies : LiesIn text x
     later : length front ≤ start_of x

@@ -4,8 +4,8 @@ use Rattle.lowering.specs.Lowered.{IsLowered}
 use Rattle.lowering.proofs.LoweredLemmas as o
 use Rattle.lowering.proofs.lowered.lower.Goals as goal
 
-pub returns-clause-tells : goal.returns-clause-tells
-returns-clause-tells c =
+pub returns-clause-derives : goal.returns-clause-derives
+returns-clause-derives c =
     λ has x line letters. o.lowered_tells (rules_of c.args.grammar.now.rules) c.args.grammar.now.judged
     c.in_ok-flat.flat
     (subst (λ v. IsLowered (rules_of v) c.args.grammar.now.judged c.in_ok-flat.flat) c.rules.ensures

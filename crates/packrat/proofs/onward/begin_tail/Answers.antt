@@ -4,7 +4,6 @@ use Rattle.memo.specs.declared.spot.Spot.TheVariants.{Tail}
 use Rattle.std.proofs.Common.{Some, refl, subst, ap, slice_get}
 use Rattle.std.proofs.lemmas.Option.{slice_get_read}
 use Rattle.pegnodes.specs.Nodes as shape
-use Rattle.pegnodes.specs.Nodes.{spells_any, spells_bytes, spells_set}
 use Rattle.pegmatch.proofs.NodeShapeLemmas.{shape_at}
 use Rattle.packrat.specs.Onward.{AfterNone, HasMember}
 use Rattle.packrat.proofs.OnwardLemmas as M

@@ -1,7 +1,6 @@
 use Rattle.std.proofs.Common.{◌∙◌}
 use Rattle.std.proofs.Common.{Some, ap}
 use Rattle.pegnodes.specs.Nodes as shape
-use Rattle.pegnodes.specs.Nodes.{spells_any, spells_bytes, spells_set}
 use Rattle.pegmatch.proofs.NodeShapeLemmas.{shape_at}
 use Rattle.packrat.proofs.OnwardLemmas as M
 use Rattle.packrat.proofs.onward.go_on_node.Goals as goal

@@ -1,7 +1,6 @@
 use Rattle.std.proofs.Common.{◌≡◌, ◌∙◌, suc, ◌+◌, ◌<◌, ◌≤◌, length}
 use Rattle.std.proofs.Common.{Some, subst, ap, arith}
 use Rattle.pegnodes.specs.Nodes as shape
-use Rattle.pegnodes.specs.Nodes.{spells_any, spells_bytes, spells_set}
 use Rattle.pegmatch.proofs.NodeShapeLemmas.{shape_at}
 use Rattle.packrat.specs.Onward.{HasMember}
 use Rattle.packrat.proofs.OnwardLemmas as M

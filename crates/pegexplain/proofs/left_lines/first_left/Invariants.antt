@@ -1,4 +1,4 @@
--- The uses and lines that are left tell what all of them do.
+-- The uses and lines that are left say what all of them do.
 use Rattle.std.proofs.Common.{◌≡◌, map, drop}
 use Rattle.pegexplain.specs.FoundUses.{use_found}
 use Rattle.pegexplain.specs.LeftLines.{is_left_use, line_of_first}

@@ -7,7 +7,7 @@ use Rattle.ruletable.specs.Notes.{said}
 use Rattle.ruletable.specs.declared.note.NoteKind.TheVariants.{Unused}
 use Rattle.pegexplain.specs.LeftLines.{way_told}
 use Rattle.pegexplain.specs.NullTests.{null_mark_of, nullable_by}
-use Rattle.pegexplain.proofs.LeftNotesLemmas.{left-told, told-defined, told-way}
+use Rattle.pegexplain.proofs.LeftNotesLemmas.{early-by, late-by, left-told, told-defined, told-way}
 use Rattle.pegexplain.proofs.left_notes.push_left.Goals as goal
 
 pub returns-in_default : goal.returns-in_default
@@ -25,7 +25,8 @@ returns-in_ok-push_way c = λ text are.
           (mention_lines_by c.args.places.now.places kinds.Use) c.in-Some.id w.0,
       told-way text c.args.places.now are c.args.name.now _ c.in-Some.id w.0
           (sym c.in_ok-id.ensures.found ∙ c.in-Some.is)
-          (let early = c.if-is_early.ensures in sym (rw c.deref.ensures.value at early)) w.1 refl,
+          (early-by text c.args.places.now are c.args.name.now c.in-Some.id
+          (sym c.in_ok-id.ensures.found ∙ c.in-Some.is) c.if-id-places.true) w.1 refl,
       w.2,
     )
 
@@ -34,6 +35,7 @@ returns-in_ok-push_definition c = λ text are. (
   told_by c.args.places.now.places None (said Unused c.args.name.now),
   told-defined text c.args.places.now are c.args.name.now _ c.in-Some.id
       (sym c.in_ok-id.ensures.found ∙ c.in-Some.is)
-      (let late = c.if-is_early.ensures in sym (rw c.deref.ensures.value at late)) refl,
+      (late-by text c.args.places.now are c.args.name.now c.in-Some.id
+      (sym c.in_ok-id.ensures.found ∙ c.in-Some.is) c.if-id-places.false) refl,
   c.in_ok-push_definition.ensures,
 )

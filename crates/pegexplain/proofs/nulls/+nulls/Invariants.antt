@@ -1,4 +1,4 @@
--- What is left of the members tells what all of them do.
+-- What is left of the members says what all of them do.
 use Rattle.std.proofs.Common.{◌≡◌, drop}
 use Rattle.pegread.specs.PegViews.{patterns_of}
 use Rattle.pegexplain.specs.NullTests.{all_nullable_by, null_mark_of, some_nullable_by}

@@ -1,4 +1,4 @@
--- What is left of the members or alternatives tells what all of them do.
+-- What is left of the members or alternatives says what all of them do.
 use Rattle.std.proofs.Common.{◌≡◌, ◌++◌, map, drop}
 use Rattle.std.specs.Prelude.{option_map}
 use Rattle.pegread.specs.PegViews.{pattern_of, patterns_of}

@@ -1,4 +1,4 @@
--- What is told of a node, from what is told of those below.
+-- What is decided of a node, from what is decided of those below.
 use Rattle.std.proofs.Common.{◌∙◌, sym, subst}
 use Rattle.pegnodes.specs.ByByte.{below, by_any}
 use Rattle.pegnodes.specs.Decides.{DecidesShape}

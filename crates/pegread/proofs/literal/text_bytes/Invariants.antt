@@ -2,7 +2,7 @@ use Rattle.std.proofs.Common.{List, ℕ, ◌++◌, length}
 use Rattle.pegread.specs.Chars.{Chars, Paired}
 use Rattle.pegread.proofs.literal.text_bytes.Given as goal
 
--- what the rest spells, behind the bytes so far, is what the text spells
+-- the bytes so far and then what the rest spells are what the text spells
 abbrev pub invariant-loop-byte : goal.invariant-loop-byte
 invariant-loop-byte l = record {
   paired : Paired l.rest;

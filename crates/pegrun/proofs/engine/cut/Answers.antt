@@ -16,6 +16,7 @@ loop-n-init g c = record {
   told = c.requires.told;
   loan = refl;
   flag = refl;
+  searched = refl;
   written = (
     [],
     refl,
@@ -88,6 +89,7 @@ loop-n-preserved g c =
       ) c.in-Ok-Takes.ensures.told;
       loan = c.skip.ensures.loan ∙ same.loan ∙ c.in-Ok-Takes.ensures.loan ∙ c.loop-n.invariant.loan;
       flag = search rules;
+      searched = c.loop-n.invariant.searched;
       written = (
         so_far.0 ++ take n items,
         slides-len so_far.0 items n c.loop-n.start so_far.1 le,

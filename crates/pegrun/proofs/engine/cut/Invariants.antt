@@ -4,6 +4,7 @@ use Rattle.std.proofs.Common.{◌≡◌, ◌+◌, ◌-◌, ◌*◌, ◌≤◌, �
 use Rattle.std.specs.Io.KnownBytes.{Appends, Consumes}
 use Rattle.feed.specs.Feed.{IsTrueOfReader, SameLoan, allowance_of, bytes_of, capacity_of, flow_of, input_limit}
 use Rattle.feed.specs.Feed.{reader_of}
+use Rattle.matchfailure.specs.FailureSearches.{evaluated_by}
 use Rattle.matchfailure.specs.NoMatches.{unit_before}
 use Rattle.pegread.specs.PegViews.{rules_of}
 use Rattle.toolrun.specs.Agrees.{Agrees}
@@ -21,6 +22,7 @@ invariant-loop-n g l = record {
   told : IsTrueOfReader g.R.Source.remaining g.R.Source.failed g.R.Source.ended l.feed;
   loan : SameLoan l.fn.feed l.feed;
   flag : g.O.Sink.failed l.out ≡ g.O.Sink.failed l.fn.out;
+  searched : evaluated_by l.counted.search ≡ evaluated_by l.fn.counted.search;
   written : (before : List ℕ) × (length before ≡ l.start) ×
       (l.settings.explain ≡ true → Follows l.past before) ×
       Consumes (g.R.Source.remaining (reader_of l.fn.feed)) (g.R.Source.remaining (reader_of l.feed))
@@ -30,7 +32,7 @@ invariant-loop-n g l = record {
       Appends (g.O.Sink.contents l.fn.out) (g.O.Sink.contents l.out) text ×
       (l.settings.explain ≡ true → l.past.lost ≡ false → UnitBefore (rules_of l.peg.rules) l.peg.start l.settings input
       l.start (unit_before l.past.at.byte (length l.past.bytes.items))) ×
-      (calls_of l.matcher ≤ calls_of l.fn.matcher
+      (calls_of l.counted.matcher ≤ calls_of l.fn.counted.matcher
       + 2 * unit_count (rules_of l.peg.rules) l.peg.start l.settings input units));
 }
 

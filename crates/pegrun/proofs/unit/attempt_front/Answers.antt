@@ -1,4 +1,4 @@
--- The first piece is a beginning of what is held.
+-- The first piece is a prefix of what is held.
 use Rattle.pegrun.proofs.AttemptLemmas.{attempt_behind}
 use Rattle.pegrun.proofs.unit.attempt_front.Goals as goal
 

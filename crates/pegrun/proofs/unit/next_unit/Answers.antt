@@ -8,7 +8,7 @@ use Rattle.pegrun.proofs.unit.next_unit.Goals as goal
 
 pub returns-in-Full-clause-follows : goal.returns-in-Full-clause-follows
 returns-in-Full-clause-follows g c = λ before input here a.
-    full_window c.args.peg.now c.start.ensures.sound c.args.settings.now c.args.start before c.fill.new.self.ring.items
+    full_window c.args.peg.now c.requires.sound c.args.settings.now c.args.start before c.fill.new.self.ring.items
     c.unit_at.new.feed.ring.items
     c.unit_at.new.feed.flow input here a c.unit_at.ensures.same.bytes (g.O.Sink.contents c.args.out.now)
     (g.O.Sink.contents c.unit_at.new.out) c.unit_at.result
@@ -25,7 +25,7 @@ returns-in-Full-clause-fits g c =
 pub returns-in-End-clause-follows : goal.returns-in-End-clause-follows
 returns-in-End-clause-follows g c = λ before input here a.
     let on = c.unit_at-in-End in
-    last_window c.args.peg.now c.start.ensures.sound c.args.settings.now c.args.start before c.fill.new.self.ring.items
+    last_window c.args.peg.now c.requires.sound c.args.settings.now c.args.start before c.fill.new.self.ring.items
     on.new.feed.ring.items
     on.new.feed.flow input here a on.ensures.same.bytes (g.O.Sink.contents c.args.out.now)
     (g.O.Sink.contents on.new.out) on.result

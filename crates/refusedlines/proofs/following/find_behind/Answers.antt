@@ -1,7 +1,5 @@
-use Rattle.std.proofs.Common.{◌↔◌, IsTrue, map, length, sym, subst, arith}
+use Rattle.std.proofs.Common.{map, length, sym, subst, arith}
 use Rattle.std.proofs.lemmas.List.{length-map}
-use Rattle.flatgrammar.specs.Flat.{at}
-use Rattle.flatgrammar.specs.Holds.{Holds}
 use Rattle.earleyitems.specs.ChartSets.{set_at, AreSpotsOf}
 use Rattle.letters.specs.Letters.{has}
 use Rattle.refusedlines.specs.Following.{AreFollowing}
@@ -21,4 +19,4 @@ returns-clause-following g c = λ rules judged tells.
     (subst (λ v. AreSpotsOf (set_at c.judge.new.chart v) c.in_ok-spots.spots.items) (sym size) c.in_ok-spots.ensures)
     c.in_ok-runs.runs.items c.in_ok-ends.ends
     c.in_ok-runs.ensures.apart (rw (c.ALPHABET.ensures, c.deref.ensures.value) at c.in_ok-runs.ensures.letters)
-    (subst (λ v. IsTrue c.in_ok-ends.ends ↔ Holds flat x v (at flat.whole 1) 0) (sym size) c.in_ok-ends.ensures.answer))
+    c.in_ok-ends.ensures.answer)

@@ -1,4 +1,4 @@
--- What a spot gives is walked to one level below.
+-- What a task gives is walked to one level below.
 use Rattle.std.proofs.Common.{◌+◌, ◌*◌}
 use Rattle.tests_peg.proofs.packrat_cells.+walk.Given as goal
 

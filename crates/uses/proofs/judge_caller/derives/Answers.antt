@@ -1,6 +1,7 @@
--- The line's bytes are its letters.
-use Rattle.std.proofs.Common.{Bool, Result, Ok, Err, IfOk, map-id}
-use Rattle.abnfread.specs.AbnfViews.{rules_of}
+-- The flat grammar derives the line exactly if the judged rule does, and the line's bytes are its letters.
+use Rattle.std.proofs.Common.{Bool, Result, Ok, Err, IfOk, map-id, arith}
+use Rattle.letters.specs.Letters.{has}
+use Rattle.letters.specs.declared.alphabet.Alphabet.TheVariants.{Bytes}
 use Rattle.uses.proofs.judge_caller.derives.Goals as goal
 
 told_as : {E : Type 0} (r : Result Bool E) (P Q : Bool → Type 0) → ((b : Bool) → P b → Q b) → IfOk r P → IfOk r Q
@@ -9,8 +10,10 @@ told_as (Err e) P Q f h = tt
 
 pub returns : goal.returns
 returns c =
-    let rules = rules_of c.args.grammar.now.rules in
-    let judged = c.args.grammar.now.judged in
-    let lowered = c.in_ok-flat.ensures.lowered in
-    told_as c.judge.result _ _ (λ yes told. rw (map-id c.args.line.now) at (told rules judged lowered))
-    c.judge.ensures.derives
+    let line = c.args.line.now in
+    let letters = rw (map-id line) at c.values_are_letters.ensures in
+    let rule = c.in_ok-flat.ensures.derives (has Bytes) line (omega arith) letters in
+    told_as c.judge.result _ _ (λ yes answer.
+    let flat = rw (map-id line) at answer in
+    (λ is. rule.0 (flat.0 is), λ derives. flat.1 (rule.1 derives)))
+    c.judge.ensures.answer

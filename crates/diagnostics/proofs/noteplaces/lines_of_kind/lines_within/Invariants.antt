@@ -5,4 +5,5 @@ use Rattle.diagnostics.proofs.noteplaces.lines_of_kind.lines_within.Given as goa
 
 abbrev pub invariant-loop-mention : goal.invariant-loop-mention
 invariant-loop-mention l = l.lines.items
-    ≡ map (λ m. m.line) (mentions_within l.kind l.place (map mentioned_at (take l.mention-index l.mentions)))
+    ≡ map (λ m. m.line) (mentions_within l.kind l.start (map (λ m. mentioned_at m.now)
+    (take l.mention-index l.mentions)))

@@ -1,4 +1,5 @@
 use Rattle.std.proofs.Common.{Some, sym, ap, ◌∙◌, ◌==◌, map}
+use Rattle.std.specs.Borrow.{Bor}
 use Rattle.std.specs.Prelude.{◌&&◌}
 use Rattle.std.specs.List.{list_any}
 use Rattle.diagnostics.specs.BodyMentions.{MentionedAt, is_kind, mentioned_at}
@@ -12,9 +13,10 @@ pub returns-then-is_prose_within : goal.returns-then-is_prose_within
 returns-then-is_prose_within c =
     let test = λ (m : MentionedAt). is_kind Prose m.kind
     && list_any (λ d. d.start == m.within) (map (λ h. defined_at h.now) c.args.heads.now) in
-    ap (λ (m : Mention). Some (mentioned_at m)) c.mention-item.is
-    ∙ sym (find-there mentioned_at test c.args.mentions.now c.loop-mention.mention-index c.mention-item.result
-    c.loop-mention-test.true (ap (λ (m : Mention). test (mentioned_at m)) (sym c.mention-item.is)
+    ap (λ (m : Bor Mention). Some (mentioned_at m.now)) c.mention-item.is
+    ∙ sym (find-there (λ m. mentioned_at m.now) test c.args.mentions.now c.loop-mention.mention-index
+    c.mention-item.result c.loop-mention-test.true
+    (ap (λ (m : Bor Mention). test (mentioned_at m.now)) (sym c.mention-item.is)
     ∙ sym c.is_prose_within.ensures ∙ c.if-is_prose_within.true))
     ∙ c.loop-mention.invariant
 
@@ -22,7 +24,8 @@ pub loop-mention-preserved : goal.loop-mention-preserved
 loop-mention-preserved c =
     let test = λ (m : MentionedAt). is_kind Prose m.kind
     && list_any (λ d. d.start == m.within) (map (λ h. defined_at h.now) c.args.heads.now) in
-    sym (find-passed mentioned_at test c.args.mentions.now c.loop-mention.mention-index c.mention-item.result
-    c.loop-mention-test.true (ap (λ (m : Mention). test (mentioned_at m)) (sym c.mention-item.is)
+    sym (find-passed (λ m. mentioned_at m.now) test c.args.mentions.now c.loop-mention.mention-index
+    c.mention-item.result c.loop-mention-test.true
+    (ap (λ (m : Bor Mention). test (mentioned_at m.now)) (sym c.mention-item.is)
     ∙ sym c.is_prose_within.ensures ∙ c.if-is_prose_within.false))
     ∙ c.loop-mention.invariant

@@ -17,15 +17,17 @@ loop-left-preserved c =
     let lt : c.loop-left.left - 1 < length c.args.mentions.now = omega (arith, some, inside) in
     record {
       within = omega (arith, inside);
-      first = ap (λ (o : Option RuleMention). earliest c.args.names (map defined_at c.args.heads.now)
+      first = ap (λ (o : Option RuleMention). earliest c.args.places.now.names
+          (map defined_at c.args.places.now.heads.items)
           (map (λ m. mentioned_at m.now) (take (c.loop-left.left - 1) c.args.mentions.now)) o)
           (c.earlier_of-found.ensures ∙ ap (λ (r : Option DefinedAt). earlier r
           (mentioned_at c.index-mentions-left.result.now) (option_map mention_found c.loop-left.found))
-          c.rule_around-rule.ensures)
-          ∙ earliest-step c.args.names (map defined_at c.args.heads.now) (λ m. mentioned_at m.now) c.args.mentions.now
+          c.in_ok-rule.ensures)
+          ∙ earliest-step c.args.places.now.names (map defined_at c.args.places.now.heads.items)
+          (λ m. mentioned_at m.now) c.args.mentions.now
           (c.loop-left.left - 1) c.index-mentions-left.result (option_map mention_found c.loop-left.found) lt
           c.index-mentions-left.is
-          ∙ ap (λ (k : ℕ). earliest c.args.names (map defined_at c.args.heads.now)
+          ∙ ap (λ (k : ℕ). earliest c.args.places.now.names (map defined_at c.args.places.now.heads.items)
           (map (λ m. mentioned_at m.now) (take k c.args.mentions.now))
           (option_map mention_found c.loop-left.found)) there
           ∙ i.first;

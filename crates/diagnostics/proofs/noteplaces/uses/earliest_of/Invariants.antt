@@ -9,9 +9,10 @@ use Rattle.diagnostics.proofs.noteplaces.uses.earliest_of.Given as goal
 abbrev pub invariant-loop-left : goal.invariant-loop-left
 invariant-loop-left l = record {
   within : l.left ≤ length l.mentions;
-  first : earliest l.names (map defined_at l.heads) (map (λ m. mentioned_at m.now) (take l.left l.mentions))
+  first : earliest l.places.names (map defined_at l.places.heads.items)
+      (map (λ m. mentioned_at m.now) (take l.left l.mentions))
       (option_map mention_found l.found)
-      ≡ earliest l.names (map defined_at l.heads) (map (λ m. mentioned_at m.now) l.mentions) None;
+      ≡ earliest l.places.names (map defined_at l.places.heads.items) (map (λ m. mentioned_at m.now) l.mentions) None;
 }
 
 abbrev pub decreases-loop-left : goal.decreases-loop-left

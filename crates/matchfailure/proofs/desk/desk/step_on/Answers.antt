@@ -9,41 +9,41 @@ use Rattle.matchfailure.proofs.desk.desk.step_on.Goals as goal
 
 pub next_turn-requires-clause-spells : goal.next_turn-requires-clause-spells
 next_turn-requires-clause-spells c =
-    (is_top _ _ _ c.start-start.ensures.sound _ _ _ c.requires.fits
+    (is_top _ _ _ c.requires.sound _ _ _ c.requires.fits
     (read_top _ _ _ _ c.requires.frame.2 (c.top-top.ensures _ _ c.requires.frame.2))).spelled
 
 pub next_turn-requires-clause-place : goal.next_turn-requires-clause-place
 next_turn-requires-clause-place c =
-    (is_top _ _ _ c.start-start.ensures.sound _ _ _ c.requires.fits
+    (is_top _ _ _ c.requires.sound _ _ _ c.requires.fits
     (read_top _ _ _ _ c.requires.frame.2 (c.top-top.ensures _ _ c.requires.frame.2))).high
 
 pub next_turn-requires-clause-low : goal.next_turn-requires-clause-low
 next_turn-requires-clause-low c =
-    (is_top _ _ _ c.start-start.ensures.sound _ _ _ c.requires.fits
+    (is_top _ _ _ c.requires.sound _ _ _ c.requires.fits
     (read_top _ _ _ _ c.requires.frame.2 (c.top-top.ensures _ _ c.requires.frame.2))).low
 
 pub put-requires : goal.put-requires
 put-requires c =
-    (is_top _ _ _ c.start-start.ensures.sound _ _ _ c.requires.fits
+    (is_top _ _ _ c.requires.sound _ _ _ c.requires.fits
     (read_top _ _ _ _ c.requires.frame.2 (c.top-top.ensures _ _ c.requires.frame.2))).none
 
 pub one_more-requires : goal.one_more-requires
 one_more-requires c =
-    let most = begun_in_window _ _ _ c.start-start.ensures.sound _ c.requires.fits in
+    let most = begun_in_window _ _ _ c.requires.sound _ c.requires.fits in
     rw (c.nodes.ensures.count, ← length-map c.args.peg.now.nodes shape_of) most
 
 pub returns-in_ok-advance-in-Ask : goal.returns-in_ok-advance-in-Ask
 returns-in_ok-advance-in-Ask c =
     let is = read_top _ _ _ _ c.requires.frame.2 (c.top-top.ensures _ _ c.requires.frame.2) in
-    pushed_step _ _ _ c.start-start.ensures.sound c.requires.fits is c.in-Ask.ensures refl
+    pushed_step _ _ _ c.requires.sound c.requires.fits is c.in-Ask.ensures refl
     (c.in_ok-advance-in-Ask.ensures _ _ is) c.one_more.ensures
 
 pub returns-then-is_empty : goal.returns-then-is_empty
 returns-then-is_empty c =
     let is = read_top _ _ _ _ c.requires.frame.2 (c.top-top.ensures _ _ c.requires.frame.2) in
     rw c.ended.ensures
-    (ended_step _ _ _ c.start-start.ensures.sound _ _ _ _
-    (ended_here _ _ _ c.start-start.ensures.sound _ _ _ _ _ c.requires.fits is c.in-Answer.ensures
+    (ended_step _ _ _ c.requires.sound _ _ _ _
+    (ended_here _ _ _ c.requires.sound _ _ _ _ _ c.requires.fits is c.in-Answer.ensures
     c.in_ok-put-in-Answer.ensures.added (c.pop.ensures _ _ is) refl
     (c.is_empty.ensures.0 c.if-is_empty.true)) refl)
 
@@ -52,5 +52,5 @@ returns-else-is_empty c =
     let is = read_top _ _ _ _ c.requires.frame.2 (c.top-top.ensures _ _ c.requires.frame.2) in
     let some = some_frame c.pop.new.self (λ none. both_ways c.is_empty.result c.if-is_empty.false
     (c.is_empty.ensures.1 none)) in
-    dropped_step _ _ _ c.start-start.ensures.sound _ _ _ _ _ c.requires.fits is c.in-Answer.ensures
+    dropped_step _ _ _ c.requires.sound _ _ _ _ _ c.requires.fits is c.in-Answer.ensures
     c.in_ok-put-in-Answer.ensures.added (c.pop.ensures _ _ is) refl _ _ some.2

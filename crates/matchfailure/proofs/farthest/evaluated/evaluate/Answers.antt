@@ -10,10 +10,10 @@ steps-init c = record {
 
 pub steps-smaller : goal.steps-smaller
 steps-smaller c =
-    step_goes_on c.args.peg.now c.args.window.now c.start-start.ensures.sound c.steps.desk c.step.new.self
+    step_goes_on c.args.peg.now c.args.window.now c.requires c.steps.desk c.step.new.self
     c.steps.invariant.fits (rw c.in_default.is at c.in_ok-step.ensures.step)
 
 pub returns-in-Some : goal.returns-in-Some
 returns-in-Some c =
-    step_ends c.args.peg.now c.args.window.now c.start-start.ensures.sound c.steps.desk c.step.new.self _
+    step_ends c.args.peg.now c.args.window.now c.requires c.steps.desk c.step.new.self _
     (rw c.in-Some.is at c.in_ok-step.ensures.step)

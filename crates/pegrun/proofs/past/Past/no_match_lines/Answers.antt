@@ -11,4 +11,4 @@ returns-clause-told g c =
     let seen : c.as_slice.result.now ≡ c.args.self.now.bytes.items ++ bytes_of c.args.feed.now = search rules in
     let last : c.len-last.result ≡ length c.args.self.now.bytes.items = search rules in
     told_behind_kept (rules_of c.args.peg.now.rules) c.args.peg.now.start c.args.self.now (bytes_of c.args.feed.now)
-    c.as_slice.result.now c.len-last.result c.explain_no_match.result kept seen last c.explain_no_match.ensures
+    c.as_slice.result.now c.len-last.result c.explain_no_match.result kept seen last c.explain_no_match.ensures.lines

@@ -4,5 +4,5 @@ use Rattle.ruletable.proofs.table.RuleTable.body.Goals as goal
 
 pub returns : goal.returns
 returns g c =
-    rw (← c.self.view_is) (part_at (λ rule. rule.body) c.self.inside.rows.entries c.args.id _ _
-    c.get_index.ensures.entry c.unwrap.ensures)
+    rw (← c.self.view_is) (part_at (λ rule. rule.body) c.self.inside.rows.items c.args.id _
+    (rw (← c.self.view_is) at c.requires) c.index.ensures)

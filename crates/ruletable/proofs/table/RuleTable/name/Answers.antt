@@ -5,5 +5,5 @@ use Rattle.ruletable.proofs.table.RuleTable.name.Goals as goal
 pub returns : goal.returns
 returns g c =
     rw (← c.self.view_is, c.as_slice.ensures.value)
-    (part_at (λ rule. rule.name) c.self.inside.rows.entries c.args.id _ _ c.get_index.ensures.entry
-    c.unwrap.ensures)
+    (part_at (λ rule. rule.name) c.self.inside.rows.items c.args.id _ (rw (← c.self.view_is) at c.requires)
+    c.index.ensures)

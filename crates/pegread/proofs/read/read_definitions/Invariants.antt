@@ -1,8 +1,0 @@
-use Rattle.std.proofs.Common.{map}
-use Rattle.pegread.specs.Steps.{config_of}
-use Rattle.lexer.specs.TokenLists.{tok_of}
-use Rattle.pegread.proofs.ReadDefinitionsLemmas.{AreLeft, HasTaken}
-use Rattle.pegread.proofs.read.read_definitions.Given as goal
-
-abbrev pub invariant-loop-token : goal.invariant-loop-token
-invariant-loop-token l = HasTaken l.text (AreLeft l.token-iterator) (config_of l.reader) l.before (map tok_of l.yielded)
