@@ -107,9 +107,11 @@ class Run:
         self.tree, self.lines, self.section, self.last = tree, lines, [], ""
         tree.mkdir()
         copy_crates(crates, tree)
+        # A process group of its own, but no session: Linux may divide the processors by sessions, and heeds priorities
+        # within each alone.
         self.process = subprocess.Popen(
             [*command, *RT, "ci"], cwd=tree, env=environment(), stdin=subprocess.DEVNULL, stdout=subprocess.PIPE,
-            stderr=subprocess.STDOUT, text=True, errors="replace", start_new_session=True
+            stderr=subprocess.STDOUT, text=True, errors="replace", preexec_fn=os.setpgrp
         )
         threading.Thread(target=self.read, daemon=True).start()
 

@@ -27,7 +27,7 @@ NO_LIBRARY = re.compile(r"testio|tests_\w+|uses")
 BLOCK = re.compile(r"<!-- (contracts:[^>]*|callers|laws|definitions) -->\n.*?<!-- end -->", re.S)
 EXPORT = re.compile(r"^pub use (\w+)::(?:(\w+(?: as \w+)?);|\{(.*?)\};)", re.M | re.S)
 FUNCTION = re.compile(r'^pub (?:extern "C" )?fn (\w+)', re.M)
-DECLARED = r"^pub (?:struct|enum|trait|const|static) {}\b"
+DECLARED = r"^pub (?:struct|enum|trait|const|static|type) {}\b"
 LAW = re.compile(r"(?:pub )?fn \w+(?:<[^<>]*>)?\(\)(?! *->)")
 
 

@@ -27,7 +27,7 @@ TOP = pathlib.Path(__file__).resolve().parents[2]
 # Where a run begins, and the loops that it comes to: the crate and the function,
 START = ("toolrun", "run_tool")
 # and the most calls from the start to the loop.
-LOOPS = {"abnfi": ("lazydfa", "run", 17), "pegi": ("packrat", "evaluate", 12)}
+LOOPS = {"abnfi": ("lazydfa", "run", 12), "pegi": ("packrat", "evaluate", 12)}
 HEAD = re.compile(r"^( *)(?:pub(?:\(crate\))? )?(?:const )?fn (\w+)", re.M)
 OWNER = re.compile(r"^(impl|pub trait|trait)(?:<.*?>)? (?:(\w+)(?:<.*>)? for )?&?(?:'\w+ )?(?:mut )?(\w+)")
 CALL = re.compile(r"(?:(\w+)(?:::<[^()]*?>)?::)?((?:\b[\w.]+)?\.)?\b([a-z_]\w*)(?:::<[^()]*?>)?\(")

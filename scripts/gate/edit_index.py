@@ -63,7 +63,7 @@ EXEMPT = (
     # It passes on what `conclude` does, which has its edit.
     "toolrun: finish.finish",
     # Another function of the crate has such a body, and its edit shows the same mistake.
-    "cli: command.abnfi_command", "fixpoint: needs.are_needs_within", "abnfcheck: table_marks.productive_rules",
+    "fixpoint: needs.are_needs_within", "abnfcheck: table_marks.productive_rules",
     "toolrun: told.told_notes", "rulenames: used_names.add_use", "pegmatch: leaves.match_any", "feed: Feed.front",
     "pegnodes: cut.cut_grammar", "pegnodes: star_tables.find_tables", "pegnodes: template.cut_templates",
     "capi: calls.abnf", "capi: runner_calls.peg_open",

@@ -1,5 +1,5 @@
 -- What texts, values and ranges derive of what is asked for.
--- Serves: check_abnf (sound), nullable, productive, lower_viable
+-- Serves: nullable_rules, productive, lower_viable
 use Rattle.std.proofs.Common.{◌≡◌, ◌↔◌, ℕ, zero, suc, ◌+◌, ◌<◌, ◌==◌, Bool, true, false, List, [], ◌∷◌, length, take}
 use Rattle.std.proofs.Common.{get_or, add-one, refl, sym, ◌∙◌, ap, subst, arith, lt-ltb}
 use Rattle.std.specs.Prelude.{IsTrue}

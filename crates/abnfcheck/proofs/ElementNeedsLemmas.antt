@@ -1,5 +1,5 @@
 -- Needs that are added change nothing of what the others ask for.
--- Serves: check_abnf (sound), nullable, productive
+-- Serves: nullable_rules, productive
 use Rattle.std.proofs.Common.{◌≡◌, ℕ, zero, suc, ◌+◌, ◌<◌, ◌≤◌, ◌⊎◌, inl, inr, ⊎_elim, Bool, true, List, [], ◌∷◌, ◌++◌}
 use Rattle.std.proofs.Common.{length, map, take, set, get_or, replicate, Some, refl, sym, ◌∙◌, ap, subst, arith}
 use Rattle.std.proofs.Common.{add-one, append_assoc, append-nil, length-append, length-set}

@@ -1,5 +1,5 @@
 -- A number is in the least set exactly if its element derives a list that is asked for.
--- Serves: check_abnf (sound), nullable, productive, lower_viable
+-- Serves: nullable_rules, productive, lower_viable
 use Rattle.std.proofs.Common.{◌≡◌, ◌↔◌, ℕ, zero, suc, ◌<◌, ◌≤◌, ◌⊎◌, inl, inr, ⊎_elim, Bool, true, false, cond, leb}
 use Rattle.std.proofs.Common.{ltb, List, [], ◌∷◌, ◌++◌, length, Option, Some, None, refl, sym, ◌∙◌, subst, arith}
 use Rattle.std.proofs.Common.{leb-true, le-leb, ltb-true, lt-ltb, take}
@@ -258,9 +258,12 @@ pub marks_for : (aim : Aim) (rules : List Rule) (needs : List Demand) (marks : L
     → AreMarksOfThose needs marks → AreMarksFor aim rules marks
 marks_for aim rules needs marks have are has test id lt = mark_tells has rules aim needs (have has test) marks are id lt
 
-pub null_marks : (rules : List Rule) (marks : List Bool) → AreMarksFor Empty rules marks → AreNullMarks rules marks
-null_marks rules marks are has id lt =
+pub null_marks : (rules : List Rule) (marks : List Bool) (n : ℕ) → n ≡ length rules → AreMarksFor Empty rules marks
+    → AreNullMarks rules (take n marks)
+null_marks rules marks n same are has id lt =
     let m = are has tt id lt in
+    subst (λ (b : Bool). (b ≡ true) ↔ RuleDerives has rules id [])
+    (sym (get_or-take n marks id false (omega (arith, lt, same))))
     ((λ on. let r = m.0 on in subst (λ v. RuleDerives has rules id v) r.1 r.2), (λ r. m.1 ([], refl, r)))
 
 pub productive_marks : (alphabet : Alphabet) (rules : List Rule) (marks : List Bool) (n : ℕ) → n ≡ length rules

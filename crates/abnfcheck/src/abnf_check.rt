@@ -60,10 +60,9 @@ pub fn check_abnf(
     if found.refused {
         return Ok(Checked { notes, sound: None });
     }
-    let sound = SoundAbnf::new(alloc, rules, found.judged)?;
     Ok(Checked {
         notes,
-        sound: Some(sound),
+        sound: Some(SoundAbnf::new(rules, found.judged)),
     })
 }
 

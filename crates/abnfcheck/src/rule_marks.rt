@@ -5,7 +5,7 @@ ghost use Rattle.abnfread.specs.Element.{Rule, Text, Values, Range, id_of};
 ghost use Rattle.abnfread.specs.AbnfViews.{element_of, elements_of, rules_of};
 ghost use Rattle.abnfcheck.specs.Derivable.{AreLetters};
 ghost use Rattle.letters.specs.Letters.{has};
-ghost use Rattle.abnfcheck.specs.RuleMarks.{AreMarksFor, AreNullMarks, AreNumbered, HaveBodyNeeds, IsNumbered};
+ghost use Rattle.abnfcheck.specs.RuleMarks.{AreMarksFor, AreNumbered, HaveBodyNeeds, IsNumbered};
 ghost use Rattle.abnfcheck.specs.RuleMarks.{IsTestOf, Yields, need_if, need_of_id, need_of_repeat};
 
 use crate::aim::Aim;
@@ -237,14 +237,5 @@ pub(crate) fn rule_marks(
     let needs = rule_needs(alloc, aim, rules)?;
     let borrowed = borrowed_needs(alloc, &needs)?;
     let marks = least(alloc, &borrowed)?;
-    Ok(marks)
-}
-
-/// Returns marks of the rules that derive the empty string, by id. `Memory` if an allocation fails.
-pub(crate) fn rule_nulls(alloc: Global, rules: &RuleTable<Elem>) -> Result<Vec<bool>, Memory>
-    requires { rules.now.names ≡ NameCase.Fold }
-    ensures { IfOk result (λ marks. AreNullMarks (rules_of rules.now) marks.items) }
-{
-    let marks = rule_marks(alloc, Aim::Empty, rules)?;
     Ok(marks)
 }

@@ -1,13 +1,9 @@
 //! Sound grammars.
-ghost use Rattle.std.specs.Prelude.{◌≡◌, ◌↔◌, ◌<◌, ℕ, Bool, [], length, IfOk};
-ghost use Rattle.abnfread.specs.AbnfViews.{rules_of};
+ghost use Rattle.std.specs.Prelude.{◌≡◌};
 ghost use Rattle.abnfcheck.specs.AbnfGrammar.{IsSoundGrammar};
-ghost use Rattle.abnfcheck.specs.Derivable.{RuleDerives};
 
-use crate::rule_marks::rule_nulls;
 use abnfread::Elem;
-use ruletable::{Memory, RuleTable};
-use std::alloc::Global;
+use ruletable::RuleTable;
 use std::marker::Model;
 
 /// A grammar by which lines can be judged: the file's rules, then the core rules that it leaves alone, and the judged
@@ -16,13 +12,10 @@ use std::marker::Model;
 pub struct SoundAbnf {
     rules: RuleTable<Elem>,
     judged: usize,
-    nulls: Vec<bool>,
 }
 
 impl Model for SoundAbnf {
     ghost use Rattle.abnfcheck.specs.AbnfGrammar.{Grammar, IsSoundGrammar};
-    ghost use Rattle.abnfcheck.specs.RuleMarks.{AreNullMarks};
-    ghost use Rattle.abnfread.specs.AbnfViews.{rules_of};
     ghost use Rattle.abnfread.specs.contracts.elem.Elem as e;
     ghost use Rattle.std.specs.Coded.{codes};
 
@@ -32,26 +25,17 @@ impl Model for SoundAbnf {
 
     ghost view = { λ g. record { rules = g.rules; judged = g.judged } };
 
-    ghost invariant = { λ g. IsSoundGrammar (record { rules = g.rules; judged = g.judged })
-        × AreNullMarks (rules_of g.rules) g.nulls.items };
+    ghost invariant = { λ g. IsSoundGrammar (record { rules = g.rules; judged = g.judged }) };
 }
 
 impl SoundAbnf {
     /// Returns the grammar of these rules and that judged one.
-    ///
-    /// # Errors
-    /// `Memory` if an allocation fails; the rules are dropped then.
-    pub fn new(alloc: Global, rules: RuleTable<Elem>, judged: usize) -> Result<SoundAbnf, Memory>
+    pub fn new(rules: RuleTable<Elem>, judged: usize) -> SoundAbnf
         requires { IsSoundGrammar (record { rules = rules; judged = judged }) }
-        ensures rules { IfOk result (λ g. g.rules ≡ rules) }
-        ensures judged { IfOk result (λ g. g.judged ≡ judged) }
+        ensures rules { result.rules ≡ rules }
+        ensures judged { result.judged ≡ judged }
     {
-        let nulls = rule_nulls(alloc, &rules)?;
-        Ok(SoundAbnf {
-            rules,
-            judged,
-            nulls,
-        })
+        SoundAbnf { rules, judged }
     }
 
     /// Returns the file's rules, then the core rules that it leaves alone.
@@ -67,17 +51,5 @@ impl SoundAbnf {
         ensures sound { IsSoundGrammar self.now }
     {
         self.judged
-    }
-
-    /// Returns whether the rule with that id derives the empty string. There must be such a rule: each that can be
-    /// reached from the judged rule is there.
-    pub fn nullable(&self, id: usize) -> bool
-        requires { id < length self.now.rules.rules }
-        ensures { (has : ℕ → Bool) → (result ≡ Bool.true) ↔ RuleDerives has (rules_of self.now.rules) id [] }
-    {
-        match self.nulls.get(id) {
-            Some(null) => *null,
-            None => false,
-        }
     }
 }

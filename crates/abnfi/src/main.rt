@@ -1,10 +1,12 @@
 //! Judges the lines of its standard input by an ABNF grammar.
 #![tactic(auto)]
 
+mod command;
 mod run;
 
+use crate::command::Abnfi;
 use crate::run::abnfi_main;
-use cli::{abnfi_command, end_without_memory, start_program};
+use cli::{Program, end_without_memory, start_program};
 use feed::SourceOf;
 use std::io::BufReader;
 use std::process::ExitCode;
@@ -14,7 +16,7 @@ fn main(rt: HostRuntime) -> ExitCode {
         &rt,
         rt.stdout(),
         rt.stderr(),
-        |alloc| abnfi_command(alloc),
+        |alloc| Abnfi::command(alloc),
         |words, out, err| {
             // without a buffer each line would cost a system call
             let Ok(ahead) = BufReader::new(rt.alloc(), rt.stdin()) else {

@@ -1,17 +1,17 @@
 //! The run of the program.
 ghost use Rattle.std.specs.Prelude.{◌≡◌, ◌≢◌, [], false, map, string_bytes};
 ghost use Rattle.std.specs.Io.KnownBytes.{Keeps};
+ghost use Rattle.abnfi.specs.AbnfiCommand.{AsksAbnfi, IsAbnfiApp};
 ghost use Rattle.abnfrun.specs.AbnfAnswers.{AbnfStates};
 ghost use Rattle.clap.specs.Words.{fault_of, matches_of};
-ghost use Rattle.cli.specs.Command.{IsAppOf};
 ghost use Rattle.cli.specs.Jobs.{JobStates};
 ghost use Rattle.cli.specs.Parsing.{WordsState};
 ghost use Rattle.toolrun.specs.Right.{Comes};
 ghost use Rattle.toolrun.specs.Status.{code_of};
 ghost use Rattle.toolrun.specs.Stream.{no_input, passed};
 
-use abnfrun::AbnfLanguage;
-use cli::{Program, tool_main};
+use crate::command::Abnfi;
+use cli::tool_main;
 use feed::Source;
 use ruletable::Sink;
 use std::rt::Files;
@@ -33,14 +33,14 @@ pub(crate) fn abnfi_main<R: Files + AllocGlobal, I: Source, O: Sink, E: Sink>(
     requires reader_is_open { I.ended reader.old ≡ false }
     requires out_is_fresh { O.failed out.old ≡ false }
     requires err_is_fresh { E.failed err.old ≡ false }
-    ensures words { (app : _) × IsAppOf Program.Abnfi app × (fault_of app (map string_bytes words.now) ≢ [] →
+    ensures words { (app : _) × IsAbnfiApp app × (fault_of app (map string_bytes words.now) ≢ [] →
         Keeps (I.remaining reader.old) (I.remaining reader.new) ×
         Comes (WordsState (fault_of app (map string_bytes words.now))) no_input
         (passed O.contents O.failed out.old out.new) (passed E.contents E.failed err.old err.new) (code_of result)) }
-    ensures right { (app : _) × IsAppOf Program.Abnfi app × (fault_of app (map string_bytes words.now) ≡ [] →
-        Comes (JobStates AbnfStates (matches_of app (map string_bytes words.now)))
+    ensures right { (app : _) × IsAbnfiApp app × (fault_of app (map string_bytes words.now) ≡ [] →
+        Comes (JobStates AsksAbnfi AbnfStates (matches_of app (map string_bytes words.now)))
         (passed I.remaining I.failed reader.old reader.new) (passed O.contents O.failed out.old out.new)
         (passed E.contents E.failed err.old err.new) (code_of result)) }
 {
-    tool_main::<AbnfLanguage, R, I, O, E>(rt, Program::Abnfi, words, reader, out, err)
+    tool_main::<Abnfi, R, I, O, E>(rt, words, reader, out, err)
 }

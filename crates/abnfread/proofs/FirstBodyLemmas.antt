@@ -5,6 +5,7 @@ use Rattle.std.proofs.Common.{length, position, nat_lt, suc, ◌+◌, refl, sym,
 use Rattle.std.specs.List.{position_or_len}
 use Rattle.std.specs.Prelude.{slice_get}
 use Rattle.std.proofs.lemmas.Bool.Decides.{nat_tests}
+use Rattle.std.proofs.lemmas.List.{map-append}
 use Rattle.std.proofs.lemmas.List.Quantifiers.{position-Some}
 use Rattle.ruletable.specs.Rules as table
 use Rattle.ruletable.specs.Rules.{find_in, same_name}
@@ -12,10 +13,10 @@ use Rattle.ruletable.specs.declared.table.NameCase.TheVariants.{Fold}
 use Rattle.abnfread.specs.declared.elem.Elem.{Elem}
 use Rattle.abnfread.specs.declared.reader.Definition.{Definition as CodeDefinition}
 use Rattle.abnfread.specs.AbnfReader.{definition_from}
-use Rattle.abnfread.specs.AbnfTable.{with_alternatives, IsCoreTable, IsFirstBody}
+use Rattle.abnfread.specs.AbnfTable.{with_alternatives, IsBegun, IsCoreTable, IsFirstBody}
 use Rattle.abnfread.specs.CoreRules.{nowhere, core_list, core_bodies}
 use Rattle.abnfread.specs.Element.{Element, Elements, Prose, Rule, none, more, append, bodies, body_of}
-use Rattle.abnfread.specs.AbnfViews.{element_of, elements_of}
+use Rattle.abnfread.specs.AbnfViews.{element_of, elements_of, rule_of, rules_of}
 use Rattle.abnfread.proofs.AbnfMachineLemmas.{append_assoc}
 use Rattle.abnfread.proofs.CoreRuleLemmas.{found-in}
 use Rattle.abnfread.proofs.ElementListLemmas.{elements_of-push}
@@ -86,7 +87,7 @@ module _ (d : CodeDefinition) where
   abbrev early_by : Option Element → Bool
   early_by o = elim o [ None ↦ true | Some c ↦ false ]
 
-  pub first-plain : d.adds ≡ false → IsFirstBody (definition_from d) d.body false
+  first-plain : d.adds ≡ false → IsFirstBody (definition_from d) d.body false
   first-plain e = (
     sym (ap (λ (b : Bool). cond b (added_by (body_of core_list name_of)) (element_of d.body)) e),
     sym (ap (λ (b : Bool). b && early_by (body_of core_list name_of)) e),
@@ -110,6 +111,21 @@ module _ (d : CodeDefinition) where
   pub first-new : (core : table.Rules Elem) → IsCoreTable core → d.adds ≡ true → find_in core name_of ≡ None
       → IsFirstBody (definition_from d) d.body true
   first-new core k a h = first-by None d.body true a (core-body core name_of None k h) refl refl
+
+  -- a definition by `=` begins its rule with its body
+  pub begun-plain : (old new : table.Rules Elem) → d.adds ≡ false → new ≡ record {
+    names = old.names;
+    rules = old.rules ++ record { name = name_of; body = d.body; span = d.span } ∷ [];
+  } → IsBegun (definition_from d) old new false
+  begun-plain old new a is =
+      let plain = first-plain a in
+      record {
+        names = ap (λ (t : table.Rules Elem). t.names) is;
+        rules = ap rules_of is
+            ∙ map-append rule_of old.rules (record { name = name_of; body = d.body; span = d.span } ∷ [])
+            ∙ ap (λ (e : Element). rules_of old ++ record { name = name_of; body = e; span = d.span } ∷ []) plain.0;
+        is = plain.1;
+      }
 
 -- one alternative more
 pub one-joined : (all new rest left : List Elem) (e : Elem) (whole : Elements)

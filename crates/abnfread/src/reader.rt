@@ -143,6 +143,9 @@ pub(crate) fn alternation(mut alternatives: Vec<Elem>) -> Elem
 fn finished(mut alternatives: Vec<Elem>, parts: Vec<Elem>) -> Result<Elem, AllocError>
     ensures { IfOk result (λ e. element_of e ≡ finish (elements_of alternatives.items) (elements_of parts.items)) }
 {
+    if alternatives.is_empty() {
+        return Ok(concatenation(parts));
+    }
     alternatives.push(concatenation(parts))?;
     Ok(alternation(alternatives))
 }

@@ -1,5 +1,5 @@
 //! The table of a file's definitions.
-ghost use Rattle.std.specs.Prelude.{◌≡◌, ◌<◌, length, slice_get, None, Some, IfOk};
+ghost use Rattle.std.specs.Prelude.{◌≡◌, ◌<◌, true, false, length, slice_get, None, Some, IfOk};
 ghost use Rattle.ruletable.specs.Rules.{bodies_of, find_in};
 ghost use Rattle.ruletable.specs.declared.table.NameCase.TheVariants.{Fold};
 ghost use Rattle.abnfread.specs.AbnfReader.{definition_from, definitions_from};
@@ -10,7 +10,7 @@ ghost use Rattle.abnfread.specs.AbnfViews.{element_of, elements_of};
 use crate::appendix::{core_body, core_rules};
 use crate::elem::Elem;
 use crate::reader::{Definition, alternation};
-use ruletable::{Memory, NameCase, RuleTable};
+use ruletable::{Defined, Memory, NameCase, RuleTable};
 use std::alloc::Global;
 use std::mem;
 
@@ -75,19 +75,17 @@ fn extend(alloc: Global, rules: &mut RuleTable<Elem>, id: usize, body: Elem) -> 
     Ok(())
 }
 
-// Returns the body with which a definition begins a rule, after that of the core rule which it extends, and whether it
-// extends what no core rule defines.
+// Returns the body with which a definition that adds alternatives begins a rule, after that of the core rule which it
+// extends, and whether no core rule has the name.
 fn first_body(
     alloc: Global,
     core: &RuleTable<Elem>,
     definition: Definition<'_>,
 ) -> Result<(Elem, bool), Memory>
-    requires { IsCoreTable core.now }
+    requires core { IsCoreTable core.now }
+    requires adds { definition.adds ≡ true }
     ensures { IfOk result (λ r. IsFirstBody (definition_from definition.entry) r.0 r.1) }
 {
-    if !definition.adds {
-        return Ok((definition.body, false));
-    }
     match core.find(definition.name)? {
         Some(id) => {
             let body = join(alloc, core_body(alloc, id)?, definition.body)?;
@@ -97,7 +95,7 @@ fn first_body(
     }
 }
 
-// Adds the rule of a definition, and returns whether it extends what no core rule defines.
+// Adds the rule of a definition that adds alternatives, and returns whether it extends what no core rule defines.
 fn begin_rule(
     alloc: Global,
     core: &RuleTable<Elem>,
@@ -105,6 +103,7 @@ fn begin_rule(
     definition: Definition<'_>,
 ) -> Result<bool, Memory>
     requires core { IsCoreTable core.now }
+    requires adds { definition.adds ≡ true }
     requires is_new { find_in rules.old definition.name.now ≡ None }
     ensures begun { IfOk result (λ early. IsBegun (definition_from definition.entry) rules.old rules.new early) }
     ensures names { rules.new.names ≡ rules.old.names }
@@ -116,6 +115,45 @@ fn begin_rule(
     Ok(early)
 }
 
+// Takes one definition by `=/` more. After an error the tables are of no use.
+fn take_addition(alloc: Global, abnf: &mut Abnf, definition: Definition<'_>) -> Result<(), Memory>
+    requires core { IsCoreTable abnf.old.core }
+    requires adds { definition.adds ≡ true }
+    ensures taken { IfOk result (λ _. TakesDefinition (definition_from definition.entry) abnf.old.rules
+        abnf.old.redefined.items abnf.old.extended.items abnf.new.rules abnf.new.redefined.items
+        abnf.new.extended.items) }
+    ensures core { abnf.new.core ≡ abnf.old.core }
+{
+    let next = abnf.rules.len();
+    match abnf.rules.find(definition.name)? {
+        Some(id) => extend(alloc, &mut abnf.rules, id, definition.body)?,
+        None => {
+            if begin_rule(alloc, &abnf.core, &mut abnf.rules, definition)? {
+                abnf.extended.push(next)?;
+            }
+        }
+    }
+    Ok(())
+}
+
+// Takes one definition by `=` more. After an error the tables are of no use.
+fn take_new(abnf: &mut Abnf, definition: Definition<'_>) -> Result<(), Memory>
+    requires { definition.adds ≡ false }
+    ensures taken { IfOk result (λ _. TakesDefinition (definition_from definition.entry) abnf.old.rules
+        abnf.old.redefined.items abnf.old.extended.items abnf.new.rules abnf.new.redefined.items
+        abnf.new.extended.items) }
+    ensures core { abnf.new.core ≡ abnf.old.core }
+{
+    match abnf
+        .rules
+        .define(definition.name, definition.body, definition.span)?
+    {
+        Defined::Added(_) => {}
+        Defined::Duplicate(id) => abnf.redefined.push(id)?,
+    }
+    Ok(())
+}
+
 // Takes one definition more. After an error the tables are of no use.
 fn take_definition(alloc: Global, abnf: &mut Abnf, definition: Definition<'_>) -> Result<(), Memory>
     requires { IsCoreTable abnf.old.core }
@@ -124,22 +162,11 @@ fn take_definition(alloc: Global, abnf: &mut Abnf, definition: Definition<'_>) -
         abnf.new.extended.items) }
     ensures core { abnf.new.core ≡ abnf.old.core }
 {
-    let next = abnf.rules.len();
-    match abnf.rules.find(definition.name)? {
-        Some(id) => {
-            if definition.adds {
-                extend(alloc, &mut abnf.rules, id, definition.body)?;
-            } else {
-                abnf.redefined.push(id)?;
-            }
-        }
-        None => {
-            if begin_rule(alloc, &abnf.core, &mut abnf.rules, definition)? {
-                abnf.extended.push(next)?;
-            }
-        }
+    if definition.adds {
+        take_addition(alloc, abnf, definition)
+    } else {
+        take_new(abnf, definition)
     }
-    Ok(())
 }
 
 /// Returns the table of these definitions.

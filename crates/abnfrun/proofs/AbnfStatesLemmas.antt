@@ -31,14 +31,14 @@ use Rattle.toolrun.specs.Input.{Input}
 use Rattle.toolrun.specs.Explained.{Explained, IsLongReply}
 use Rattle.toolrun.specs.Reply.{Reply, refusal, unexplained_fault}
 use Rattle.toolrun.specs.RunSteps as steps
-use Rattle.toolrun.specs.declared.settings.Settings.{Settings}
+use Rattle.abnfrun.specs.AbnfSettings.{AbnfSettings}
 use Rattle.toolrun.proofs.OneStatementLemmas.{Stated, one_stated, one-explained, is_noted, is_checked, is_run}
 use Rattle.toolrun.proofs.OneStatementLemmas.{is_again, is_printed}
 use Rattle.toolrun.proofs.ToldNotesLemmas.{hinted-one, told-one}
 use Rattle.toolrun.specs.ToldNotes.{HintedNotes, ToldNotes, WhyNoted}
 
 -- each line has one answer
-abbrev AnswersAreOne : Settings → Type 0
+abbrev AnswersAreOne : AbnfSettings → Type 0
 AnswersAreOne settings = (rules : List Rule) (judged : ℕ) (line : List ℕ) (a b : Answer)
     → AnswersFor rules judged settings line a → AnswersFor rules judged settings line b → a ≡ b
 
@@ -65,10 +65,10 @@ NotesAreOne = (text : List ℕ) (start : Option (List ℕ)) (note : Said) (a b :
 
 -- the hints on a text are one text
 abbrev HintsAreOne : Type 0
-HintsAreOne = (text : List ℕ) (settings : Settings) (a b : List ℕ) → AreTextHints text settings a
+HintsAreOne = (text : List ℕ) (settings : AbnfSettings) (a b : List ℕ) → AreTextHints text settings a
     → AreTextHints text settings b → a ≡ b
 
-module _ (settings : Settings) (input : Input) where
+module _ (settings : AbnfSettings) (input : Input) where
   -- what a run of these definitions states
   abbrev RunOf : List Definition → Reply → Type 0
   RunOf definitions = JudgeReply (all_rules definitions) (judged_of definitions (rule_given settings)) settings input
@@ -79,7 +79,7 @@ module _ (settings : Settings) (input : Input) where
       let rules = all_rules definitions in
       let judged = judged_of definitions (rule_given settings) in
       one_lines_reply (AnswersFor rules judged settings) (one rules judged) (form_of settings) input settings.explain
-      (RefusalFor rules judged settings) (refusal settings.letters rules judged) a b g h
+      (RefusalFor rules judged settings) (refusal settings.options.letters rules judged) a b g h
   one_run one refusal definitions a b (steps.unexplained plain replies told tells lack) h m n = absurd (m refl)
   one_run one refusal definitions a b (steps.cut_short point out told reply before tells replies front) h m n =
       absurd (m refl)
@@ -152,13 +152,13 @@ module _ (settings : Settings) (input : Input) where
 
 -- one list of notes and one reply
 pub one_statement : ExplanationsAreOne → NotesAreOne → HintsAreOne → TextIsOne → FurthestIsOne → RefusalsAreOne
-    → (text : List ℕ) (settings : Settings) (input : Input) (notes others : List ℕ) (a b : Reply) →
+    → (text : List ℕ) (settings : AbnfSettings) (input : Input) (notes others : List ℕ) (a b : Reply) →
     AbnfStates text settings input notes a → AbnfStates text settings input others b → a.status ≢ 5 → b.status ≢ 5
     → (notes ≡ others) × (a ≡ b)
 one_statement explained told hints one furthest refusal text settings input notes others a b g h m n =
     one_of_text settings input text explained told hints
-    (λ rules judged line. one_answer one furthest settings.letters rules judged line
-    settings.viable) refusal notes others a b (parts_of_states settings input text notes a g m)
+    (λ rules judged line. one_answer one furthest settings.options.letters rules judged line
+    settings.options.viable) refusal notes others a b (parts_of_states settings input text notes a g m)
     (parts_of_states settings input text others b h n) m n
 
 -- what spells definitions is not too long
@@ -166,7 +166,7 @@ long-unread : {text : List ℕ} {definitions : List Definition} → IsFaultOf te
 long-unread long r = let within = r.size in omega arith
 
 -- a text that is too long is told so, whatever memory does
-pub long_is_told : (text : List ℕ) (settings : Settings) (input : Input) (notes : List ℕ) (reply : Reply)
+pub long_is_told : (text : List ℕ) (settings : AbnfSettings) (input : Input) (notes : List ℕ) (reply : Reply)
     → IsFaultOf text TooLong → AbnfStates text settings input notes reply
     → (notes ≡ []) × IsLongReply settings (Explains text TooLong) reply
 long_is_told text settings input notes reply long (refused fault why f other told) =

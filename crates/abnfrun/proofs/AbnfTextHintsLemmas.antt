@@ -22,7 +22,7 @@ use Rattle.abnfhints.specs.declared.line_end.LineEnd.{LineEnd}
 use Rattle.abnfprint.specs.AbnfReadBack.{file_rules}
 use Rattle.abnfrun.specs.AbnfNoted.{all_rules, judged_of, rule_given}
 use Rattle.abnfrun.specs.AbnfTextHints.{AreTextHints, end_for, id_of_rule}
-use Rattle.toolrun.specs.declared.settings.Settings.{Settings}
+use Rattle.abnfrun.specs.AbnfSettings.{AbnfSettings}
 use Rattle.abnfrun.proofs.AllRulesLemmas.{some_rules}
 
 -- a text reads as one list of definitions
@@ -35,15 +35,18 @@ HintsOnRulesAreOne = (alphabet : ℕ → Bool) (rules : List Rule) (count : ℕ)
     (text a b : List ℕ) → AreAbnfHints alphabet rules count judged end text a
     → AreAbnfHints alphabet rules count judged end text b → a ≡ b
 
-pub text_hints_are_one : ReadingsAreOne → HintsOnRulesAreOne → (text : List ℕ) (settings : Settings) (a b : List ℕ)
+pub text_hints_are_one : ReadingsAreOne → HintsOnRulesAreOne → (text : List ℕ) (settings : AbnfSettings) (a b : List ℕ)
     → AreTextHints text settings a → AreTextHints text settings b → a ≡ b
 text_hints_are_one reading one text settings a b g h =
     let same : h.definitions ≡ g.definitions = reading text h.definitions g.definitions h.reads g.reads in
-    one (has settings.letters) (all_rules g.definitions) (length (file_rules g.definitions))
-    (id_of_rule (all_rules g.definitions) (judged_of g.definitions (rule_given settings))) (end_for settings.nul) text
+    one (has settings.options.letters) (all_rules g.definitions) (length (file_rules g.definitions))
+    (id_of_rule (all_rules g.definitions) (judged_of g.definitions (rule_given settings)))
+    (end_for settings.options.nul) text
     a b g.are_hints
-    (subst (λ (ds : List Definition). AreAbnfHints (has settings.letters) (all_rules ds) (length (file_rules ds))
-    (id_of_rule (all_rules ds) (judged_of ds (rule_given settings))) (end_for settings.nul) text b) same h.are_hints)
+    (subst (λ (ds : List Definition). AreAbnfHints (has settings.options.letters) (all_rules ds) (length
+    (file_rules ds))
+    (id_of_rule (all_rules ds) (judged_of ds (rule_given settings)))
+    (end_for settings.options.nul) text b) same h.are_hints)
 
 -- a name finds the rule that has its id
 id_counted : (rules : List Rule) (name : List ℕ)
@@ -81,11 +84,12 @@ judged_first rules given none some =
     by false h = absurd (h refl)
 
 -- hints on the rules of a text
-pub text_hints : (text : List ℕ) (settings : Settings) (definitions : List Definition) (rules : List Rule) (count : ℕ)
+pub text_hints : (text : List ℕ) (settings : AbnfSettings) (definitions : List Definition) (rules : List Rule)
+    (count : ℕ)
     (judged : Option ℕ) (end : LineEnd) (hints : List ℕ) → Reads text definitions → rules ≡ all_rules definitions
     → count ≡ length (file_rules definitions)
     → (0 < length rules → judged ≡ id_of_rule rules (judged_in (rule_given settings) rules))
-    → end ≡ end_for settings.nul → AreAbnfHints (has settings.letters) rules count judged end text hints
+    → end ≡ end_for settings.options.nul → AreAbnfHints (has settings.options.letters) rules count judged end text hints
     → AreTextHints text settings hints
 text_hints text settings definitions rules count judged end hints reads all counted is ends are =
     let some = subst (λ (rs : List Rule). 0 < length rs) (sym all) (some_rules definitions) in

@@ -30,7 +30,7 @@ use Rattle.toolrun.specs.RunSteps.{replied_told}
 use Rattle.toolrun.specs.Status.{code_of}
 use Rattle.toolrun.specs.ToldNotes.{HintedNotes}
 use Rattle.toolrun.specs.declared.settings.Mode.TheVariants.{Run}
-use Rattle.toolrun.specs.declared.settings.Settings.{Settings}
+use Rattle.abnfrun.specs.AbnfSettings.{AbnfSettings}
 use Rattle.toolrun.specs.declared.stop.Stop.TheVariants.{Quiet}
 
 -- of one refused line no more are told
@@ -107,7 +107,7 @@ module _ (Told : List ℕ → Answer → Type 0) (asked : Bool) (Refusal : List 
       }
 
 -- a text that was checked, and whose grammar is refused
-pub refused_is_opened : (text : List ℕ) (settings : Settings) (notes : List Said) (sound : Option Grammar)
+pub refused_is_opened : (text : List ℕ) (settings : AbnfSettings) (notes : List Said) (sound : Option Grammar)
     → IsChecked text (rule_given settings) notes sound → sound ≡ None → IsOpened text settings notes None
 refused_is_opened text settings notes sound is refused = record {
   definitions = is.definitions;
@@ -117,12 +117,12 @@ refused_is_opened text settings notes sound is refused = record {
 }
 
 -- a text that was checked, and what judges lines by its grammar
-pub judge_is_opened : (text : List ℕ) (settings : Settings) (notes : List Said) (sound : Option Grammar)
+pub judge_is_opened : (text : List ℕ) (settings : AbnfSettings) (notes : List Said) (sound : Option Grammar)
     (grammar : Grammar) (judge : OpenJudge) → IsChecked text (rule_given settings) notes sound → sound ≡ Some grammar
     → judge ≡ record {
       grammar = grammar;
-      letters = settings.letters;
-      viable = settings.viable;
+      letters = settings.options.letters;
+      viable = settings.options.viable;
       limit = settings.limit;
     } → IsOpened text settings notes (Some judge)
 judge_is_opened text settings notes sound grammar judge is some made =
@@ -135,7 +135,7 @@ judge_is_opened text settings notes sound grammar judge is some made =
     })
 
 -- the answer of an open grammar to a line is what a run of its text states for that line alone
-pub open_states : (text line : List ℕ) (settings : Settings) (notes : List Said) (told : List ℕ) (judge : OpenJudge)
+pub open_states : (text line : List ℕ) (settings : AbnfSettings) (notes : List Said) (told : List ℕ) (judge : OpenJudge)
     (said : Answer) (why : List ℕ) → settings.mode ≡ Run → IsOpened text settings notes (Some judge)
     → HintedNotes settings (ExplainsAbnfNote text) (AreTextHints text settings) notes told
     → HasNoEnd (form_of settings).end line

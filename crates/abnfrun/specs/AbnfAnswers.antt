@@ -16,11 +16,11 @@ use Rattle.toolrun.specs.Input.{Input}
 use Rattle.toolrun.specs.Reply.{Reply, notes_alone, refusal, unexplained_fault, without_memory}
 use Rattle.toolrun.specs.ToldNotes.{CutNotes, HintedNotes, ToldNotes}
 use Rattle.toolrun.specs.declared.settings.Mode.TheVariants.{Run, Check, Print}
-use Rattle.toolrun.specs.declared.settings.Settings.{Settings}
+use Rattle.abnfrun.specs.AbnfSettings.{AbnfSettings}
 
 -- what is stated for a grammar's text and an input: the notes, each explained and with hints after them if that is
 -- asked, and what follows them
-pub data AbnfStates (text : List ℕ) (settings : Settings) (input : Input) : List ℕ → Reply → Type 0 where
+pub data AbnfStates (text : List ℕ) (settings : AbnfSettings) (input : Input) : List ℕ → Reply → Type 0 where
   -- the text has a fault, which is reported, and explained if that is asked
   refused : (fault : ReadFault) (why : List ℕ) → IsFaultOf text fault → fault ≢ Memory
       → Explained settings (Explains text fault) why → AbnfStates text settings input [] (refusal fault why)

@@ -9,7 +9,7 @@ use Rattle.abnfread.specs.Element.{Rule, Definition, body_of}
 use Rattle.abnfcheck.specs.AbnfNotes.{Those, AreNotes, IsRefused, judged_in}
 use Rattle.abnfcheck.specs.WithCore.{with_core}
 use Rattle.abnfprint.specs.AbnfReadBack.{file_rules}
-use Rattle.toolrun.specs.declared.settings.Settings.{Settings}
+use Rattle.abnfrun.specs.AbnfSettings.{AbnfSettings}
 
 -- the file's rules, then those core rules whose names it does not have (RFC 5234, appendix B.1)
 abbrev pub all_rules : List Definition → List Rule
@@ -45,5 +45,5 @@ abbrev pub AreAgain : List Definition → List Said → Type 0
 AreAgain definitions notes = AreRedefinitions (file_rules definitions) (again_in definitions) notes
 
 -- the name that is given for the judged rule
-abbrev pub rule_given : Settings → Option (List ℕ)
+abbrev pub rule_given : AbnfSettings → Option (List ℕ)
 rule_given settings = option_copied settings.start

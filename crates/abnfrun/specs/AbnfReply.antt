@@ -16,7 +16,7 @@ use Rattle.linejudge.specs.declared.answers.Answer.TheVariants.{Yes, No, NoAfter
 use Rattle.refusedlines.specs.Refusals.{IsRefusalTold}
 use Rattle.toolrun.specs.Input.{Input}
 use Rattle.toolrun.specs.Reply.{Reply, text_alone}
-use Rattle.toolrun.specs.declared.settings.Settings.{Settings}
+use Rattle.abnfrun.specs.AbnfSettings.{AbnfSettings}
 
 -- the canonical text of these rules is written, and nothing is taken
 abbrev pub printed_rules : List Rule → Reply
@@ -49,24 +49,24 @@ IsAnswerTo letters viable rules judged line (NoAfter n) = (viable ≡ true) × (
     × Reaches letters rules judged line n
 
 -- the answers to lines that settings ask for
-abbrev pub AnswersFor : List Rule → ℕ → Settings → List ℕ → Answer → Type 0
-AnswersFor rules judged settings = IsAnswerTo settings.letters settings.viable rules judged
+abbrev pub AnswersFor : List Rule → ℕ → AbnfSettings → List ℕ → Answer → Type 0
+AnswersFor rules judged settings = IsAnswerTo settings.options.letters settings.options.viable rules judged
 
 -- how settings cut an input into lines: at LF, or at NUL if they ask for it
-abbrev pub form_of : Settings → LineForm
-form_of settings = record { limit = settings.limit; end = cond settings.nul 0 (code "\n") }
+abbrev pub form_of : AbnfSettings → LineForm
+form_of settings = record { limit = settings.limit; end = cond settings.options.nul 0 (code "\n") }
 
 -- what explains a rejected line of that number
-abbrev pub RefusalFor : List Rule → ℕ → Settings → List ℕ → ℕ → List ℕ → Type 0
-RefusalFor rules judged settings = IsRefusalTold settings.letters rules judged
+abbrev pub RefusalFor : List Rule → ℕ → AbnfSettings → List ℕ → ℕ → List ℕ → Type 0
+RefusalFor rules judged settings = IsRefusalTold settings.options.letters rules judged
 
 -- each line of the input is judged by that rule, and the first rejected ones are explained if that is asked; no
 -- allocation fails
-abbrev pub JudgeReplies : List Rule → ℕ → Settings → Input → Reply → Type 0
+abbrev pub JudgeReplies : List Rule → ℕ → AbnfSettings → Input → Reply → Type 0
 JudgeReplies rules judged settings input reply = LinesReply (AnswersFor rules judged settings) settings.explain
     (RefusalFor rules judged settings) (form_of settings) input reply
 
 -- so it is, or the first lines are if an allocation fails
-abbrev pub JudgeReply : List Rule → ℕ → Settings → Input → Reply → Type 0
+abbrev pub JudgeReply : List Rule → ℕ → AbnfSettings → Input → Reply → Type 0
 JudgeReply rules judged settings input reply = LinesStates (AnswersFor rules judged settings) settings.explain
     (RefusalFor rules judged settings) (form_of settings) input reply

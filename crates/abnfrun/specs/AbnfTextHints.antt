@@ -8,7 +8,7 @@ use Rattle.abnfhints.specs.declared.line_end.LineEnd.{LineEnd}
 use Rattle.abnfhints.specs.declared.line_end.LineEnd.TheVariants.{Lf, Nul}
 use Rattle.abnfprint.specs.AbnfReadBack.{file_rules}
 use Rattle.abnfrun.specs.AbnfNoted.{all_rules, judged_of, rule_given}
-use Rattle.toolrun.specs.declared.settings.Settings.{Settings}
+use Rattle.abnfrun.specs.AbnfSettings.{AbnfSettings}
 
 -- an id, if a rule has it
 abbrev pub id_of_rule : List Rule → ℕ → Option ℕ
@@ -19,9 +19,9 @@ abbrev pub end_for : Bool → LineEnd
 end_for nul = cond nul Nul Lf
 
 -- the hints on the grammar of a text: on its rules for the letters and the ends of lines that settings ask for
-pub record AreTextHints (text : List ℕ) (settings : Settings) (hints : List ℕ) : Type 0 where
+pub record AreTextHints (text : List ℕ) (settings : AbnfSettings) (hints : List ℕ) : Type 0 where
   pub definitions : List Definition
   pub reads : Reads text definitions
-  pub are_hints : AreAbnfHints (has settings.letters) (all_rules definitions) (length (file_rules definitions))
-      (id_of_rule (all_rules definitions) (judged_of definitions (rule_given settings))) (end_for settings.nul)
+  pub are_hints : AreAbnfHints (has settings.options.letters) (all_rules definitions) (length (file_rules definitions))
+      (id_of_rule (all_rules definitions) (judged_of definitions (rule_given settings))) (end_for settings.options.nul)
       text hints

@@ -3,6 +3,7 @@ pub mod AbnfExplainedNotes
 pub mod AbnfLanguage
 pub mod AbnfNoted
 pub mod AbnfReply
+pub mod AbnfSettings
 pub mod AbnfTextHints
 pub mod LetterAnswers
 pub mod OpenAbnf

@@ -14,18 +14,19 @@ use Rattle.ruletable.specs.Notes.{Said}
 use Rattle.toolrun.specs.Input.{Input}
 use Rattle.toolrun.specs.Reply.{Reply}
 use Rattle.toolrun.specs.Status.{code_of}
-use Rattle.toolrun.specs.declared.settings.Settings.{Settings}
+use Rattle.abnfrun.specs.AbnfSettings.{AbnfSettings}
 
 -- lines are judged by the rules of these definitions, the core rules after them, as settings ask
-pub record IsJudgeOf (definitions : List Definition) (settings : Settings) (judge : OpenJudge) : Type 0 where
+pub record IsJudgeOf (definitions : List Definition) (settings : AbnfSettings) (judge : OpenJudge) : Type 0 where
   pub rules : rules_of judge.grammar.rules ≡ all_rules definitions
   pub judged : judge.grammar.judged ≡ judged_of definitions (rule_given settings)
-  pub letters : judge.letters ≡ settings.letters
-  pub viable : judge.viable ≡ settings.viable
+  pub letters : judge.letters ≡ settings.options.letters
+  pub viable : judge.viable ≡ settings.options.viable
   pub limit : judge.limit ≡ settings.limit
 
 -- The text is a grammar with these notes, which reject it; or lines are judged by it.
-pub record IsOpened (text : List ℕ) (settings : Settings) (notes : List Said) (judge : Option OpenJudge) : Type 0 where
+pub record IsOpened (text : List ℕ) (settings : AbnfSettings) (notes : List Said)
+    (judge : Option OpenJudge) : Type 0 where
   pub definitions : List Definition
   pub reads : Reads text definitions
   pub are_notes : AreNotesOn definitions (rule_given settings) notes
@@ -33,17 +34,17 @@ pub record IsOpened (text : List ℕ) (settings : Settings) (notes : List Said) 
       (λ j. (IsRefusedFor definitions (rule_given settings) → ⊥) × IsJudgeOf definitions settings j)
 
 -- the input that is one line with its end
-abbrev pub line_alone : Settings → List ℕ → Input
+abbrev pub line_alone : AbnfSettings → List ℕ → Input
 line_alone settings line = record { bytes = line ++ (form_of settings).end ∷ []; fault = false }
 
 -- the explanation of the line with that answer, if it is rejected and explanations are asked for
-abbrev pub TellsAlone : OpenJudge → Settings → List ℕ → Answer → List ℕ → Type 0
+abbrev pub TellsAlone : OpenJudge → AbnfSettings → List ℕ → Answer → List ℕ → Type 0
 TellsAlone judge settings = TellsLine
     (IsAnswerTo judge.letters judge.viable (rules_of judge.grammar.rules) judge.grammar.judged) settings.explain
     (IsRefusalTold judge.letters (rules_of judge.grammar.rules) judge.grammar.judged) at_front
 
 -- the reply to the input that is one line: its answer, and its explanation
-abbrev pub answer_alone : Settings → List ℕ → Answer → List ℕ → Reply
+abbrev pub answer_alone : AbnfSettings → List ℕ → Answer → List ℕ → Reply
 answer_alone settings line said told = record {
   out = answer_text said;
   err = told;

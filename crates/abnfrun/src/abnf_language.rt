@@ -1,5 +1,5 @@
 //! The language of ABNF, whose grammars judge the lines of an input.
-ghost use Rattle.std.specs.Prelude.{IfOk, map};
+ghost use Rattle.std.specs.Prelude.{IfOk, Some, map};
 ghost use Rattle.ruletable.specs.Notes.{said_of};
 ghost use Rattle.abnfexplain.specs.AbnfExplained.{Explains};
 ghost use Rattle.abnfread.specs.AbnfReading.{IsFaultOf};
@@ -14,17 +14,19 @@ ghost use Rattle.abnfrun.specs.AbnfReply.{JudgeReply};
 
 use crate::abnf_places::AbnfPlaces;
 use crate::hints::hints_of;
-use crate::line_judge::{judge_lines, lines_have_answers};
+use crate::line_judge::{LineJudge, Work, explainer_of, line_form, lines_have_answers, lowered};
 use crate::note_places::{explain_reached, note_places};
+use crate::options::{AbnfOptions, AbnfSettings};
 use abnfcheck::{SoundAbnf, check_abnf};
 use abnfexplain::explain_abnf_fault;
 use abnfprint::print_abnf;
 use abnfread::{Abnf, read_abnf};
 use feed::Source;
+use linejudge::run_lines;
 use rulenames::{marks_at, note_marked};
 use ruletable::{Memory, Note, NoteKind, ReadFault, Sink, WriteFault};
 use std::alloc::Global;
-use toolrun::{Checked, Ending, Language, Settings};
+use toolrun::{Checked, Ending, Language, Stop};
 
 /// Returns the notes on the rules that a grammar defines again, alone, by the order of the rules.
 fn redefined_in(alloc: Global, abnf: &Abnf) -> Result<Vec<Note>, Memory>
@@ -41,7 +43,11 @@ fn redefined_in(alloc: Global, abnf: &Abnf) -> Result<Vec<Note>, Memory>
 pub struct AbnfLanguage;
 
 impl Language for AbnfLanguage {
+    type Options = AbnfOptions;
+
     type Grammar = Abnf;
+
+    type Judged = SoundAbnf;
 
     type Sound = SoundAbnf;
 
@@ -62,6 +68,8 @@ impl Language for AbnfLanguage {
     ghost is_read = { λ text abnf. IsReadAs text abnf.rules abnf.core abnf.redefined.items abnf.extended.items };
 
     ghost is_checked = { IsChecked };
+
+    ghost is_ready = { λ text start notes abnf. IsChecked text start notes (Some abnf) };
 
     ghost is_printable = { λ text abnf again. IsPrintable text (rules_of abnf.rules) again };
 
@@ -93,7 +101,7 @@ impl Language for AbnfLanguage {
     fn hints(
         alloc: Global,
         places: &AbnfPlaces,
-        settings: &Settings<'_>,
+        settings: &AbnfSettings<'_>,
     ) -> Result<Vec<u8>, Memory> {
         hints_of(alloc, places, settings)
     }
@@ -104,7 +112,14 @@ impl Language for AbnfLanguage {
         start: Option<&str>,
     ) -> Result<Checked<SoundAbnf>, Memory> {
         let abnfcheck::Checked { notes, sound } = check_abnf(alloc, grammar, start)?;
-        Ok(Checked { notes, sound })
+        Ok(Checked {
+            notes,
+            judged: sound,
+        })
+    }
+
+    fn ready(_alloc: Global, judged: SoundAbnf) -> Result<SoundAbnf, Memory> {
+        Ok(judged)
     }
 
     fn redefinitions(alloc: Global, grammar: &Abnf) -> Result<Vec<Note>, Memory> {
@@ -118,11 +133,27 @@ impl Language for AbnfLanguage {
     fn run<R: Source, O: Sink>(
         alloc: Global,
         grammar: &SoundAbnf,
-        settings: &Settings<'_>,
+        settings: &AbnfSettings<'_>,
         reader: &mut R,
         out: &mut O,
     ) -> Result<Ending, WriteFault> {
-        judge_lines(alloc, grammar, settings, reader, out)
+        lines_have_answers();
+        let Ok(flat) = lowered(alloc, grammar, settings) else {
+            return Ok(Ending::Plain(Stop::NoMemory));
+        };
+        let Ok(explainer) = explainer_of(alloc, grammar, settings) else {
+            return Ok(Ending::Plain(Stop::NoMemory));
+        };
+        let mut work = Work::new(alloc, &flat);
+        let explainer = explainer.as_ref();
+        let judge = LineJudge {
+            grammar,
+            letters: settings.options.letters,
+            viable: settings.options.viable,
+            flat: &flat,
+            explainer,
+        };
+        run_lines(alloc, &judge, &mut work, line_form(settings), reader, out)
     }
 
     fn follows() {

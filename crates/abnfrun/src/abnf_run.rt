@@ -6,10 +6,11 @@ ghost use Rattle.toolrun.specs.Right.{IsRight};
 ghost use Rattle.toolrun.specs.Status.{code_of};
 
 use crate::abnf_language::AbnfLanguage;
+use crate::options::AbnfSettings;
 use feed::Source;
 use ruletable::Sink;
 use std::alloc::Global;
-use toolrun::{Settings, Status, run_tool};
+use toolrun::{Status, run_tool};
 
 /// Judges the lines that a reader gives by a grammar: writes the answer to each on `out`, and why it stopped on `err`.
 /// All three must be fresh, and the reader must not have given its end.
@@ -51,7 +52,7 @@ use toolrun::{Settings, Status, run_tool};
 pub fn run_abnf<R: Source, O: Sink, E: Sink>(
     alloc: Global,
     grammar: &[u8],
-    settings: &Settings<'_>,
+    settings: &AbnfSettings<'_>,
     reader: &mut R,
     out: &mut O,
     err: &mut E,

@@ -6,11 +6,11 @@ ghost use Rattle.abnfrun.specs.AbnfExplainedNotes.{AreNotePlaces};
 ghost use Rattle.abnfrun.specs.AbnfTextHints.{AreTextHints, end_for, id_of_rule};
 
 use crate::abnf_places::AbnfPlaces;
+use crate::options::AbnfSettings;
 use abnfhints::{Hinted, LineEnd, abnf_hints};
 use abnfread::Elem;
 use ruletable::{Memory, NameCase, RuleTable};
 use std::alloc::Global;
-use toolrun::Settings;
 
 // Returns the id of the judged rule, if there is one. `Memory` if an allocation fails.
 fn judged_rule(rules: &RuleTable<Elem>, start: Option<&str>) -> Result<Option<usize>, Memory>
@@ -35,7 +35,7 @@ fn line_end(nul: bool) -> LineEnd
 pub(crate) fn hints_of(
     alloc: Global,
     places: &AbnfPlaces,
-    settings: &Settings<'_>,
+    settings: &AbnfSettings<'_>,
 ) -> Result<Vec<u8>, Memory>
     ensures { IfOk result (λ told. (text : List ℕ) → AreNotePlaces text (option_copied settings.now.start) places.now
         → AreTextHints text settings.now told.items) }
@@ -46,8 +46,8 @@ pub(crate) fn hints_of(
         rules: &places.rules,
         count: places.count,
         judged,
-        letters: settings.letters,
-        end: line_end(settings.nul),
+        letters: settings.options.letters,
+        end: line_end(settings.options.nul),
     };
     let hints = abnf_hints(alloc, &hinted)?;
     Ok(hints)

@@ -9,7 +9,7 @@ ghost use Rattle.abnfrun.specs.AbnfReply.{JudgeReplies};
 ghost use Rattle.toolrun.specs.Input.{Input};
 ghost use Rattle.toolrun.specs.Explained.{IsLongReply};
 ghost use Rattle.toolrun.specs.Reply.{Reply};
-ghost use Rattle.toolrun.specs.declared.settings.Settings.{Settings};
+ghost use Rattle.abnfrun.specs.AbnfSettings.{AbnfSettings};
 
 use abnfcheck::{furthest_is_found, one_name_chain};
 use abnfexplain::{one_explanation_of_abnf, one_note_explanation_of_abnf};
@@ -20,7 +20,7 @@ use refusedlines::refusal_is_one;
 
 /// A list of rules, a judged rule and settings have at most one reply to an input.
 pub fn one_reply_of_abnf()
-    ensures { (rules : List Rule) (judged : ℕ) (settings : Settings) (input : Input) (a b : Reply) →
+    ensures { (rules : List Rule) (judged : ℕ) (settings : AbnfSettings) (input : Input) (a b : Reply) →
         JudgeReplies rules judged settings input a → JudgeReplies rules judged settings input b → a ≡ b }
 {
     furthest_is_found();
@@ -37,10 +37,10 @@ pub fn one_statement_of_abnf()
         IsFaultOf text fault → fault ≢ ReadFault.Memory → Reads text definitions → ⊥ }
     ensures one_fault { (text : List ℕ) (a b : ReadFault) →
         IsFaultOf text a → IsFaultOf text b → a ≢ ReadFault.Memory → b ≢ ReadFault.Memory → a ≡ b }
-    ensures whole { (text : List ℕ) (settings : Settings) (input : Input) (notes others : List ℕ) (a b : Reply) →
+    ensures whole { (text : List ℕ) (settings : AbnfSettings) (input : Input) (notes others : List ℕ) (a b : Reply) →
         AbnfStates text settings input notes a → AbnfStates text settings input others b → a.status ≢ 5 → b.status ≢ 5 →
         (notes ≡ others) × (a ≡ b) }
-    ensures long { (text : List ℕ) (settings : Settings) (input : Input) (notes : List ℕ) (reply : Reply) →
+    ensures long { (text : List ℕ) (settings : AbnfSettings) (input : Input) (notes : List ℕ) (reply : Reply) →
         IsFaultOf text ReadFault.TooLong → AbnfStates text settings input notes reply →
         (notes ≡ []) × IsLongReply settings (Explains text ReadFault.TooLong) reply }
 {

@@ -11,15 +11,16 @@ mod line_judge;
 mod note_places;
 mod open_law;
 mod opened;
+mod options;
 
 pub use abnf_language::AbnfLanguage;
 pub use abnf_places::AbnfPlaces;
 pub use abnf_run::run_abnf;
 pub use feed::{Broken, Source, SourceOf};
 pub use laws::{one_reply_of_abnf, one_statement_of_abnf};
+pub use letters::Alphabet;
 pub use linejudge::Answer;
 pub use open_law::answers_as_a_run;
 pub use opened::{AbnfJudge, OpenedAbnf, open_abnf};
-pub use toolrun::{
-    Alphabet, DEFAULT_LIMIT, MAX_LIMIT, Mode, Settings, Status, Stop, close_run, end_run,
-};
+pub use options::{AbnfOptions, AbnfSettings};
+pub use toolrun::{DEFAULT_LIMIT, MAX_LIMIT, Mode, Settings, Status, Stop, close_run, end_run};

@@ -2,7 +2,7 @@
 ghost use Rattle.std.specs.Prelude.{◌≡◌, ◌≤◌, ◌+◌, ℕ, Bool, List, false, true, length, map, IfOk, IfSome, is_some};
 ghost use Rattle.abnfread.specs.Element.{Rule};
 ghost use Rattle.abnfread.specs.AbnfViews.{rules_of};
-ghost use Rattle.abnfrun.specs.AbnfReply.{IsAnswerTo, JudgeReply, form_of};
+ghost use Rattle.abnfrun.specs.AbnfReply.{IsAnswerTo, form_of};
 ghost use Rattle.abnfrun.specs.OpenJudge.{ExplainsLines};
 ghost use Rattle.abnfrun.specs.LetterAnswers.{IsAnswerOn, torn};
 ghost use Rattle.lowering.specs.Lowered.{IsLowered};
@@ -11,23 +11,20 @@ ghost use Rattle.letters.specs.Letters.{has};
 ghost use Rattle.letters.specs.Utf8Text.{IsText};
 ghost use Rattle.linejudge.specs.declared.answers.Answer.{Answer};
 ghost use Rattle.refusedlines.specs.Refusals.{IsRefusalTold};
-ghost use Rattle.toolrun.specs.Stopped.{Fulfils};
-ghost use Rattle.toolrun.specs.Stream.{passed};
 
 use crate::engines::Engines;
+use crate::options::AbnfSettings;
 use abnfcheck::{SoundAbnf, derivation_is_decided, furthest_is_found};
 use earley::Chart;
-use feed::Source;
 use flatgrammar::{Flat, Verdict};
 use lazydfa::Automaton;
 use letters::{Alphabet, CodePoint, Letter, decode, utf8_is_decided, utf8_len};
-use linejudge::{Answer, Judge, LineForm, run_lines};
+use linejudge::{Answer, Judge, LineForm};
 use lowering::{items_tell, lower, values_are_letters};
 use prune::lower_viable;
 use refusedlines::{Explainer, RefusedLine, explain_refused};
-use ruletable::{Memory, Sink, WriteFault};
+use ruletable::Memory;
 use std::alloc::Global;
-use toolrun::{Ending, Settings, Stop};
 
 /// Answers lines by a grammar: whether its judged rule derives them, and the length of their longest viable prefix if
 /// that is asked for. It explains rejected lines by the flat grammar for lines of one letter more, if there is one.
@@ -104,19 +101,6 @@ fn judge_letters<L: Letter>(
     if yes { Ok(Answer::Yes) } else { Ok(Answer::No) }
 }
 
-/// Returns the answer to a line of bytes. `Memory` if an allocation fails.
-fn judge_bytes(judges: &LineJudge<'_>, work: &mut Work, line: &[u8]) -> Result<Answer, Memory>
-    requires letters { judges.now.letters ≡ Alphabet.Bytes }
-    requires within { length line.now ≤ judges.now.flat.now.limit }
-    requires flat { IfSome work.old.engines.automaton (λ a. a ≡ judges.now.flat.now) }
-    ensures flat { IfSome work.new.engines.automaton (λ a. a ≡ judges.now.flat.now) }
-    ensures answer { IfOk result (IsAnswerTo Alphabet.Bytes judges.now.viable (rules_of judges.now.grammar.now.rules)
-        judges.now.grammar.now.judged line.now) }
-{
-    let said = judge_letters(judges, &mut work.engines, line)?;
-    Ok(said)
-}
-
 /// Returns the answer to a line by the answer to its longest prefix that is UTF-8, of so many letters, where that is
 /// not the whole line.
 fn torn_by(said: Answer, count: usize) -> Answer
@@ -158,12 +142,10 @@ fn judge_points(judges: &LineJudge<'_>, work: &mut Work, line: &[u8]) -> Result<
     utf8_is_decided();
     let is_text = decode(line, &mut work.points)?;
     if is_text {
-        let said = judge_letters(judges, &mut work.engines, work.points.as_slice())?;
-        return Ok(said);
+        return judge_letters(judges, &mut work.engines, work.points.as_slice());
     }
     if judges.viable {
-        let said = judge_torn(judges, work, line)?;
-        return Ok(said);
+        return judge_torn(judges, work, line);
     }
     Ok(Answer::No)
 }
@@ -214,7 +196,7 @@ impl Judge<Work> for LineJudge<'_> {
 
     fn judge(&self, work: &mut Work, line: &[u8]) -> Result<Answer, Memory> {
         match self.letters {
-            Alphabet::Bytes => judge_bytes(self, work, line),
+            Alphabet::Bytes => judge_letters(self, &mut work.engines, line),
             Alphabet::Utf8 => judge_points(self, work, line),
         }
     }
@@ -247,33 +229,33 @@ impl Judge<Work> for LineJudge<'_> {
 pub(crate) fn lowered(
     alloc: Global,
     grammar: &SoundAbnf,
-    settings: &Settings<'_>,
+    settings: &AbnfSettings<'_>,
 ) -> Result<Flat, Memory>
     ensures limit { IfOk result (λ flat. flat.limit ≡ settings.now.limit) }
-    ensures lowered { IfOk result (λ flat. settings.now.viable ≡ false →
+    ensures lowered { IfOk result (λ flat. settings.now.options.viable ≡ false →
         IsLowered (rules_of grammar.now.rules) grammar.now.judged flat) }
-    ensures tells { IfOk result (λ flat. settings.now.viable ≡ true →
-        TellsBeginnings (has settings.now.letters) (rules_of grammar.now.rules) grammar.now.judged flat) }
+    ensures tells { IfOk result (λ flat. settings.now.options.viable ≡ true →
+        TellsBeginnings (has settings.now.options.letters) (rules_of grammar.now.rules) grammar.now.judged flat) }
 {
-    if settings.viable {
-        return lower_viable(alloc, grammar, settings.letters, settings.limit);
+    if settings.options.viable {
+        return lower_viable(alloc, grammar, settings.options.letters, settings.limit);
     }
     lower(alloc, grammar, settings.limit)
 }
 
 /// Lowers a grammar for lines of one letter more than settings allow, by which rejected lines are explained, if
 /// settings ask for that. `Memory` if an allocation fails.
-fn explainer_of(
+pub(crate) fn explainer_of(
     alloc: Global,
     grammar: &SoundAbnf,
-    settings: &Settings<'_>,
+    settings: &AbnfSettings<'_>,
 ) -> Result<Option<Flat>, Memory>
     ensures asked { IfOk result (λ made. is_some made ≡ settings.now.explain) }
     ensures explains { IfOk result (λ made. IfSome made (ExplainsLines (rules_of grammar.now.rules)
-        grammar.now.judged settings.now.letters settings.now.limit)) }
+        grammar.now.judged settings.now.options.letters settings.now.limit)) }
 {
     if settings.explain {
-        let more = lower_viable(alloc, grammar, settings.letters, settings.limit + 1)?;
+        let more = lower_viable(alloc, grammar, settings.options.letters, settings.limit + 1)?;
         return Ok(Some(more));
     }
     Ok(None)
@@ -290,46 +272,11 @@ fn automaton_of(alloc: Global, flat: &Flat) -> Option<Automaton>
 }
 
 /// Returns how settings cut an input into lines.
-fn line_form(settings: &Settings<'_>) -> LineForm
+pub(crate) fn line_form(settings: &AbnfSettings<'_>) -> LineForm
     ensures { result ≡ form_of settings.now }
 {
     LineForm {
         limit: settings.limit,
-        end: if settings.nul { 0 } else { b'\n' },
+        end: if settings.options.nul { 0 } else { b'\n' },
     }
-}
-
-/// Judges the lines of what a reader gives by a grammar, and writes the answer to each: `yes`, `no`, or `no` and a
-/// number. If settings ask for that, the ending has the explanations of the first rejected lines.
-pub fn judge_lines<R: Source, O: Sink>(
-    alloc: Global,
-    grammar: &SoundAbnf,
-    settings: &Settings<'_>,
-    reader: &mut R,
-    out: &mut O,
-) -> Result<Ending, WriteFault>
-    requires reader_is_fresh { R.failed reader.old ≡ false }
-    requires reader_is_open { R.ended reader.old ≡ false }
-    requires out_is_fresh { O.failed out.old ≡ false }
-    ensures { Fulfils (JudgeReply (rules_of grammar.now.rules) grammar.now.judged settings.now)
-        (passed R.remaining R.failed reader.old reader.new) (passed O.contents O.failed out.old out.new) result }
-{
-    lines_have_answers();
-    let Ok(flat) = lowered(alloc, grammar, settings) else {
-        return Ok(Ending::Plain(Stop::NoMemory));
-    };
-    let Ok(explainer) = explainer_of(alloc, grammar, settings) else {
-        return Ok(Ending::Plain(Stop::NoMemory));
-    };
-    let mut work = Work::new(alloc, &flat);
-    let explainer = explainer.as_ref();
-    let judge = LineJudge {
-        grammar,
-        letters: settings.letters,
-        viable: settings.viable,
-        flat: &flat,
-        explainer,
-    };
-    let form = line_form(settings);
-    run_lines(alloc, &judge, &mut work, form, reader, out)
 }

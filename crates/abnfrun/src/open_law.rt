@@ -12,12 +12,12 @@ ghost use Rattle.linejudge.specs.declared.answers.Answer.{Answer};
 ghost use Rattle.ruletable.specs.Notes.{Said};
 ghost use Rattle.toolrun.specs.ToldNotes.{HintedNotes};
 ghost use Rattle.toolrun.specs.declared.settings.Mode.TheVariants.{Run};
-ghost use Rattle.toolrun.specs.declared.settings.Settings.{Settings};
+ghost use Rattle.abnfrun.specs.AbnfSettings.{AbnfSettings};
 
 /// Returns nothing. Its contract is a law: the answer of an open grammar to a line is what a run of its text states for
 /// that line alone, after its notes and hints, with the explanation of a rejected line if that is asked.
 pub fn answers_as_a_run()
-    ensures { (text line : List ℕ) (settings : Settings) (notes : List Said) (told : List ℕ) (judge : OpenJudge)
+    ensures { (text line : List ℕ) (settings : AbnfSettings) (notes : List Said) (told : List ℕ) (judge : OpenJudge)
         (said : Answer) (why : List ℕ) → settings.mode ≡ Run → IsOpened text settings notes (Some judge) →
         HintedNotes settings (ExplainsAbnfNote text) (AreTextHints text settings) notes told →
         HasNoEnd (form_of settings).end line →

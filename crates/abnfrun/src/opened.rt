@@ -1,23 +1,22 @@
 //! A grammar in ABNF that is read once, and judges lines as often as asked.
-ghost use Rattle.std.specs.Prelude.{◌≡◌, ◌≤◌, length, map, option_copied, IfErr, IfOk};
+ghost use Rattle.std.specs.Prelude.{◌≡◌, ◌≤◌, length, map, IfErr, IfOk};
 ghost use Rattle.abnfread.specs.AbnfReading.{IsFaultOf};
 ghost use Rattle.abnfread.specs.AbnfViews.{rules_of};
-ghost use Rattle.abnfrun.specs.AbnfLanguage.{IsChecked};
 ghost use Rattle.abnfrun.specs.AbnfReply.{IsAnswerTo};
 ghost use Rattle.abnfrun.specs.OpenAbnf.{IsOpened};
 ghost use Rattle.ruletable.specs.Notes.{said_of};
 
 use crate::abnf_language::AbnfLanguage;
 use crate::line_judge::{LineJudge, Work, lowered};
+use crate::options::AbnfSettings;
 use abnfcheck::SoundAbnf;
-use abnfread::read_abnf;
 use flatgrammar::Flat;
 use letters::Alphabet;
 use linejudge::{Answer, Judge};
 use ruletable::{Memory, Note, ReadFault};
 use std::alloc::Global;
 use std::marker::Model;
-use toolrun::{Checked, Language, Settings};
+use toolrun::{Checked, open};
 
 /// A grammar that judges lines, with what settings ask of it. It keeps what it found out of the lines before.
 #[derive(Drop)]
@@ -78,29 +77,16 @@ pub struct OpenedAbnf {
     pub judge: Option<AbnfJudge>,
 }
 
-/// Reads a grammar's text, and checks it.
-fn checked_text(
-    alloc: Global,
-    text: &[u8],
-    start: Option<&str>,
-) -> Result<Checked<SoundAbnf>, ReadFault>
-    ensures checked { IfOk result (λ c. IsChecked text.now (option_copied start.entry) (map said_of c.notes.items)
-        c.sound) }
-    ensures fault { IfErr result (λ f. IsFaultOf text.now f) }
-{
-    let grammar = read_abnf(alloc, text)?;
-    match AbnfLanguage::check(alloc, grammar, start) {
-        Ok(checked) => Ok(checked),
-        Err(Memory) => Err(ReadFault::Memory),
-    }
-}
-
 /// Returns what judges lines by a grammar as settings ask. `Memory` if an allocation fails.
-fn judge_by(alloc: Global, grammar: SoundAbnf, settings: &Settings<'_>) -> Result<AbnfJudge, Memory>
+fn judge_by(
+    alloc: Global,
+    grammar: SoundAbnf,
+    settings: &AbnfSettings<'_>,
+) -> Result<AbnfJudge, Memory>
     ensures { IfOk result (λ j. j ≡ record {
       grammar = grammar;
-      letters = settings.now.letters;
-      viable = settings.now.viable;
+      letters = settings.now.options.letters;
+      viable = settings.now.options.viable;
       limit = settings.now.limit;
     }) }
 {
@@ -108,8 +94,8 @@ fn judge_by(alloc: Global, grammar: SoundAbnf, settings: &Settings<'_>) -> Resul
     let work = Work::new(alloc, &flat);
     Ok(AbnfJudge {
         grammar,
-        letters: settings.letters,
-        viable: settings.viable,
+        letters: settings.options.letters,
+        viable: settings.options.viable,
         flat,
         work,
     })
@@ -121,13 +107,13 @@ fn judge_by(alloc: Global, grammar: SoundAbnf, settings: &Settings<'_>) -> Resul
 pub fn open_abnf(
     alloc: Global,
     text: &[u8],
-    settings: &Settings<'_>,
+    settings: &AbnfSettings<'_>,
 ) -> Result<OpenedAbnf, ReadFault>
     ensures opened { IfOk result (λ o. IsOpened text.now settings.now (map said_of o.notes.items) o.judge) }
     ensures fault { IfErr result (λ f. IsFaultOf text.now f) }
 {
-    let Checked { notes, sound } = checked_text(alloc, text, settings.start)?;
-    let Some(grammar) = sound else {
+    let Checked { notes, judged } = open::<AbnfLanguage>(alloc, text, settings.start)?;
+    let Some(grammar) = judged else {
         return Ok(OpenedAbnf { notes, judge: None });
     };
     match judge_by(alloc, grammar, settings) {

@@ -23,3 +23,5 @@ pub mod LineEndLemmas
 pub mod LinkedTextLemmas
 pub mod LinkedTokenLemmas
 pub mod MovedWordLemmas
+pub mod AddNumberLemmas
+pub mod ListNamesLemmas

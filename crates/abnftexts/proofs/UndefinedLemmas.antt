@@ -2,9 +2,10 @@
 -- Serves: join_texts
 use Rattle.std.proofs.Common.{◌≡◌, ℕ, suc, ◌+◌, ◌<◌, ◌≤◌, Bool, true, false, List, [], ◌∷◌, ◌++◌, length, get_or, map}
 use Rattle.std.proofs.Common.{take, drop, refl, sym, ap, ◌∙◌, arith, append_assoc, append-nil, subst, Option}
-use Rattle.std.proofs.Common.{Some, None, cond, not, ◌||◌, nat_lt}
+use Rattle.std.proofs.Common.{Some, None, cond, not, ◌||◌, ◌&&◌, ◌==◌, nat_lt, if◌then◌else◌, Vec, Global}
 use Rattle.std.proofs.Math.Seq.{drop-cons}
-use Rattle.std.proofs.lemmas.List.{at_drop_all, get_or-map, length-map, take-map}
+use Rattle.std.proofs.lemmas.List.{at_drop_all, get_or-map, length-map, map-append, take-map, take_more}
+use Rattle.std.proofs.lemmas.List.Folds.{list_any-append}
 use Rattle.std.proofs.lemmas.Bool.Decides.{nat_tests}
 use Rattle.std.specs.List.{enumerate_from, flat_map, list_any, position_or_len}
 use Rattle.std.specs.Option.{is_some}
@@ -22,12 +23,18 @@ use Rattle.abnfread.specs.Element.{Rule}
 use Rattle.abnfread.specs.declared.elem.Elem.{Elem}
 use Rattle.abnfexplain.specs.AbnfNoteLines.{AreAbnfPlaces}
 use Rattle.abnfblocks.specs.TextBlocks.{block_text}
-use Rattle.abnftexts.specs.GivenRules.{RuleGiven}
+use Rattle.diagnostics.specs.NumberLists.{numbers_for}
+use Rattle.abnftexts.specs.GivenRules.{RuleGiven, text_rule}
 use Rattle.abnftexts.specs.JoinedGrammar.{ordered_rules}
-use Rattle.abnftexts.specs.CodeUses.{AddsUses, name_used}
+use Rattle.abnftexts.specs.CodeUses.{AddsUses, ListKnown, ListsMore, name_used, unknown_told}
+use Rattle.abnftexts.specs.ListedRules.{ListNames, has_list, has_some, is_listed_for}
 use Rattle.abnftexts.specs.RulesGathered.{RuleLines}
-use Rattle.abnftexts.specs.UsedNames.{AreNameUses, UsedName, next_uses, no_rules, undefined_told, use_told, used_at}
+use Rattle.abnftexts.specs.UsedNames.{AreNameUses, UsedName, next_uses, no_rules, undefined_line, undefined_told}
+use Rattle.abnftexts.specs.UsedNames.{use_told, used_at}
+use Rattle.abnftexts.specs.declared.join.by_name.Listed.TheVariants as kinds
+use Rattle.abnftexts.specs.declared.join.given.GivenRule.{GivenRule}
 use Rattle.abnftexts.specs.declared.uses.NameUse.{NameUse}
+use Rattle.abnftexts.proofs.ListNamesLemmas.{any-listed}
 use Rattle.abnftexts.proofs.RulesTakenLemmas.{one-behind}
 
 -- what the uses from that number on report
@@ -100,6 +107,86 @@ core-any name core found is e =
     (e ∙ ap (λ (c : NameCase). position (λ rule. same_name c name rule.name) core.rules) is.names)
     ∙ found-some (λ rule. same_name Fold name rule.name) core.rules ∙ any-named name core.rules
     ∙ ap (λ (rules : List Rule). list_any (same_name Fold name) (map (λ rule. rule.name) rules)) is.listed
+
+-- one name more in lists
+some-both : (a b : List ℕ) → has_some (a ++ b) ≡ (has_some a || has_some b)
+some-both [] b = refl
+some-both (n ∷ a) b = refl
+
+some-if : (t : Bool) (n : ℕ) → has_some (if t then n ∷ [] else []) ≡ t
+some-if true n = refl
+some-if false n = refl
+
+pub none-listed : (numbers : List ℕ) → (length numbers == 0) ≡ not (has_some numbers)
+none-listed [] = refl
+none-listed (n ∷ ns) = grind (arith, nat_tests)
+
+pub name-listed : (old new : table.Rules (Vec ℕ Global)) (name : List ℕ) (n : ℕ) → old.names ≡ Fold
+    → new.names ≡ old.names → ((other : List ℕ) → numbers_for new other
+    ≡ numbers_for old other ++ (if same_name old.names other name then n ∷ [] else [])) → ListsMore name old new
+name-listed old new name n folds same more = (
+  same ∙ folds,
+  λ other. ap has_some (more other)
+      ∙ some-both (numbers_for old other) (if same_name old.names other name then n ∷ [] else [])
+      ∙ ap (λ (t : Bool). has_list old other || t)
+      (some-if (same_name old.names other name) n ∙ ap (λ (c : NameCase). same_name c other name) folds),
+)
+
+or-moved : (g b c : Bool) → not ((g || b) || c) ≡ (not (g || c) && not b)
+or-moved true b c = refl
+or-moved false true true = refl
+or-moved false true false = refl
+or-moved false false true = refl
+or-moved false false false = refl
+
+or-more : (g b t : Bool) → ((g || b) || t) ≡ (g || (b || t))
+or-more true b t = refl
+or-more false b t = refl
+
+or-none : (t : Bool) → (t || false) ≡ t
+or-none true = refl
+or-none false = refl
+
+-- what is listed nowhere is neither that of a rule nor that of a use before
+pub known-told : (rules : List RuleGiven) (before : List UsedName) (names : table.Rules (Vec ℕ Global)) (u : UsedName)
+    → ListKnown rules before names → unknown_told names u ≡ use_told rules before u
+known-told rules before names u known =
+    let given = list_any (λ rule. same_name Fold u.name rule.name) rules in
+    let used = list_any (λ other. same_name Fold u.name other.name) before in
+    let core = list_any (same_name Fold u.name) core_names in
+    ap (λ (t : Bool). if t then undefined_line u else [])
+    (ap (λ (t : Bool). not (t || core)) (known.1 u.name) ∙ or-moved given used core)
+
+pub known-none : (rules : List GivenRule) (names : table.Rules (Vec ℕ Global)) → ListNames kinds.Rules rules names
+    → ListKnown (map text_rule rules) [] names
+known-none rules names listed = (
+  listed.0,
+  λ name. any-listed (is_listed_for kinds.Rules) rules name (numbers_for names name) (listed.1 name)
+      ∙ sym (or-none (list_any (λ rule. same_name Fold name rule.name) (map text_rule rules))),
+)
+
+pub known-more : (rules : List RuleGiven) (uses : List NameUse) (n : ℕ) (x : NameUse)
+    (old new : table.Rules (Vec ℕ Global)) → n < length uses → x ≡ get_or uses n x
+    → ListKnown rules (map name_used (take n uses)) old → ListsMore x.name.items old new
+    → ListKnown rules (map name_used (take (n + 1) uses)) new
+known-more rules uses n x old new lt e known more =
+    let front : map name_used (take (n + 1) uses) ≡ map name_used (take n uses) ++ name_used x ∷ [] =
+    ap (map name_used) (take_more uses n x lt ∙ ap (λ (u : NameUse). take n uses ++ u ∷ []) (sym e))
+    ∙ map-append name_used (take n uses) (x ∷ []) in (
+      more.0,
+      λ name.
+          let given = list_any (λ rule. same_name Fold name rule.name) rules in
+          let used = λ (us : List UsedName). list_any (λ u. same_name Fold name u.name) us in
+          more.1 name
+          ∙ ap (λ (t : Bool). t || same_name Fold name x.name.items) (known.1 name)
+          ∙ or-more given (used (map name_used (take n uses))) (same_name Fold name x.name.items)
+          ∙ ap (λ (t : Bool). given || (used (map name_used (take n uses)) || t))
+          (sym (or-none (same_name Fold name x.name.items)))
+          ∙ ap (λ (t : Bool). given || t)
+          (sym (list_any-append (λ (u : UsedName). same_name Fold name u.name) (map name_used (take n uses))
+          (name_used x ∷ [])))
+          ∙ ap (λ (us : List UsedName). given || used us) (sym front),
+    )
 
 -- the uses of a rule
 pub uses-added : (place : RuleLines) (text : List ℕ) (places : Places) (mentions : List MentionedAt)

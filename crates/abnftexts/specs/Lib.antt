@@ -8,6 +8,8 @@ pub mod TakenRules
 pub mod TextPlaces
 pub mod TextRules
 pub mod UsedNames
+pub mod ListedRules
+pub mod RuleKeys
 pub mod GivenRules
 pub mod JoinedRules
 pub mod LinkedTexts

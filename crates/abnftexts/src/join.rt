@@ -1,14 +1,17 @@
 //! What becomes of the rules that several texts give: which are the same, which yield to others, and in what order they
 //! are printed.
 
+mod by_name;
 mod fate;
 mod given;
+mod key;
 mod leaves;
 mod linked;
 mod only_prose;
 mod order;
 mod same;
 
+pub(crate) use by_name::{Listed, add_number, numbers_by_name, numbers_of};
 pub use fate::{Fate, find_fates};
 pub use given::GivenRule;
 pub use linked::linked_reading;

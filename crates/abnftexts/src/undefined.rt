@@ -1,40 +1,21 @@
 //! Names that are used and not defined.
-ghost use Rattle.std.specs.Prelude.{◌≡◌, ◌++◌, ◌≤◌, length, map, IfOk, OnOk};
+ghost use Rattle.std.specs.Prelude.{◌≡◌, ◌++◌, map, not, IfOk, OnOk};
 ghost use Rattle.std.specs.List.{list_any};
 ghost use Rattle.ruletable.specs.Rules.{same_name};
 ghost use Rattle.ruletable.specs.declared.table.NameCase.TheVariants.{Fold};
 ghost use Rattle.abnfread.specs.AbnfTable.{IsCoreTable};
 ghost use Rattle.abnfread.specs.CoreRules.{core_names};
 ghost use Rattle.abnftexts.specs.GivenRules.{text_rule};
-ghost use Rattle.abnftexts.specs.CodeUses.{name_used};
-ghost use Rattle.abnftexts.specs.UsedNames.{is_known_name, tells_undefined, undefined_line, undefined_told};
-ghost use Rattle.abnftexts.specs.UsedNames.{use_told};
+ghost use Rattle.abnftexts.specs.CodeUses.{ListsMore, is_unknown, name_used, unknown_told};
+ghost use Rattle.abnftexts.specs.ListedRules.{has_list};
+ghost use Rattle.abnftexts.specs.UsedNames.{undefined_line, undefined_told};
 
-use crate::join::GivenRule;
+use crate::join::{GivenRule, Listed, add_number, numbers_by_name, numbers_of};
 use crate::told::push_place;
 use crate::uses::NameUse;
 use abnfread::{Elem, core_rules};
 use ruletable::{Memory, RuleTable};
 use std::alloc::Global;
-
-// Whether two names are the same, in whatever case.
-fn is_same_name(a: &[u8], b: &[u8]) -> bool
-    ensures { result ≡ same_name Fold a.now b.now }
-{
-    a.eq_ignore_ascii_case(b)
-}
-
-// Whether some rule has the name.
-fn is_given(rules: &[GivenRule], name: &[u8]) -> bool
-    ensures { result ≡ list_any (λ rule. same_name Fold name.now rule.name) (map text_rule rules.now) }
-{
-    for rule in rules {
-        if is_same_name(name, &rule.name) {
-            return true;
-        }
-    }
-    false
-}
 
 // Whether a core rule has the name.
 fn is_core(core: &RuleTable<Elem>, name: &[u8]) -> Result<bool, Memory>
@@ -45,44 +26,35 @@ fn is_core(core: &RuleTable<Elem>, name: &[u8]) -> Result<bool, Memory>
     Ok(found.is_some())
 }
 
-// Whether the name is defined.
-fn is_known(core: &RuleTable<Elem>, rules: &[GivenRule], name: &[u8]) -> Result<bool, Memory>
-    requires { IsCoreTable core.now }
-    ensures { IfOk result (λ is. is ≡ is_known_name (map text_rule rules.now) name.now) }
+// Lists a name, and returns whether it was not listed before.
+fn is_first(alloc: Global, names: &mut RuleTable<Vec<usize>>, name: &[u8]) -> Result<bool, Memory>
+    requires { names.old.names ≡ Fold }
+    ensures first { IfOk result (λ is. is ≡ not (has_list names.old name.now)) }
+    ensures listed { OnOk result (ListsMore name.now names.old names.new) }
 {
-    if is_given(rules, name) {
-        return Ok(true);
-    }
-    is_core(core, name)
+    let numbers = numbers_of(names, name)?;
+    let is_new = numbers.is_empty();
+    add_number(alloc, names, name, 0)?;
+    Ok(is_new)
 }
 
-// Whether some use has the name.
-fn is_used(uses: &[NameUse<'_>], name: &[u8]) -> bool
-    ensures { result ≡ list_any (λ other. same_name Fold name.now other.name) (map name_used uses.now) }
-{
-    for other in uses {
-        if is_same_name(name, &other.name) {
-            return true;
-        }
-    }
-    false
-}
-
-// Returns whether a use reports that the name is not defined, where those stand before it.
+// Lists the name of a use, and returns whether the use reports that it is not defined: neither rules nor uses before
+// it have listed the name.
 fn is_told(
+    alloc: Global,
     core: &RuleTable<Elem>,
-    rules: &[GivenRule],
-    before: &[NameUse<'_>],
-    it: &NameUse<'_>,
+    names: &mut RuleTable<Vec<usize>>,
+    name: &[u8],
 ) -> Result<bool, Memory>
-    requires { IsCoreTable core.now }
-    ensures { IfOk result (λ is. is
-        ≡ tells_undefined (map text_rule rules.now) (map name_used before.now) (name_used it.now)) }
+    requires core { IsCoreTable core.now }
+    requires names { names.old.names ≡ Fold }
+    ensures told { IfOk result (λ is. is ≡ is_unknown names.old name.now) }
+    ensures listed { OnOk result (ListsMore name.now names.old names.new) }
 {
-    if is_known(core, rules, &it.name)? {
+    if !is_first(alloc, names, name)? {
         return Ok(false);
     }
-    Ok(!is_used(before, &it.name))
+    Ok(!is_core(core, name)?)
 }
 
 // Adds the line of a use whose name is not defined.
@@ -96,19 +68,20 @@ fn push_line(out: &mut Vec<u8>, it: &NameUse<'_>) -> Result<(), Memory>
     Ok(())
 }
 
-// Adds the report of a use, where those stand before it.
+// Adds the report of a use, and lists its name. Names of rules and of uses before it are listed.
 fn push_use_told(
+    alloc: Global,
     out: &mut Vec<u8>,
     core: &RuleTable<Elem>,
-    rules: &[GivenRule],
-    before: &[NameUse<'_>],
+    names: &mut RuleTable<Vec<usize>>,
     it: &NameUse<'_>,
 ) -> Result<(), Memory>
-    requires { IsCoreTable core.now }
-    ensures { OnOk result (out.new.items ≡ out.old.items
-        ++ use_told (map text_rule rules.now) (map name_used before.now) (name_used it.now)) }
+    requires core { IsCoreTable core.now }
+    requires names { names.old.names ≡ Fold }
+    ensures told { OnOk result (out.new.items ≡ out.old.items ++ unknown_told names.old (name_used it.now)) }
+    ensures listed { OnOk result (ListsMore it.now.name.items names.old names.new) }
 {
-    if is_told(core, rules, before, it)? {
+    if is_told(alloc, core, names, &it.name)? {
         push_line(out, it)?;
     }
     Ok(())
@@ -125,8 +98,9 @@ pub(crate) fn push_undefined(
         ≡ out.old.items ++ undefined_told (map text_rule rules.now) (map name_used uses.now)) }
 {
     let core = core_rules(alloc)?;
+    let mut names = numbers_by_name(alloc, Listed::Rules, rules)?;
     for number in 0..uses.len() {
-        push_use_told(out, &core, rules, &uses[..number], &uses[number])?;
+        push_use_told(alloc, out, &core, &mut names, &uses[number])?;
     }
     Ok(())
 }

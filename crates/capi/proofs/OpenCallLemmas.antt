@@ -24,7 +24,7 @@ pub open_is_some : {A : Type 0} (held : Option A) (is_open : Bool) → is_open �
 open_is_some None is_open right opened = absurd (cc)
 open_is_some (Some x) is_open right opened = refl
 
-module _ {HasFault : ReadFault → Type 0} {Why : ReadFault → List ℕ → Type 0} {settings : Settings} where
+module _ {HasFault : ReadFault → Type 0} {Why : ReadFault → List ℕ → Type 0} {O : Type 0} {settings : Settings O} where
   -- an allocation failed
   pub tells_nothing : (told : List ℕ) (status : Status) → told ≡ [] → status ≡ NoMemory
       → IsFaultTold HasFault Why settings told (code_of status)

@@ -15,7 +15,7 @@ use Rattle.toolrun.specs.Explained.{ExplainedIf}
 use Rattle.toolrun.specs.Input.{Input, bounded}
 use Rattle.toolrun.specs.Reply.{Reply}
 use Rattle.toolrun.specs.RunSteps.{cut_short, replied_told, unexplained}
-use Rattle.toolrun.specs.declared.settings.Settings.{Settings}
+use Rattle.pegrun.specs.PegSettings.{PegSettings}
 use Rattle.toolrun.specs.declared.stop.Stop.{Stop}
 use Rattle.toolrun.specs.declared.stop.Stop.TheVariants.{Quiet, NoMatch, LongUnit, LongLine, Broken, NoMemory, Refused}
 use Rattle.toolrun.specs.declared.stop.Stop.TheVariants.{Unreadable}
@@ -25,8 +25,9 @@ explained_so : (asked : Bool) (Why Other : List ℕ → Type 0) → ((why : List
 explained_so true Why Other f why is = f why is
 explained_so false Why Other f why is = is
 
-module _ (rules : List Rule) (start : ℕ) (a b : Settings) (input : Input) (limit : b.limit ≡ a.limit) (raw : b.raw ≡
-    a.raw) (explain : b.explain ≡ a.explain) where
+module _ (rules : List Rule) (start : ℕ) (a b : PegSettings) (input : Input) (limit : b.limit ≡ a.limit)
+    (raw : b.options.raw ≡
+    a.options.raw) (explain : b.explain ≡ a.explain) where
   taken_by : (s : ℕ) → taken_at a input s ≡ taken_at b input s
   taken_by s = rw limit refl
 
@@ -117,8 +118,8 @@ module _ (rules : List Rule) (start : ℕ) (a b : Settings) (input : Input) (lim
       cut_short point out told whole (units_by point out before) tells (plain_by whole r) begins
 
 -- so does what a run over memory gives
-pub planned_by_three : (rules : List Rule) (start : ℕ) (a b : Settings) → b.limit ≡ a.limit → b.raw ≡ a.raw
-    → b.explain ≡ a.explain → {input out err : List ℕ} {code : ℕ}
+pub planned_by_three : (rules : List Rule) (start : ℕ) (a b : PegSettings) → b.limit ≡ a.limit
+    → b.options.raw ≡ a.options.raw → b.explain ≡ a.explain → {input out err : List ℕ} {code : ℕ}
     → IsPlannedRun (RunStates rules start a) input out err code
     → IsPlannedRun (RunStates rules start b) input out err code
 planned_by_three rules start a b limit raw explain {input} p = record {

@@ -1,10 +1,12 @@
 -- The settings that C asks for.
 use Rattle.std.specs.Prelude.{◌≡◌, ◌≢◌, ◌<◌, ◌==◌, ℕ, Bool, true, false, List, Option, Some, None, option_copied}
-use Rattle.std.specs.Prelude.{if◌then◌else◌}
+use Rattle.std.specs.Prelude.{if◌then◌else◌, IsSome}
 use Rattle.std.specs.Str.{IsUtf8}
+use Rattle.abnfrun.specs.declared.options.AbnfOptions.{AbnfOptions}
 use Rattle.capi.specs.declared.asked.CSettings.{CSettings}
 use Rattle.letters.specs.declared.alphabet.Alphabet.{Alphabet}
 use Rattle.letters.specs.declared.alphabet.Alphabet.TheVariants.{Bytes, Utf8}
+use Rattle.pegrun.specs.declared.options.PegOptions.{PegOptions}
 use Rattle.toolrun.specs.declared.settings.Mode.{Mode}
 use Rattle.toolrun.specs.declared.settings.Mode.TheVariants.{Run, Check, Print}
 use Rattle.toolrun.specs.declared.settings.Settings.{Settings}
@@ -26,17 +28,26 @@ abbrev pub name_by : Bool → List ℕ → Option (List ℕ)
 name_by true name = Some name
 name_by false name = None
 
--- C asks for these settings, by a struct of the size that this version knows
-pub record IsMeant (asked : CSettings) (name : List ℕ) (settings : Settings) : Type 0 where
+-- C asks for these options of the peg tool
+pub record PegMeant (asked : CSettings) (options : PegOptions) : Type 0 where
+  pub raw : options.raw ≡ asked.raw
+
+-- C asks for these options of the ABNF tool
+pub record AbnfMeant (asked : CSettings) (options : AbnfOptions) : Type 0 where
+  pub letters : alphabet_by asked.letters ≡ Some options.letters
+  pub viable : options.viable ≡ asked.viable
+  pub nul : options.nul ≡ asked.nul
+
+-- C asks for these settings, by a struct of the size that this version knows. AreMeant says which options it asks for.
+pub record IsMeant {O : Type 0} (AreMeant : CSettings → O → Type 0) (asked : CSettings) (name : List ℕ)
+    (settings : Settings O) : Type 0 where
   pub size : asked.size ≡ settings_size
   pub mode : mode_by asked.mode ≡ Some settings.mode
-  pub letters : alphabet_by asked.letters ≡ Some settings.letters
+  pub letters : IsSome (alphabet_by asked.letters)
   pub limit : settings.limit ≡ asked.limit
   pub start : option_copied settings.start ≡ name_by asked.named name
-  pub raw : settings.raw ≡ asked.raw
-  pub viable : settings.viable ≡ asked.viable
-  pub nul : settings.nul ≡ asked.nul
   pub explain : settings.explain ≡ asked.explain
+  pub options : AreMeant asked settings.options
 
 -- C asks for no settings: the struct has another size, a number is out of its range, or the name is not UTF-8
 pub data IsInvalid (asked : CSettings) (name : List ℕ) : Type 0 where

@@ -27,10 +27,11 @@ IsUntouched buffer = (buffer.new ≡ buffer.old) × (buffer.len ≡ 0)
 
 -- A run was made with the settings that C asks for, and as much of both outputs as there is room for was laid into the
 -- buffers; or C asks for no settings, and nothing was done.
-pub data IsBufferRun (States : Settings → Input → List ℕ → Reply → Type 0) (asked : CSettings) (name input : List ℕ)
+pub data IsBufferRun {O : Type 0} (AreMeant : CSettings → O → Type 0)
+    (States : Settings O → Input → List ℕ → Reply → Type 0) (asked : CSettings) (name input : List ℕ)
     (out err : Filled) (code : ℕ) : Type 0 where
-  ran : (settings : Settings) (printed told : List ℕ) → IsMeant asked name settings
+  ran : (settings : Settings O) (printed told : List ℕ) → IsMeant AreMeant asked name settings
       → IsMemoryRun (States settings) input printed told code
-      → IsLaid printed out → IsLaid told err → IsBufferRun States asked name input out err code
+      → IsLaid printed out → IsLaid told err → IsBufferRun AreMeant States asked name input out err code
   invalid : IsInvalid asked name → IsUntouched out → IsUntouched err → code ≡ 6
-      → IsBufferRun States asked name input out err code
+      → IsBufferRun AreMeant States asked name input out err code

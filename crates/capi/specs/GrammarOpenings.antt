@@ -3,6 +3,7 @@ use Rattle.std.specs.Prelude.{◌≡◌, ℕ, List, Option, Some, None}
 use Rattle.abnfexplain.specs.AbnfExplained.{Explains as ExplainsAbnf}
 use Rattle.abnfread.specs.AbnfReading.{IsFaultOf as IsAbnfFault}
 use Rattle.abnfrun.specs.AbnfExplainedNotes.{ExplainsAbnfNote}
+use Rattle.abnfrun.specs.AbnfSettings.{AbnfSettings}
 use Rattle.abnfrun.specs.AbnfTextHints.{AreTextHints}
 use Rattle.abnfrun.specs.OpenAbnf.{IsOpened}
 use Rattle.abnfrun.specs.OpenJudge.{OpenJudge}
@@ -13,27 +14,27 @@ use Rattle.pegexplain.specs.PegNotes.{ExplainsNote}
 use Rattle.pegexplain.specs.PegHints.{ArePegHints}
 use Rattle.pegread.specs.Reading.{IsFaultOf as IsPegFault}
 use Rattle.pegrun.specs.OpenPeg.{IsPegOpened}
+use Rattle.pegrun.specs.PegSettings.{PegSettings}
 use Rattle.ruletable.specs.Notes.{Said}
-use Rattle.toolrun.specs.declared.settings.Settings.{Settings}
 
 -- a grammar in ABNF is opened as what judges lines by it
-abbrev pub IsAbnfOpening : List ℕ → Settings → List ℕ → Option OpenJudge → ℕ → Type 0
+abbrev pub IsAbnfOpening : List ℕ → AbnfSettings → List ℕ → Option OpenJudge → ℕ → Type 0
 IsAbnfOpening text settings = IsOpening (IsAbnfFault text) (ExplainsAbnf text) (ExplainsAbnfNote text)
     (AreTextHints text settings) (IsOpened text settings) settings
 
 -- a runner runs as these settings ask: by their limit, verbatim or not, and explained or not
-pub record RunsBy (runner : Runner) (settings : Settings) : Type 0 where
+pub record RunsBy (runner : Runner) (settings : PegSettings) : Type 0 where
   pub limit : settings.limit ≡ runner.limit
-  pub raw : settings.raw ≡ runner.raw
+  pub raw : settings.options.raw ≡ runner.raw
   pub explain : settings.explain ≡ runner.explain
 
 -- the text has these notes, and this runs its grammar as settings ask, unless one of them rejects it
-abbrev pub IsRunnerOf : List ℕ → Settings → List Said → Option Runner → Type 0
+abbrev pub IsRunnerOf : List ℕ → PegSettings → List Said → Option Runner → Type 0
 IsRunnerOf text settings notes None = IsPegOpened text settings notes None
 IsRunnerOf text settings notes (Some runner) = IsPegOpened text settings notes (Some runner.peg)
     × RunsBy runner settings
 
 -- a grammar of peg(1) is opened as what runs it on inputs
-abbrev pub IsPegOpening : List ℕ → Settings → List ℕ → Option Runner → ℕ → Type 0
+abbrev pub IsPegOpening : List ℕ → PegSettings → List ℕ → Option Runner → ℕ → Type 0
 IsPegOpening text settings = IsOpening (IsPegFault text) (ExplainsPeg text) (ExplainsNote text)
     (ArePegHints text) (IsRunnerOf text settings) settings

@@ -13,8 +13,8 @@ use Rattle.toolrun.specs.declared.settings.Settings.{Settings}
 
 -- The messages on a text that is not read, and the status: its fault, explained if the settings ask for that; or an
 -- allocation failed. HasFault says what is wrong with the text, and Why which lines explain it.
-pub data IsFaultTold (HasFault : ReadFault → Type 0) (Why : ReadFault → List ℕ → Type 0) (settings : Settings) : List ℕ
-    → ℕ → Type 0 where
+pub data IsFaultTold {O : Type 0} (HasFault : ReadFault → Type 0) (Why : ReadFault → List ℕ → Type 0)
+    (settings : Settings O) : List ℕ → ℕ → Type 0 where
   has_fault : (fault : ReadFault) (why : List ℕ) → HasFault fault → fault ≢ Memory
       → Explained settings (Why fault) why → IsFaultTold HasFault Why settings (fault_text fault ++ why) 2
   has_no_memory : IsFaultTold HasFault Why settings [] 5
@@ -22,10 +22,10 @@ pub data IsFaultTold (HasFault : ReadFault → Type 0) (Why : ReadFault → List
 -- The messages on a grammar's text, what it is opened as, and the status: it is opened; or its notes reject it. The
 -- notes are those of a run. If the settings ask for that, WhyNoted explains each, and hints follow. Or the text is not
 -- read, or an allocation failed. IsOpen says which notes the text has, and what it may be opened as.
-pub data IsOpening {Open : Type 0} (HasFault : ReadFault → Type 0) (Why : ReadFault → List ℕ → Type 0)
+pub data IsOpening {O Open : Type 0} (HasFault : ReadFault → Type 0) (Why : ReadFault → List ℕ → Type 0)
     (WhyNoted : Option (List ℕ) → Said → List ℕ → Type 0) (AreHints : List ℕ → Type 0)
     (IsOpen : List Said → Option Open → Type 0)
-    (settings : Settings) : List ℕ → Option Open → ℕ → Type 0 where
+    (settings : Settings O) : List ℕ → Option Open → ℕ → Type 0 where
   opens : (notes : List Said) (told : List ℕ) (opened : Open) → IsOpen notes (Some opened)
       → HintedNotes settings WhyNoted AreHints notes told
       → IsOpening HasFault Why WhyNoted AreHints IsOpen settings told (Some opened) 0
@@ -42,11 +42,12 @@ pub record Place (Open : Type 0) : Type 0 where
 -- The text was opened with the settings that C asks for, and put into an empty place; as much of the messages as there
 -- is room for was laid into the buffer. Or C asks for no settings, or the place is not empty, and nothing was done.
 -- Opening says what settings make of the text.
-pub data IsOpenCall {Open : Type 0} (Opening : Settings → List ℕ → Option Open → ℕ → Type 0) (asked : CSettings)
+pub data IsOpenCall {O Open : Type 0} (AreMeant : CSettings → O → Type 0)
+    (Opening : Settings O → List ℕ → Option Open → ℕ → Type 0) (asked : CSettings)
     (name : List ℕ) (place : Place Open) (err : Filled) (code : ℕ) : Type 0 where
-  tried : (settings : Settings) (told : List ℕ) → place.old ≡ None → IsMeant asked name settings
-      → Opening settings told place.new code → IsLaid told err → IsOpenCall Opening asked name place err code
+  tried : (settings : Settings O) (told : List ℕ) → place.old ≡ None → IsMeant AreMeant asked name settings
+      → Opening settings told place.new code → IsLaid told err → IsOpenCall AreMeant Opening asked name place err code
   not_asked : IsInvalid asked name → place.new ≡ place.old → IsUntouched err → code ≡ 6
-      → IsOpenCall Opening asked name place err code
+      → IsOpenCall AreMeant Opening asked name place err code
   not_empty : IsSome place.old → place.new ≡ place.old → IsUntouched err → code ≡ 6
-      → IsOpenCall Opening asked name place err code
+      → IsOpenCall AreMeant Opening asked name place err code

@@ -6,12 +6,12 @@ use Rattle.capi.specs.declared.runner.Runner.{Runner}
 use Rattle.memoryrun.specs.PlannedRun.{IsPlannedRun}
 use Rattle.pegread.specs.PegViews.{rules_of}
 use Rattle.pegrun.specs.PegReply.{RunStates}
-use Rattle.toolrun.specs.declared.settings.Settings.{Settings}
+use Rattle.pegrun.specs.PegSettings.{PegSettings}
 
 -- Both outputs and the status are those of a run of the grammar on the input, after the messages on the grammar, with
 -- any settings that ask for such a run.
 abbrev pub HasRunOn : Runner → List ℕ → List ℕ → List ℕ → ℕ → Type 0
-HasRunOn runner input printed told code = (settings : Settings) → RunsBy runner settings
+HasRunOn runner input printed told code = (settings : PegSettings) → RunsBy runner settings
     → IsPlannedRun (RunStates (rules_of runner.peg.rules) runner.peg.start settings) input printed told code
 
 -- The open grammar was run on the input, and as much of both outputs as there is room for was laid into the buffers; or

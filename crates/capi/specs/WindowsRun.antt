@@ -38,14 +38,15 @@ pub data IsRunBehind (States : Input → List ℕ → Reply → Type 0) (first i
 -- grammar, its notes or its fault, once for all. The rest of what the runs wrote follows there, and stands in the other
 -- buffer, one run after the other, as much as there is room for. Or C asks for no settings, or the results are not as
 -- many as the windows, and nothing was done.
-pub data IsWindowsRun (States : Settings → Input → List ℕ → Reply → Type 0) (asked : CSettings) (name input : List ℕ)
+pub data IsWindowsRun {O : Type 0} (AreMeant : CSettings → O → Type 0)
+    (States : Settings O → Input → List ℕ → Reply → Type 0) (asked : CSettings) (name input : List ℕ)
     (windows : List CWindow) (results : Results) (out err : Filled) (code : ℕ) : Type 0 where
-  all_ran : (settings : Settings) (first printed told : List ℕ) → IsMeant asked name settings
+  all_ran : (settings : Settings O) (first printed told : List ℕ) → IsMeant AreMeant asked name settings
       → StandsFirst (States settings) first
       → HaveRun (KeptRun (IsRunBehind (States settings) first)) input windows printed told results.new
       → IsLaid printed out → IsLaid (first ++ told) err → code ≡ 0
-      → IsWindowsRun States asked name input windows results out err code
+      → IsWindowsRun AreMeant States asked name input windows results out err code
   no_settings : IsInvalid asked name → results.new ≡ results.old → IsUntouched out → IsUntouched err
-      → code ≡ 6 → IsWindowsRun States asked name input windows results out err code
+      → code ≡ 6 → IsWindowsRun AreMeant States asked name input windows results out err code
   uneven : length results.old ≢ length windows → results.new ≡ results.old → IsUntouched out → IsUntouched err
-      → code ≡ 6 → IsWindowsRun States asked name input windows results out err code
+      → code ≡ 6 → IsWindowsRun AreMeant States asked name input windows results out err code

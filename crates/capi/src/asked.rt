@@ -1,11 +1,14 @@
 //! The settings that C passes.
-ghost use Rattle.std.specs.Prelude.{◌≡◌, true, option_copied, MatchOption, MatchResult};
+ghost use Rattle.std.specs.Prelude.{◌≡◌, Some, true, option_copied, MatchOption, MatchResult};
 ghost use Rattle.std.specs.Str.{IsUtf8};
-ghost use Rattle.capi.specs.Asking.{IsMeant, IsInvalid, alphabet_by, mode_by, name_by};
+ghost use Rattle.capi.specs.Asking.{AbnfMeant, IsMeant, IsInvalid, PegMeant, alphabet_by, mode_by, name_by};
+ghost use Rattle.capi.specs.declared.asked.CSettings.{CSettings as Asked};
 
+use abnfrun::{AbnfOptions, Alphabet};
+use pegrun::PegOptions;
 use std::mem::size_of;
 use std::str::from_utf8;
-use toolrun::{Alphabet, MAX_LIMIT, Mode, Settings};
+use toolrun::{MAX_LIMIT, Mode, Settings};
 
 /// The status of a call whose settings are invalid.
 pub const BAD_SETTINGS: u8 = 6;
@@ -60,6 +63,37 @@ fn alphabet_of(letters: u8) -> Option<Alphabet>
     }
 }
 
+/// Options of a tool that C asks for.
+pub trait COptions {
+    /// Which options C asks for.
+    ghost are_meant: { Asked → Self → Type 0 };
+
+    /// Returns the options that C asks for, whose lines are made of these letters.
+    fn meant(asked: &CSettings, letters: Alphabet) -> Self
+        requires { alphabet_by asked.now.letters ≡ Some letters }
+        ensures { are_meant asked.now result };
+}
+
+impl COptions for PegOptions {
+    ghost are_meant = { PegMeant };
+
+    fn meant(asked: &CSettings, _letters: Alphabet) -> PegOptions {
+        PegOptions { raw: asked.raw }
+    }
+}
+
+impl COptions for AbnfOptions {
+    ghost are_meant = { AbnfMeant };
+
+    fn meant(asked: &CSettings, letters: Alphabet) -> AbnfOptions {
+        AbnfOptions {
+            letters,
+            viable: asked.viable,
+            nul: asked.nul,
+        }
+    }
+}
+
 /// The name of a rule is not UTF-8.
 #[derive(Clone, Copy, Drop)]
 struct NotUtf8;
@@ -79,8 +113,8 @@ fn start_of<'a>(named: bool, name: &'a [u8]) -> Result<Option<&'a str>, NotUtf8>
 
 /// Returns the settings that C asks for. Returns `None` where the size is unknown, a number is out of its range, or the
 /// name of the rule is not UTF-8.
-pub fn settings_of<'a>(asked: &CSettings, name: &'a [u8]) -> Option<Settings<'a>>
-    ensures { MatchOption result (IsInvalid asked.now name.entry.now) (IsMeant asked.now name.entry.now) }
+pub fn settings_of<'a, O: COptions>(asked: &CSettings, name: &'a [u8]) -> Option<Settings<'a, O>>
+    ensures { MatchOption result (IsInvalid asked.now name.entry.now) (IsMeant O.are_meant asked.now name.entry.now) }
 {
     if asked.size != SETTINGS_SIZE {
         return None;
@@ -102,11 +136,8 @@ pub fn settings_of<'a>(asked: &CSettings, name: &'a [u8]) -> Option<Settings<'a>
             mode,
             limit: asked.limit,
             start,
-            raw: asked.raw,
-            letters,
-            viable: asked.viable,
-            nul: asked.nul,
             explain: asked.explain,
+            options: O::meant(asked, letters),
         }),
         Err(_) => None,
     }

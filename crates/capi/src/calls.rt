@@ -1,6 +1,7 @@
 //! Runs of a grammar's text.
 ghost use Rattle.std.specs.Prelude.{◌≡◌};
 ghost use Rattle.abnfrun.specs.AbnfAnswers.{AbnfStates};
+ghost use Rattle.capi.specs.Asking.{AbnfMeant, PegMeant};
 ghost use Rattle.capi.specs.BufferRun.{IsLaid, IsBufferRun};
 ghost use Rattle.pegrun.specs.Answers.{States};
 ghost use Rattle.capi.specs.WindowsRun.{IsWindowsRun};
@@ -11,8 +12,9 @@ use crate::buffer::lay;
 use crate::front::front_of;
 use crate::result::{CResult, nothing_done};
 use crate::windows::{CWindow, run_windows};
+use abnfrun::AbnfOptions;
 use memoryrun::{Outputs, abnf_in_memory, peg_in_memory};
-use pegrun::PegLanguage;
+use pegrun::{PegLanguage, PegOptions};
 use std::alloc::Global;
 use toolrun::{Status, plan_of};
 
@@ -41,11 +43,11 @@ pub fn peg(
     out: &mut [u8],
     err: &mut [u8],
 ) -> CResult
-    ensures { IsBufferRun (λ settings. States grammar.now settings) asked.now name.now input.now
+    ensures { IsBufferRun PegMeant (λ settings. States grammar.now settings) asked.now name.now input.now
         (record { old = out.old; new = out.new; len = result.out_len })
         (record { old = err.old; new = err.new; len = result.err_len }) result.status }
 {
-    match settings_of(asked, name) {
+    match settings_of::<PegOptions>(asked, name) {
         Some(settings) => hand_out(&peg_in_memory(alloc, grammar, &settings, input), out, err),
         None => nothing_done(),
     }
@@ -63,11 +65,11 @@ pub fn abnf(
     out: &mut [u8],
     err: &mut [u8],
 ) -> CResult
-    ensures { IsBufferRun (λ settings. AbnfStates grammar.now settings) asked.now name.now input.now
+    ensures { IsBufferRun AbnfMeant (λ settings. AbnfStates grammar.now settings) asked.now name.now input.now
         (record { old = out.old; new = out.new; len = result.out_len })
         (record { old = err.old; new = err.new; len = result.err_len }) result.status }
 {
-    match settings_of(asked, name) {
+    match settings_of::<AbnfOptions>(asked, name) {
         Some(settings) => hand_out(&abnf_in_memory(alloc, grammar, &settings, input), out, err),
         None => nothing_done(),
     }
@@ -93,7 +95,7 @@ pub fn peg_windows(
     out: &mut [u8],
     err: &mut [u8],
 ) -> CResult
-    ensures { IsWindowsRun (λ settings. States grammar.now settings) asked.now name.now input.now windows.now
+    ensures { IsWindowsRun PegMeant (λ settings. States grammar.now settings) asked.now name.now input.now windows.now
         (record { old = results.old; new = results.new })
         (record { old = out.old; new = out.new; len = result.out_len })
         (record { old = err.old; new = err.new; len = result.err_len }) result.status }
@@ -101,7 +103,7 @@ pub fn peg_windows(
     if results.len() != windows.len() {
         return nothing_done();
     }
-    let Some(settings) = settings_of(asked, name) else {
+    let Some(settings) = settings_of::<PegOptions>(asked, name) else {
         return nothing_done();
     };
     let front = front_of(alloc, plan_of::<PegLanguage>(alloc, grammar, &settings));

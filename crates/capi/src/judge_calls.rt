@@ -1,5 +1,6 @@
 //! Judges line after line by a grammar that is read once.
 ghost use Rattle.std.specs.Prelude.{◌≡◌, None};
+ghost use Rattle.capi.specs.Asking.{AbnfMeant};
 ghost use Rattle.capi.specs.JudgeCall.{IsJudgeCall};
 ghost use Rattle.capi.specs.OpenCall.{IsOpenCall};
 ghost use Rattle.capi.specs.GrammarOpenings.{IsAbnfOpening};
@@ -10,6 +11,7 @@ use crate::buffer::lay;
 use crate::judge::{CJudge, put_judge, take_judge};
 use crate::opening::open_into;
 use crate::result::{CResult, nothing_done};
+use abnfrun::AbnfOptions;
 use std::alloc::Global;
 
 /// Reads and checks a grammar in ABNF, and puts a judge of lines by it into an empty place. Lays the notes on it into
@@ -28,14 +30,14 @@ pub fn abnf_open(
     err: &mut [u8],
 ) -> CResult
     ensures out { result.out_len ≡ 0 }
-    ensures call { IsOpenCall (λ settings. IsAbnfOpening grammar.now settings) asked.now name.now
+    ensures call { IsOpenCall AbnfMeant (λ settings. IsAbnfOpening grammar.now settings) asked.now name.now
         (record { old = place.old.judge.held; new = place.new.judge.held })
         (record { old = err.old; new = err.new; len = result.err_len }) result.status }
 {
     if place.is_open {
         return nothing_done();
     }
-    let Some(settings) = settings_of(asked, name) else {
+    let Some(settings) = settings_of::<AbnfOptions>(asked, name) else {
         return nothing_done();
     };
     let told = open_into(alloc, grammar, &settings, place);

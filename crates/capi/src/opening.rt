@@ -7,15 +7,15 @@ ghost use Rattle.toolrun.specs.Status.{code_of};
 
 use crate::judge::{CJudge, put_judge};
 use crate::told::{Told, tell_fault, text_of_notes, told_nothing};
-use abnfrun::{AbnfLanguage, OpenedAbnf, open_abnf};
+use abnfrun::{AbnfLanguage, AbnfSettings, OpenedAbnf, open_abnf};
 use std::alloc::Global;
-use toolrun::{Settings, Status};
+use toolrun::Status;
 
 /// Reports the notes on a grammar that was opened, and puts its judge, if there is one, into an empty place.
 fn place_opened(
     alloc: Global,
     grammar: &[u8],
-    settings: &Settings<'_>,
+    settings: &AbnfSettings<'_>,
     opened: OpenedAbnf,
     place: &mut CJudge,
 ) -> Told
@@ -49,7 +49,7 @@ fn place_opened(
 pub(crate) fn open_into(
     alloc: Global,
     grammar: &[u8],
-    settings: &Settings<'_>,
+    settings: &AbnfSettings<'_>,
     place: &mut CJudge,
 ) -> Told
     requires { place.old.judge.held ≡ None }

@@ -8,15 +8,15 @@ ghost use Rattle.toolrun.specs.Status.{code_of};
 use crate::place::{CRunner, put_runner};
 use crate::runs::runner_by;
 use crate::told::{Told, tell_fault, text_of_notes, told_nothing};
-use pegrun::{OpenedPeg, PegLanguage, open_peg};
+use pegrun::{OpenedPeg, PegLanguage, PegSettings, open_peg};
 use std::alloc::Global;
-use toolrun::{Settings, Status};
+use toolrun::Status;
 
 /// Reports the notes on a grammar that was opened, and puts its runner, if there is one, into an empty place.
 fn place_runner(
     alloc: Global,
     grammar: &[u8],
-    settings: &Settings<'_>,
+    settings: &PegSettings<'_>,
     opened: OpenedPeg,
     place: &mut CRunner,
 ) -> Told
@@ -50,7 +50,7 @@ fn place_runner(
 pub(crate) fn open_runner(
     alloc: Global,
     grammar: &[u8],
-    settings: &Settings<'_>,
+    settings: &PegSettings<'_>,
     place: &mut CRunner,
 ) -> Told
     requires { place.old.runner.held ≡ None }

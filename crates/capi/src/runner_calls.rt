@@ -1,5 +1,6 @@
 //! Runs of a grammar of peg(1), which is read once, on input after input.
 ghost use Rattle.std.specs.Prelude.{◌≡◌, None};
+ghost use Rattle.capi.specs.Asking.{PegMeant};
 ghost use Rattle.capi.specs.OpenCall.{IsOpenCall};
 ghost use Rattle.capi.specs.GrammarOpenings.{IsPegOpening};
 ghost use Rattle.capi.specs.RunCall.{IsRunCall};
@@ -11,6 +12,7 @@ use crate::peg_opening::open_runner;
 use crate::place::{CRunner, put_runner, take_runner};
 use crate::result::{CResult, nothing_done};
 use crate::runs::run_input;
+use pegrun::PegOptions;
 use std::alloc::Global;
 
 /// Reads and checks a grammar of peg(1), and puts a runner of it into an empty place. Lays the notes on it into the
@@ -28,14 +30,14 @@ pub fn peg_open(
     err: &mut [u8],
 ) -> CResult
     ensures out { result.out_len ≡ 0 }
-    ensures call { IsOpenCall (λ settings. IsPegOpening grammar.now settings) asked.now name.now
+    ensures call { IsOpenCall PegMeant (λ settings. IsPegOpening grammar.now settings) asked.now name.now
         (record { old = place.old.runner.held; new = place.new.runner.held })
         (record { old = err.old; new = err.new; len = result.err_len }) result.status }
 {
     if place.is_open {
         return nothing_done();
     }
-    let Some(settings) = settings_of(asked, name) else {
+    let Some(settings) = settings_of::<PegOptions>(asked, name) else {
         return nothing_done();
     };
     let told = open_runner(alloc, grammar, &settings, place);

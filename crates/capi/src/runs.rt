@@ -6,19 +6,19 @@ ghost use Rattle.toolrun.specs.Status.{code_of};
 
 use crate::runner::Runner;
 use memoryrun::{Outputs, run_opened};
-use pegrun::PegRunner;
+use pegrun::{PegOptions, PegRunner, PegSettings};
 use std::alloc::Global;
-use toolrun::{Alphabet, Mode, Settings};
+use toolrun::{Mode, Settings};
 
 /// Returns what runs a grammar as settings ask.
-pub(crate) fn runner_by(peg: PegRunner, settings: &Settings<'_>) -> Runner
+pub(crate) fn runner_by(peg: PegRunner, settings: &PegSettings<'_>) -> Runner
     ensures grammar { result.peg ≡ peg }
     ensures settings { RunsBy result settings.now }
 {
     Runner {
         peg,
         limit: settings.limit,
-        raw: settings.raw,
+        raw: settings.options.raw,
         explain: settings.explain,
     }
 }
@@ -32,11 +32,8 @@ pub(crate) fn run_input(alloc: Global, runner: &mut Runner, input: &[u8]) -> Out
         mode: Mode::Run,
         limit: runner.limit,
         start: None,
-        raw: runner.raw,
-        letters: Alphabet::Bytes,
-        viable: false,
-        nul: false,
         explain: runner.explain,
+        options: PegOptions { raw: runner.raw },
     };
     run_opened(alloc, &mut runner.peg, &settings, input)
 }

@@ -33,7 +33,7 @@ pub(crate) fn told_nothing(alloc: Global) -> Told
 fn explanation<L: Language>(
     alloc: Global,
     grammar: &[u8],
-    settings: &Settings<'_>,
+    settings: &Settings<'_, L::Options>,
     fault: ReadFault,
 ) -> Result<Vec<u8>, Memory>
     requires { L.has_fault grammar.now fault }
@@ -49,7 +49,7 @@ fn explanation<L: Language>(
 pub(crate) fn tell_fault<L: Language>(
     alloc: Global,
     grammar: &[u8],
-    settings: &Settings<'_>,
+    settings: &Settings<'_, L::Options>,
     fault: ReadFault,
 ) -> Told
     requires { L.has_fault grammar.now fault }
@@ -76,7 +76,7 @@ pub(crate) fn tell_fault<L: Language>(
 pub(crate) fn text_of_notes<L: Language>(
     alloc: Global,
     grammar: &[u8],
-    settings: &Settings<'_>,
+    settings: &Settings<'_, L::Options>,
     notes: Vec<Note>,
 ) -> Result<Vec<u8>, Memory>
     ensures { IfOk result (λ text. HintedNotes settings.now (L.explains_note grammar.now)

@@ -40,7 +40,7 @@ fn part(input: &[u8], window: CWindow) -> Option<&[u8]>
 fn run_window<L: Language>(
     alloc: Global,
     plan: &Plan<L::Grammar, L::Sound>,
-    settings: &Settings<'_>,
+    settings: &Settings<'_, L::Options>,
     input: &[u8],
     window: CWindow,
     texts: &mut Texts,
@@ -62,7 +62,7 @@ fn run_window<L: Language>(
 pub fn run_windows<L: Language>(
     alloc: Global,
     front: Front<L::Grammar, L::Sound>,
-    settings: &Settings<'_>,
+    settings: &Settings<'_, L::Options>,
     input: &[u8],
     windows: &[CWindow],
     results: &mut [CResult],

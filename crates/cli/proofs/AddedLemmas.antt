@@ -1,5 +1,5 @@
 -- What a command is after arguments are added in turn.
--- Serves: pegi_command, abnfi_command, abnfx_command
+-- Serves: Program::command, abnfx_command
 use Rattle.std.proofs.Common.{◌≡◌, ◌∙◌, ap, sym, false, List, [], ◌∷◌}
 use Rattle.clap.specs.Words.{AddsArg, AddsInTurn, App, Rule, app_of, rule_of, with_rule}
 use Rattle.clap.specs.declared.builder.arg.Arg.{Arg}

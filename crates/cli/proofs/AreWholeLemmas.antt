@@ -1,5 +1,5 @@
 -- What holds of the matches of a program's words: a limit in its range, a grammar, and flags.
--- Serves: parse (whole)
+-- Serves: Program::follows, Program::options
 use Rattle.std.proofs.Common.{◌≡◌, ◌∙◌, ◌⊎◌, ◌<◌, ◌≤◌, ◌&&◌, ◌||◌, ap, subst, sym, refl, inl, inr, arith, true≢false, ℕ}
 use Rattle.std.proofs.Common.{zero, suc, Bool, true, false, not, List, [], ◌∷◌, map, length, Option, Some, None}
 use Rattle.std.proofs.Common.{is_some}
@@ -26,11 +26,9 @@ use Rattle.clap.specs.declared.parser.matches.ArgMatches.{ArgMatches}
 use Rattle.clap.proofs.CallerLemmas.{required_has_value}
 use Rattle.clap.proofs.SimpleLemmas.{is_false, is_nil, plain_fields}
 use Rattle.clap.proofs.WalkLemmas.{both}
-use Rattle.cli.proofs.EntryLemmas.{IsAlone, default_reads, no_auto, none_found, some_reads}
-use Rattle.cli.specs.Asked.{AreWhole, IsFlagText, IsLimitText}
-use Rattle.cli.specs.Command.{IsAppOf, Names, abnfi_app, flag_rule, grammar_rule, limit_rule, pegi_app}
-use Rattle.cli.specs.declared.command.Program.{Program}
-use Rattle.cli.specs.declared.command.Program.TheVariants.{Abnfi, Pegi}
+use Rattle.cli.proofs.EntryLemmas.{IsAlone, default_reads, no_auto, some_reads}
+use Rattle.cli.specs.Asked.{IsFlagText, IsLimitText}
+use Rattle.cli.specs.Command.{flag_rule, grammar_rule, limit_rule}
 
 is_none : {X : Type 0} (o : Option X) → not (is_some o) ≡ true → o ≡ None
 is_none None e = refl
@@ -224,7 +222,7 @@ bool_text v e = go (bytes_eq v (codes "true")) refl e
 
 -- ---- one argument of a program
 
-limit_is : (c : Command) (rs : List Rule) → IsCommand c rs → (m : ArgMatches) → IsParsedFrom c m → (d : Arg) (k : ℕ)
+pub limit_is : (c : Command) (rs : List Rule) → IsCommand c rs → (m : ArgMatches) → IsParsedFrom c m → (d : Arg) (k : ℕ)
     → HasAt rs k limit_rule
     → (text : Text) × (one_text (found_of m) (codes "limit") ≡ Some text) × IsLimitText text
 limit_is c rs is m p d k has =
@@ -257,8 +255,8 @@ flag_is c rs is m p d k id letter own has =
       ])
     ]
 
-grammar_is : (c : Command) (rs : List Rule) → IsCommand c rs → (m : ArgMatches) → IsParsedFrom c m → (d : Arg) (k : ℕ)
-    → HasAt rs k grammar_rule
+pub grammar_is : (c : Command) (rs : List Rule) → IsCommand c rs → (m : ArgMatches) → IsParsedFrom c m → (d : Arg)
+    (k : ℕ) → HasAt rs k grammar_rule
     → is_some (first_value (found_of m) (codes "grammar")) ≡ true
 grammar_is c rs is m p d k has =
     let by = arg_of c rs is k d grammar_rule has (record { named = λ n. cc; help = refl; version = refl }) in
@@ -268,59 +266,6 @@ grammar_is c rs is m p d k has =
     (required_has_value c m p is.plain is.globals is.negates k d by.alone.within (ap (λ (r : Rule). r.required) by.rule)
     (ap (λ (r : Rule). r.action) by.rule) by.bare.delim least by.alone.unique by.alone.named by.alone.own)
 
--- a command without a rule of this id finds nothing under it
-none_is : (c : Command) (rs : List Rule) → IsCommand c rs → (m : ArgMatches) → IsParsedFrom c m → (id : Text)
-    → IsOwn id → lacks_id rs id ≡ true
-    → one_text (found_of m) id ≡ None
-none_is c rs is m p id own none = none_found c m p is.plain is.globals id own.named own.help own.version
-    (λ j e low same.
-    let few : j < length rs = subst (λ n. j < n) (rules_count (args_of c) rs is.list) low in
-    lacks_at rs id none j (rule_of e) few
-    (sym (ap (λ t. bytes_eq t id) (ap (λ (q : Rule). q.id) (rule_at (args_of c) rs is.list j e few))) ∙ same))
-
--- ---- the programs
-
 -- some argument of a command that has some
 pub first_arg : (c : Command) (rs : List Rule) → IsCommand c rs → 0 < length rs → Arg
 first_arg c rs is some = head_of (args_of c) (subst (λ n. 0 < n) (sym (rules_count (args_of c) rs is.list)) some)
-
-pegi_is_whole : (c : Command) (names : Names) → app_of c ≡ pegi_app names → (m : ArgMatches)
-    → IsParsedFrom c m → AreWhole (found_of m)
-pegi_is_whole c names e m p =
-    let rs = (pegi_app names).top.rules in
-    let is = is_command c (pegi_app names) e refl refl refl in
-    let d = first_arg c rs is (omega arith) in
-    record {
-      limit = limit_is c rs is m p d 1 (record { within = omega arith; at = λ q. refl; only = refl });
-      raw = flag_is c rs is m p d 3 (codes "raw") 114 (record { named = λ n. cc; help = refl; version = refl })
-          (record { within = omega arith; at = λ q. refl; only = refl });
-      viable = inl (none_is c rs is m p (codes "viable") (record { named = λ n. cc; help = refl; version = refl })
-          refl);
-      nul = inl (none_is c rs is m p (codes "nul") (record { named = λ n. cc; help = refl; version = refl }) refl);
-      explain = flag_is c rs is m p d 4 (codes "explain") 120 (record { named = λ n. cc; help = refl; version = refl })
-          (record { within = omega arith; at = λ q. refl; only = refl });
-      grammar = grammar_is c rs is m p d 5 (record { within = omega arith; at = λ q. refl; only = refl });
-    }
-
-abnfi_is_whole : (c : Command) (names alphabets : Names) → app_of c ≡ abnfi_app names alphabets → (m : ArgMatches)
-    → IsParsedFrom c m → AreWhole (found_of m)
-abnfi_is_whole c names alphabets e m p =
-    let rs = (abnfi_app names alphabets).top.rules in
-    let is = is_command c (abnfi_app names alphabets) e refl refl refl in
-    let d = first_arg c rs is (omega arith) in
-    record {
-      limit = limit_is c rs is m p d 1 (record { within = omega arith; at = λ q. refl; only = refl });
-      raw = inl (none_is c rs is m p (codes "raw") (record { named = λ n. cc; help = refl; version = refl }) refl);
-      viable = flag_is c rs is m p d 4 (codes "viable") 119 (record { named = λ n. cc; help = refl; version = refl })
-          (record { within = omega arith; at = λ q. refl; only = refl });
-      nul = flag_is c rs is m p d 5 (codes "nul") 122 (record { named = λ n. cc; help = refl; version = refl })
-          (record { within = omega arith; at = λ q. refl; only = refl });
-      explain = flag_is c rs is m p d 6 (codes "explain") 120 (record { named = λ n. cc; help = refl; version = refl })
-          (record { within = omega arith; at = λ q. refl; only = refl });
-      grammar = grammar_is c rs is m p d 7 (record { within = omega arith; at = λ q. refl; only = refl });
-    }
-
-pub is_whole : (program : Program) (app : App) → IsAppOf program app → (c : Command) → app_of c ≡ app
-    → (m : ArgMatches) → IsParsedFrom c m → AreWhole (found_of m)
-is_whole Pegi app of c e m p = pegi_is_whole c of.0 (e ∙ of.2) m p
-is_whole Abnfi app of c e m p = abnfi_is_whole c of.0 of.2 (e ∙ of.4) m p

@@ -1,5 +1,5 @@
 -- What a parse that succeeds found of one argument of a command that excludes nothing.
--- Serves: parse (whole)
+-- Serves: Program::follows, Program::options
 use Rattle.std.proofs.Common.{◌≡◌, ◌∙◌, ◌⊎◌, ◌<◌, ◌≤◌, ap, subst, sym, refl, inl, inr, arith, true≢false, ℕ, zero, suc}
 use Rattle.std.proofs.Common.{Bool, true, false, List, [], ◌∷◌, length, Option, Some, None, is_some}
 use Rattle.std.specs.Prelude.{codes, find, option_map}
@@ -7,11 +7,10 @@ use Rattle.std.specs.List.{All, slice_index_or}
 use Rattle.std.specs.Str.{bytes_eq}
 use Rattle.std.specs.Borrow.{Bor}
 use Rattle.std.proofs.lemmas.Slice.Eq.{bytes_eq-Decides}
-use Rattle.std.proofs.lemmas.Bool.{cases_lt}
 use Rattle.std.proofs.lemmas.List.Elements.{All-get_or}
 use Rattle.clap.specs.Facts.{Entry, EntryPasses, HasReading, PassesArg, WantsDefault, args_of, groups_of, least_values}
 use Rattle.clap.specs.Facts.{parser_of, parser_of_value}
-use Rattle.clap.specs.Built.{IsAuto, IsParsedFrom, IsPlain, SameRules}
+use Rattle.clap.specs.Built.{IsAuto, IsParsedFrom, IsPlain}
 use Rattle.clap.specs.Matches.{found_of, matched_of, one_text}
 use Rattle.clap.specs.Values.{Accepts, read_as, reading_of}
 use Rattle.clap.specs.declared.builder.action.ArgAction.TheVariants.{Count, Set}
@@ -211,36 +210,3 @@ no_auto id help version a is (inl e) =
     true≢false (sym ((bytes_eq-Decides id (codes "help")).1 (sym is ∙ e)) ∙ help)
 no_auto id help version a is (inr e) =
     true≢false (sym ((bytes_eq-Decides id (codes "version")).1 (sym is ∙ e)) ∙ version)
-
--- no argument of a command that excludes nothing has this id, and nothing is found under it
-pub none_found : (c : Command) (m : ArgMatches) (p : IsParsedFrom c m) → IsPlain c
-    → (out-Command c).has_globals ≡ false → (id : List ℕ) → (id ≡ [] → ⊥)
-    → bytes_eq id (codes "help") ≡ false → bytes_eq id (codes "version") ≡ false
-    → ((j : ℕ) (e : Arg) → j < length (args_of c) → bytes_eq (slice_index_or (args_of c) j e).id.now id ≡ true → ⊥)
-    → one_text (found_of m) id ≡ None
-none_found c m p plain globals id named help version none = go (matched_of (found_of m) id) refl
-  where
-    -- no argument of the command that was built has the id
-    lacks : (j : ℕ) (x : Arg) → j < length (args_of p.built) → slice_index_or (args_of p.built) j x ≡ x
-        → bytes_eq x.id.now id ≡ true → ⊥
-    lacks j x high at same = elim (cases_lt j (length (args_of c))) [
-      | inl under ↦
-          let s = subst (λ w. SameRules (slice_index_or (args_of c) j x) w) at (p.from.kept j x under).1 in
-          none j x under (rw (← s.id) same)
-      | inr over ↦
-          no_auto id help version x ((bytes_eq-Decides x.id.now id).0 same)
-          (subst IsAuto at (p.from.extra j x over high))
-    ]
-
-    go : (o : Option MatchedArg) → matched_of (found_of m) id ≡ o → one_text (found_of m) id ≡ None
-    go None e = rw e refl
-    go (Some x) e =
-        let parsed = p.parsed (p.from.globals ∙ globals) in
-        let got = entry_by_id (EntryPasses p.built) (found_of m).entries.items id x parsed.values e in
-        let key : got.0.0.now ≡ id = (bytes_eq-Decides got.0.0.now id).0 got.2 in
-        absurd (elim got.3.4 [
-          | inl g ↦ no_group p.built got.0 id (p.from.plain plain).1 named key got.3 g
-          | inr how ↦
-              let read = subst (λ (w : List ℕ). HasReading p.built w got.0.1.reading) key how in
-              lacks read.0 read.1 read.2 read.3 read.4.0
-        ])

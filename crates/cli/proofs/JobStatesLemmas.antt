@@ -1,8 +1,6 @@
 -- What is stated for a program whose words are right, and for one whose words are not.
 -- Serves: tool_main, end_unparsed, end_unready
-use Rattle.std.proofs.Common.{◌≡◌, ℕ, Bool, false, Option, Some, List, [], ◌∷◌, refl, inl, inr, subst}
-use Rattle.std.specs.Prelude.{Result, Ok, Err}
-use Rattle.std.specs.Io.KnownBytes.{Appends}
+use Rattle.std.proofs.Common.{◌≡◌, ℕ, Bool, false, Option, Some, List, [], ◌∷◌, refl, inl, inr}
 use Rattle.clap.specs.Words.{HasKind, IsAmong, Kinds, Row, kind_of}
 use Rattle.clap.specs.declared.error.Error.{Error}
 use Rattle.clap.specs.declared.error.kind.ErrorKind.{ErrorKind}
@@ -35,30 +33,34 @@ stop_comes States stop stated r0 r_was r_failed out err code tells =
     (record { old = r0; new = r0; was = r_was; failed = r_failed }) out err code
     (told_stops [] stop r0 r_was r_failed out err err.old code tells.0 (Appends-same err.old) tells.1)
 
-module _ (States : List ℕ → Settings → Input → List ℕ → Reply → Type 0) (rows : List Row) where
-  -- a run of the tool
-  pub job_comes : (asked : Asked) → Ask rows asked → (grammar : List ℕ) (reader out err : Stream) (code : ℕ)
-      → Comes (States grammar asked.settings) reader out err code
-      → Comes (JobStates States rows) reader out err code
-  job_comes asked ask grammar =
-      comes_as (States grammar asked.settings) (JobStates States rows)
-      (λ input notes reply is. runs grammar asked notes reply ask is)
+module _ {O : Type 0} (Asks : List Row → O → Type 0) (States : List ℕ → Settings O → Input → List ℕ → Reply → Type 0)
+    (rows : List Row)
+  where
+    -- a run of the tool
+    pub job_comes : (asked : Asked O) → Ask Asks rows asked → (grammar : List ℕ) (reader out err : Stream) (code : ℕ)
+        → Comes (States grammar asked.settings) reader out err code
+        → Comes (JobStates Asks States rows) reader out err code
+    job_comes asked ask grammar =
+        comes_as (States grammar asked.settings) (JobStates Asks States rows)
+        (λ input notes reply is. runs grammar asked notes reply ask is)
 
-  -- the end of a run that has no job
-  module _ (r0 : Option (List ℕ)) (r_was r_failed : Bool) (out err : Stream) (code : ℕ) where
-    pub unready_comes : (why : Unready) (kinds : Kinds) → kinds ≡ [] → IsUnready kinds why →
-        ((stop : Stop) → IsStopOf why stop → TellsOf stop out.old out.new out.failed err.old err.new err.failed code) →
-        Comes (JobStates States rows) (record { old = r0; new = r0; was = r_was; failed = r_failed }) out err code
-    unready_comes (unready.Words error) kinds none (inl memory) tells =
-        stop_comes (JobStates States rows) NoMemory (λ input. no_memory) r0 r_was r_failed out err code
-        (tells NoMemory (memory, refl))
-    unready_comes (unready.Words error) kinds none (inr other) tells = absurd (rw none at other)
-    unready_comes unready.Unreadable kinds none is tells =
-        stop_comes (JobStates States rows) Unreadable (λ input. unreadable) r0 r_was r_failed out err code
-        (tells Unreadable refl)
-    unready_comes unready.NoMemory kinds none is tells =
-        stop_comes (JobStates States rows) NoMemory (λ input. no_memory) r0 r_was r_failed out err code
-        (tells NoMemory refl)
+    -- the end of a run that has no job
+    module _ (r0 : Option (List ℕ)) (r_was r_failed : Bool) (out err : Stream) (code : ℕ) where
+      pub unready_comes : (why : Unready) (kinds : Kinds) → kinds ≡ [] → IsUnready kinds why →
+          ((stop : Stop) → IsStopOf why stop → TellsOf stop out.old out.new out.failed err.old err.new err.failed code)
+          →
+          Comes (JobStates Asks States rows)
+          (record { old = r0; new = r0; was = r_was; failed = r_failed }) out err code
+      unready_comes (unready.Words error) kinds none (inl memory) tells =
+          stop_comes (JobStates Asks States rows) NoMemory (λ input. no_memory) r0 r_was r_failed out err code
+          (tells NoMemory (memory, refl))
+      unready_comes (unready.Words error) kinds none (inr other) tells = absurd (rw none at other)
+      unready_comes unready.Unreadable kinds none is tells =
+          stop_comes (JobStates Asks States rows) Unreadable (λ input. unreadable) r0 r_was r_failed out err code
+          (tells Unreadable refl)
+      unready_comes unready.NoMemory kinds none is tells =
+          stop_comes (JobStates Asks States rows) NoMemory (λ input. no_memory) r0 r_was r_failed out err code
+          (tells NoMemory refl)
 
 -- words with some fault
 module _ (out err : Stream) (code : ℕ) where

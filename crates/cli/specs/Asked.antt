@@ -6,8 +6,6 @@ use Rattle.std.specs.Str.Parse.{IsNumeral, digits_value, without_leading_plus}
 use Rattle.clap.specs.Words.{Row, Text, first_of, first_value, one_of, one_text}
 use Rattle.clap.specs.declared.parser.matches.Found.{Found}
 use Rattle.cli.specs.declared.settings.Asked.{Asked}
-use Rattle.letters.specs.declared.alphabet.Alphabet.{Alphabet}
-use Rattle.letters.specs.declared.alphabet.Alphabet.TheVariants.{Bytes, Utf8}
 use Rattle.toolrun.specs.declared.settings.Mode.{Mode}
 use Rattle.toolrun.specs.declared.settings.Mode.TheVariants.{Run, Check, Print}
 
@@ -16,11 +14,6 @@ abbrev pub mode_named : Option (List ℕ) → Mode
 mode_named None = Run
 mode_named (Some name) = if bytes_eq name (codes "check") then Check else
     (if bytes_eq name (codes "print") then Print else Run)
-
--- the alphabet of a name; bytes where none is given
-abbrev pub alphabet_named : Option (List ℕ) → Alphabet
-alphabet_named None = Bytes
-alphabet_named (Some name) = if bytes_eq name (codes "utf8") then Utf8 else Bytes
 
 -- n is the limit that a text gives: its decimal number, where that is in range; 65,536 where none is given
 abbrev pub IsLimitOf : Option (List ℕ) → ℕ → Type 0
@@ -42,13 +35,10 @@ abbrev pub IsLimitText : Text → Type 0
 IsLimitText text = IsNumeral 10 (without_leading_plus text) × (1 ≤ digits_value 10 (without_leading_plus text)) ×
     (digits_value 10 (without_leading_plus text) ≤ 16777216)
 
--- what holds of the matches of words in which nothing is wrong: there is a limit in its range and a grammar, and each
--- flag is `true` or `false` where it has a text
+-- what holds of the matches of words in which nothing is wrong: there is a limit in its range and a grammar, and the
+-- flag of explanations is `true` or `false` where it has a text
 pub record AreWhole (f : Found) : Type 0 where
   pub limit : (text : Text) × (one_text f (codes "limit") ≡ Some text) × IsLimitText text
-  pub raw : IsFlagText (one_text f (codes "raw"))
-  pub viable : IsFlagText (one_text f (codes "viable"))
-  pub nul : IsFlagText (one_text f (codes "nul"))
   pub explain : IsFlagText (one_text f (codes "explain"))
   pub grammar : is_some (first_value f (codes "grammar")) ≡ true
 
@@ -57,15 +47,12 @@ abbrev pub is_flagged : Option Text → Bool
 is_flagged None = false
 is_flagged (Some text) = bytes_eq text (codes "true")
 
--- the matches ask for these settings and this grammar
-pub record Ask (rows : List Row) (asked : Asked) : Type 0 where
+-- The matches ask for these settings and this grammar. Asks says what they ask for in the language alone.
+pub record Ask {O : Type 0} (Asks : List Row → O → Type 0) (rows : List Row) (asked : Asked O) : Type 0 where
   pub mode : asked.settings.mode ≡ mode_named (first_of (codes "mode") rows)
   pub limit : (text : Text) × (one_of (codes "limit") rows ≡ Some text) × IsLimitText text
       × (asked.settings.limit ≡ digits_value 10 (without_leading_plus text))
   pub start : option_map (λ s. s.now) asked.settings.start ≡ first_of (codes "start") rows
-  pub raw : asked.settings.raw ≡ is_flagged (one_of (codes "raw") rows)
-  pub letters : asked.settings.letters ≡ alphabet_named (first_of (codes "letters") rows)
-  pub viable : asked.settings.viable ≡ is_flagged (one_of (codes "viable") rows)
-  pub nul : asked.settings.nul ≡ is_flagged (one_of (codes "nul") rows)
   pub explain : asked.settings.explain ≡ is_flagged (one_of (codes "explain") rows)
+  pub options : Asks rows asked.settings.options
   pub grammar : first_of (codes "grammar") rows ≡ Some asked.path.now

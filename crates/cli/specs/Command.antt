@@ -1,12 +1,10 @@
--- The commands of the programs, as a parse reads them.
+-- The arguments that the commands of both tools have, as a parse reads them.
 use Prim.Native.Char.{code}
 use Rattle.std.specs.Prelude.{◌≡◌, ℕ, List, [], ◌∷◌, Some, true, codes, map, pos}
 use Rattle.std.specs.Borrow.{Bor}
-use Rattle.clap.specs.Words.{App, Rule, Text, new_app, new_rule, with_rule}
+use Rattle.clap.specs.Words.{App, Rule, Text, new_rule, with_rule}
 use Rattle.clap.specs.declared.builder.action.ArgAction.TheVariants.{Set, SetTrue}
 use Rattle.clap.specs.declared.builder.value_parser.ValueParser.TheVariants as vp
-use Rattle.cli.specs.declared.command.Program.{Program}
-use Rattle.cli.specs.declared.command.Program.TheVariants.{Abnfi, Pegi}
 
 -- texts that an argument takes
 abbrev pub Names : Type 0
@@ -43,38 +41,9 @@ limit_rule = record (new_rule (codes "limit")) {
 abbrev pub start_rule : Rule
 start_rule = record (new_rule (codes "start")) { short = Some (code "s"); value_names = 1 }
 
--- the names of the alphabets of a line
-abbrev pub alphabet_names : List Text
-alphabet_names = codes "bytes" ∷ codes "utf8" ∷ []
-
--- the texts are the names of the alphabets
-abbrev pub AreAlphabets : Names → Type 0
-AreAlphabets names = map (λ s. s.now) names.now ≡ alphabet_names
-
--- `-u MODE`, one of the names; `bytes` where it is not given
-abbrev pub letters_rule : Names → Rule
-letters_rule names = record (new_rule (codes "letters")) {
-  short = Some (code "u");
-  value_names = 1;
-  parser = Some (vp.Names names);
-  defaults = codes "bytes" ∷ [];
-}
-
 -- a flag of one letter
 abbrev pub flag_rule : Text → ℕ → Rule
 flag_rule id letter = record (new_rule id) { short = Some letter; action = Some SetTrue; parser = Some vp.Bool }
-
--- `-r`
-abbrev pub raw_rule : Rule
-raw_rule = flag_rule (codes "raw") (code "r")
-
--- `-w`
-abbrev pub viable_rule : Rule
-viable_rule = flag_rule (codes "viable") (code "w")
-
--- `-z`
-abbrev pub nul_rule : Rule
-nul_rule = flag_rule (codes "nul") (code "z")
 
 -- `-x`
 abbrev pub explain_rule : Rule
@@ -87,20 +56,3 @@ grammar_rule = record (new_rule (codes "grammar")) { value_names = 1; action = S
 -- a command with the options of both programs, its modes under these names
 abbrev pub with_options : Names → App → App
 with_options names app = with_rule (with_rule (with_rule app (mode_rule names)) limit_rule) start_rule
-
--- `pegi [-m MODE] [-l N] [-s RULE] [-r] [-x] GRAMMAR`
-abbrev pub pegi_app : Names → App
-pegi_app names = with_rule (with_rule (with_rule (with_options names (new_app (codes "pegi"))) raw_rule) explain_rule)
-    grammar_rule
-
--- `abnfi [-m MODE] [-l N] [-s RULE] [-u MODE] [-w] [-z] [-x] GRAMMAR`
-abbrev pub abnfi_app : Names → Names → App
-abnfi_app names alphabets =
-    with_rule (with_rule (with_rule (with_rule (with_rule (with_options names (new_app (codes "abnfi")))
-    (letters_rule alphabets)) viable_rule) nul_rule) explain_rule) grammar_rule
-
--- this is the command of the program
-abbrev pub IsAppOf : Program → App → Type 0
-IsAppOf Pegi app = (names : Names) × AreModes names × (app ≡ pegi_app names)
-IsAppOf Abnfi app = (names : Names) × AreModes names × (alphabets : Names) × AreAlphabets alphabets ×
-    (app ≡ abnfi_app names alphabets)

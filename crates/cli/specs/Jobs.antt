@@ -17,13 +17,15 @@ use Rattle.toolrun.specs.declared.stop.Stop.TheVariants.{NoMemory, Unreadable}
 
 -- What is stated where the matches ask for settings: what the tool states for the text of a grammar with these
 -- settings. No clause can say which text a file holds. Or the grammar cannot be read, or memory is refused before that.
-pub data JobStates (States : List ℕ → Settings → Input → List ℕ → Reply → Type 0) (rows : List Row)
+-- Asks says what the matches ask for in the language alone.
+pub data JobStates {O : Type 0} (Asks : List Row → O → Type 0)
+    (States : List ℕ → Settings O → Input → List ℕ → Reply → Type 0) (rows : List Row)
     (input : Input) : List ℕ → Reply → Type 0 where
-  runs : (grammar : List ℕ) (asked : Asked) (notes : List ℕ) (reply : Reply) → Ask rows asked
+  runs : (grammar : List ℕ) (asked : Asked O) (notes : List ℕ) (reply : Reply) → Ask Asks rows asked
       → States grammar asked.settings input notes reply →
-      JobStates States rows input notes reply
-  unreadable : JobStates States rows input [] (stopped Unreadable)
-  no_memory : JobStates States rows input [] (stopped NoMemory)
+      JobStates Asks States rows input notes reply
+  unreadable : JobStates Asks States rows input [] (stopped Unreadable)
+  no_memory : JobStates Asks States rows input [] (stopped NoMemory)
 
 -- how a run stops whose words are right, but that has no job
 abbrev pub IsStopOf : Unready → Stop → Type 0

@@ -1,6 +1,8 @@
 -- What a parse of the words comes to.
 use Rattle.std.specs.Prelude.{◌≡◌, ◌≢◌, ℕ, List, [], Result, MatchResult}
-use Rattle.clap.specs.Words.{App, HasKind, IsAmong, Kinds, Text, fault_of, found_of, matches_of, rows_of}
+use Rattle.clap.specs.Built.{IsParsedFrom}
+use Rattle.clap.specs.Words.{App, HasKind, IsAmong, Kinds, Text, app_of, fault_of, found_of, matches_of, rows_of}
+use Rattle.clap.specs.declared.builder.command.Command.{Command}
 use Rattle.clap.specs.declared.error.Error.{Error}
 use Rattle.clap.specs.declared.error.kind.ErrorKind.{ErrorKind}
 use Rattle.clap.specs.declared.error.kind.ErrorKind.TheVariants.{DisplayHelp, DisplayVersion}
@@ -18,6 +20,10 @@ use Rattle.toolrun.specs.declared.stop.Stop.TheVariants.{NoMemory, Quiet}
 abbrev pub Parses : App → List Text → Result ArgMatches Error → Type 0
 Parses app words r = MatchResult r (λ m. (fault_of app words ≡ []) × (rows_of (found_of m) ≡ matches_of app words))
     (HasKind (fault_of app words))
+
+-- the matches come from words that such a command parsed
+abbrev pub IsParsedBy : (App → Type 0) → ArgMatches → Type 0
+IsParsedBy IsApp m = (app : App) × IsApp app × (c : Command) × (app_of c ≡ app) × IsParsedFrom c m
 
 -- the words have these faults, or else no fault, and the grammar was not read
 abbrev pub IsUnready : Kinds → Unready → Type 0

@@ -5,13 +5,15 @@
 mod command;
 mod fault;
 mod help;
+mod program;
 mod reading;
 mod settings;
 mod start;
 mod tool;
 
-pub use command::{Program, abnfi_command, flag_arg, is_a_simple_command, parse, pegi_command};
+pub use command::{explain_arg, flag_arg, grammar_arg, limit_arg, mode_arg, start_arg};
 pub use fault::refuse_invalid_utf8;
+pub use program::{Program, parse};
 pub use reading::{Job, Unready, end_unready, read_job};
 pub use settings::{Asked, read_words, settings_of};
 pub use start::{end_without_memory, start_program, words_of};

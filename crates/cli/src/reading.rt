@@ -1,16 +1,15 @@
 //! What a program is to do: the settings in its words, and its grammar.
 ghost use Rattle.std.specs.Prelude.{◌≡◌, ◌≢◌, MatchResult, [], false, map, string_bytes};
-ghost use Rattle.clap.specs.Words.{Kinds, fault_of, matches_of};
+ghost use Rattle.clap.specs.Words.{App, Kinds, fault_of, matches_of};
 ghost use Rattle.cli.specs.Asked.{Ask};
-ghost use Rattle.cli.specs.Command.{IsAppOf};
 ghost use Rattle.cli.specs.Jobs.{IsStopOf, TellsOf};
 ghost use Rattle.cli.specs.Parsing.{IsUnready, WordsState};
 ghost use Rattle.toolrun.specs.Right.{Comes};
 ghost use Rattle.toolrun.specs.Status.{code_of};
 ghost use Rattle.toolrun.specs.Stream.{no_input, passed};
 
-use crate::command::Program;
 use crate::fault::end_unparsed;
+use crate::program::Program;
 use crate::settings::{Asked, read_words};
 use clap::Error;
 use lexer::MAX_GRAMMAR;
@@ -23,8 +22,8 @@ use toolrun::{Settings, Status, Stop, end_run};
 
 /// A grammar's text, and how it is run.
 #[derive(Drop)]
-pub struct Job<'a> {
-    pub settings: Settings<'a>,
+pub struct Job<'a, O> {
+    pub settings: Settings<'a, O>,
     pub grammar: Vec<u8>,
 }
 
@@ -49,18 +48,17 @@ fn read_grammar<R: Files + AllocGlobal>(rt: &R, path: &str) -> io::Result<Vec<u8
 }
 
 /// Reads the words of a program, and then the grammar's file.
-pub fn read_job<'a, R: Files + AllocGlobal>(
+pub fn read_job<'a, P: Program, R: Files + AllocGlobal>(
     rt: &R,
-    program: Program,
     words: &'a [String],
-) -> Result<Job<'a>, Unready>
-    ensures job { (app : _) × IsAppOf program app × MatchResult result
+) -> Result<Job<'a, P::Options>, Unready>
+    ensures job { (app : App) × P.is_app app × MatchResult result
         (λ job. (fault_of app (map string_bytes words.entry.now) ≡ []) ×
-        ((path : _) × Ask (matches_of app (map string_bytes words.entry.now))
+        ((path : _) × Ask P.asks (matches_of app (map string_bytes words.entry.now))
         (record { settings = job.settings; path = path })))
         (IsUnready (fault_of app (map string_bytes words.entry.now))) }
 {
-    let Asked { settings, path } = match read_words(rt.alloc(), program, words) {
+    let Asked { settings, path } = match read_words::<P, String>(rt.alloc(), words) {
         Ok(asked) => asked,
         Err(error) => return Err(Unready::Words(error)),
     };

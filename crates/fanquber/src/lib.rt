@@ -2,16 +2,18 @@
 //! It has nothing of its own; each item comes from the crate that proves it.
 #![tactic(auto)]
 
-pub use abnfrun::{AbnfLanguage, one_reply_of_abnf, one_statement_of_abnf, run_abnf};
+pub use abnfrun::{
+    AbnfLanguage, AbnfOptions, AbnfSettings, Alphabet, one_reply_of_abnf, one_statement_of_abnf,
+    run_abnf,
+};
 pub use cli::{
-    Asked, Job, Program, Unready, abnfi_command, end_unready, end_without_memory,
-    is_a_simple_command, parse, pegi_command, read_job, read_words, refuse_invalid_utf8,
-    settings_of, start_program, tool_main, words_of,
+    Asked, Job, Program, Unready, end_unready, end_without_memory, parse, read_job, read_words,
+    refuse_invalid_utf8, settings_of, start_program, tool_main, words_of,
 };
 pub use feed::{Broken, Feed, Flow, Held, Source, SourceOf};
-pub use pegrun::{PegLanguage, one_reply, one_statement, run_peg};
+pub use pegrun::{PegLanguage, PegOptions, PegSettings, one_reply, one_statement, run_peg};
 pub use ruletable::{Sink, SinkOf, WriteFault};
 pub use toolrun::{
-    Alphabet, Checked, DEFAULT_LIMIT, Ending, Language, MAX_LIMIT, Mode, Settings, Status, Stop,
-    close_run, conclude_run, end_run, plain_ending, run_tool,
+    Checked, DEFAULT_LIMIT, Ending, Language, MAX_LIMIT, Mode, Settings, Status, Stop, close_run,
+    conclude_run, end_run, plain_ending, run_tool,
 };

@@ -3,6 +3,7 @@
 
 ghost use Rattle.std.specs.Prelude.{◌≡◌, None};
 ghost use Rattle.abnfrun.specs.AbnfAnswers.{AbnfStates};
+ghost use Rattle.capi.specs.Asking.{AbnfMeant, PegMeant};
 ghost use Rattle.capi.specs.BufferRun.{IsBufferRun};
 ghost use Rattle.capi.specs.GrammarOpenings.{IsAbnfOpening, IsPegOpening};
 ghost use Rattle.capi.specs.JudgeCall.{IsJudgeCall};
@@ -25,7 +26,7 @@ pub extern "C" fn fanquber_peg(
     out: &mut [u8],
     err: &mut [u8],
 ) -> CResult
-    ensures { IsBufferRun (λ settings. States grammar.now settings) asked.now name.now input.now
+    ensures { IsBufferRun PegMeant (λ settings. States grammar.now settings) asked.now name.now input.now
         (record { old = out.old; new = out.new; len = result.out_len })
         (record { old = err.old; new = err.new; len = result.err_len }) result.status }
 {
@@ -43,7 +44,7 @@ pub extern "C" fn fanquber_abnf(
     out: &mut [u8],
     err: &mut [u8],
 ) -> CResult
-    ensures { IsBufferRun (λ settings. AbnfStates grammar.now settings) asked.now name.now input.now
+    ensures { IsBufferRun AbnfMeant (λ settings. AbnfStates grammar.now settings) asked.now name.now input.now
         (record { old = out.old; new = out.new; len = result.out_len })
         (record { old = err.old; new = err.new; len = result.err_len }) result.status }
 {
@@ -63,7 +64,7 @@ pub extern "C" fn fanquber_peg_windows(
     out: &mut [u8],
     err: &mut [u8],
 ) -> CResult
-    ensures { IsWindowsRun (λ settings. States grammar.now settings) asked.now name.now input.now windows.now
+    ensures { IsWindowsRun PegMeant (λ settings. States grammar.now settings) asked.now name.now input.now windows.now
         (record { old = results.old; new = results.new })
         (record { old = out.old; new = out.new; len = result.out_len })
         (record { old = err.old; new = err.new; len = result.err_len }) result.status }
@@ -84,7 +85,7 @@ pub extern "C" fn fanquber_peg_open(
     err: &mut [u8],
 ) -> CResult
     ensures out { result.out_len ≡ 0 }
-    ensures call { IsOpenCall (λ settings. IsPegOpening grammar.now settings) asked.now name.now
+    ensures call { IsOpenCall PegMeant (λ settings. IsPegOpening grammar.now settings) asked.now name.now
         (record { old = place.old.runner.held; new = place.new.runner.held })
         (record { old = err.old; new = err.new; len = result.err_len }) result.status }
 {
@@ -126,7 +127,7 @@ pub extern "C" fn fanquber_abnf_open(
     err: &mut [u8],
 ) -> CResult
     ensures out { result.out_len ≡ 0 }
-    ensures call { IsOpenCall (λ settings. IsAbnfOpening grammar.now settings) asked.now name.now
+    ensures call { IsOpenCall AbnfMeant (λ settings. IsAbnfOpening grammar.now settings) asked.now name.now
         (record { old = place.old.judge.held; new = place.new.judge.held })
         (record { old = err.old; new = err.new; len = result.err_len }) result.status }
 {

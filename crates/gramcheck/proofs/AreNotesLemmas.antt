@@ -6,7 +6,6 @@ use Rattle.std.specs.Prelude.{position, slice_get, option_to_list, Contains}
 use Rattle.std.specs.Str.{bytes_eq}
 use Rattle.std.specs.List.{list_any}
 use Rattle.std.proofs.Math.Bool.{or-false}
-use Rattle.std.proofs.Math.Seq.{drop-append_seam}
 use Rattle.std.proofs.lemmas.Bool.{both_ways, cases_Bool, or_right, or_cases}
 use Rattle.std.proofs.lemmas.Bool.Decides.{eqb_tells}
 use Rattle.std.proofs.lemmas.List.{length-map}
@@ -22,7 +21,6 @@ use Rattle.rulenames.specs.FirstUses.{is_among, news}
 use Rattle.rulenames.specs.IdMarks.{chosen}
 use Rattle.rulenames.proofs.AreMarksLemmas.{mark_tests, marks-opposite}
 use Rattle.rulenames.proofs.ChosenLemmas.{chosen-map}
-use Rattle.rulenames.proofs.IsScannedLemmas.{known_among}
 use Rattle.pegread.specs.Pattern.{Rule}
 use Rattle.gramcheck.specs.Left.{IsLeftRecursive, Loops}
 use Rattle.gramcheck.specs.GrammarNotes.{start_of, IsUnused, names_at, AreNotes, AreRedefinitions, AreMarks, Those}
@@ -152,8 +150,8 @@ module _ (rules : List Rule) (own : (id : ℕ) (name : List ℕ) → slice_get (
           cc (a, b)) numbers
           ∙ sym (mark_tests numbers (length rules) again marks id (slice_get_within rules id rule at))
 
-module _ (rules : List Rule) (start : Option (List ℕ)) (names : Rules (Unit {0})) (numbers : List ℕ)
-    (uses : AreUses rules (option_to_list (start_of start rules) ++ names_used rules) names numbers) where
+module _ (rules : List Rule) (start : Option (List ℕ)) (numbers : List ℕ) (missing : Rules (Unit {0}))
+    (uses : AreUses rules (option_to_list (start_of start rules) ++ names_used rules) numbers missing) where
   abbrev seen : List (List ℕ)
   seen = option_to_list (start_of start rules) ++ names_used rules
 
@@ -197,8 +195,7 @@ module _ (rules : List Rule) (start : Option (List ℕ)) (names : Rules (Unit {0
         marks-opposite used id (omega (arith, low, marks.count_is))
         ∙ ap not
         (mark_tests numbers (length rules) used marks id low
-        ∙ known_among Exact (rule_names rules) seen seen names numbers rule.name id uses
-        (own id rule.name (name-at rules id rule at)))
+        ∙ uses.known rule.name id (own id rule.name (name-at rules id rule at)))
 
     pub marks-unused : AreMarks (IsUnused start rules) rules (map not used)
     marks-unused = record {
@@ -213,14 +210,8 @@ module _ (rules : List Rule) (start : Option (List ℕ)) (names : Rules (Unit {0
     }
 
   -- the names that no rule has
-  pub undefined-names : drop (length rules) (names_of names) ≡ news Exact (rule_names rules)
-      (option_to_list start ++ names_used rules)
-  undefined-names =
-      ap (drop (length rules)) uses.all
-      ∙ ap (λ (k : ℕ). drop k (rule_names rules ++ news Exact (rule_names rules) seen))
-      (sym (length-map rules (λ rule. rule.name)))
-      ∙ drop-append_seam (rule_names rules) (news Exact (rule_names rules) seen)
-      ∙ news-start start rules (names_used rules)
+  pub undefined-names : names_of missing ≡ news Exact (rule_names rules) (option_to_list start ++ names_used rules)
+  undefined-names = uses.all ∙ news-start start rules (names_used rules)
 
 -- all notes
 told-of : (rules : List Rule) (f : List ℕ → Said) (marks : List Bool) → map f (chosen marks (rule_names rules))

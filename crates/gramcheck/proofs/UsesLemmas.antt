@@ -1,33 +1,99 @@
 -- The uses in the bodies so far, with those in one body more.
 -- Serves: check_peg
-use Rattle.std.proofs.Common.{◌≡◌, ℕ, ◌+◌, ◌<◌, List, [], ◌∷◌, ◌++◌, length, map, get_or, take, slice_get, Some, None}
-use Rattle.std.proofs.Common.{sym, ap, ◌∙◌, append_assoc, append-nil, add-one}
+use Rattle.std.proofs.Common.{◌≡◌, ℕ, ◌+◌, ◌<◌, ◌==◌, ◌||◌, Bool, true, cond, List, [], ◌∷◌, ◌++◌, length, map, get_or}
+use Rattle.std.proofs.Common.{take, slice_get, position, Some, None, refl, sym, ap, ◌∙◌, append_assoc, append-nil}
+use Rattle.std.proofs.Common.{add-one}
+use Rattle.std.proofs.Math.Bool.{or-false}
 use Rattle.std.proofs.Math.Seq.{take-suc}
 use Rattle.std.proofs.lemmas.List.{map-append}
-use Rattle.std.proofs.lemmas.Option.{slice_get-map}
+use Rattle.std.proofs.lemmas.List.Folds.{list_any-append}
+use Rattle.std.proofs.lemmas.Option.{slice_get-map, none-some}
 use Rattle.std.proofs.lemmas.Simd.{map-map}
+use Rattle.std.specs.List.{list_any}
 use Rattle.std.specs.Option.{option_map}
 use Rattle.std.specs.Prelude.{option_to_list, Result, Ok, Err, IfOk}
+use Rattle.std.specs.Str.{bytes_eq}
 use Rattle.ruletable.specs.Rules as table
-use Rattle.ruletable.specs.Rules.{Rules, names_of}
+use Rattle.ruletable.specs.Rules.{Rules, find_in, names_of, same_name}
+use Rattle.ruletable.specs.declared.table.NameCase.{NameCase}
 use Rattle.ruletable.specs.declared.table.NameCase.TheVariants.{Exact}
-use Rattle.rulenames.specs.NameUses.{no_uses}
-use Rattle.rulenames.proofs.IsScannedLemmas.{used_next}
+use Rattle.rulenames.specs.FirstUses.{is_among, news}
+use Rattle.rulenames.specs.NameUses.{IsAdded}
+use Rattle.rulenames.proofs.IsAddedLemmas.{found_in}
+use Rattle.rulenames.proofs.IsPlaceLemmas.{place_among, place_append, place_of, position-none, same_place}
+use Rattle.rulenames.proofs.IsScannedLemmas.{news_append, used_next}
 use Rattle.pegread.specs.Pattern.{Pattern, Rule}
 use Rattle.pegread.specs.PegViews.{patterns, patterns_of, pattern_of, rule_of, rules_of}
 use Rattle.pegread.specs.declared.expr.Expr.{Expr}
 use Rattle.gramcheck.specs.GrammarNotes.{start_of}
 use Rattle.gramcheck.specs.Uses.{names_in, names_in_all, names_used, rule_names, AreUses}
-use Rattle.gramcheck.proofs.RuleNameLemmas.{names-same}
+use Rattle.gramcheck.proofs.RuleNameLemmas.{names-same, other-name}
 
 -- no name is used yet
-pub uses-none : (t : Rules Expr) (names : Rules (Unit {0})) → names.names ≡ Exact → names_of names ≡ names_of t
-    → AreUses (rules_of t) [] names []
-uses-none t names exact all = record {
+pub uses-none : (rules : List Rule) (missing : Rules (Unit {0})) → missing.names ≡ Exact → missing.rules ≡ []
+    → AreUses rules [] [] missing
+uses-none rules missing exact none = record {
   compares = exact;
-  all = all ∙ sym (names-same t) ∙ sym (append-nil (rule_names (rules_of t)));
-  ids = no_uses;
+  all = ap (map (λ (rule : table.Rule (Unit {0})). rule.name)) none;
+  known = λ name id own. refl;
 }
+
+-- where a table finds a name
+pub finds-name : (t : Rules Expr) → t.names ≡ Exact → (name : List ℕ) → find_in t name
+    ≡ position (bytes_eq name) (rule_names (rules_of t))
+finds-name t exact name =
+    found_in t name ∙ ap (λ (case : NameCase). position (same_name case name) (names_of t)) exact
+    ∙ ap (position (bytes_eq name)) (sym (names-same t))
+
+-- one use more: of a rule's name, or of a name that no rule has
+module _ (rules : List Rule) (seen : List (List ℕ)) (n : List ℕ) where
+  abbrev names : List (List ℕ)
+  names = rule_names rules
+
+  among-next : (name : List ℕ) → is_among Exact (seen ++ n ∷ []) name ≡ (is_among Exact seen name || bytes_eq name n)
+  among-next name = list_any-append (bytes_eq name) seen (n ∷ [])
+      ∙ ap (λ b. is_among Exact seen name || b) (or-false (bytes_eq name n))
+
+  news-next : (m : List (List ℕ)) → news Exact names seen ≡ m → (b : Bool) → is_among Exact (names ++ m) n ≡ b
+      → news Exact names (seen ++ n ∷ []) ≡ m ++ cond b [] (n ∷ [])
+  news-next m is b e =
+      news_append Exact names seen (n ∷ [])
+      ∙ ap (λ l. l ++ news Exact (names ++ l) (n ∷ [])) is
+      ∙ ap (λ b. m ++ cond b [] (n ∷ [])) e
+
+  pub known-use : (ids : List ℕ) (missing : Rules (Unit {0})) (i : ℕ) → AreUses rules seen ids missing
+      → position (bytes_eq n) names ≡ Some i → AreUses rules (seen ++ n ∷ []) (ids ++ i ∷ []) missing
+  known-use ids missing i u at =
+      let place = place_of Exact n names i at in
+      record {
+        compares = u.compares;
+        all = u.all ∙ sym (append-nil (news Exact names seen))
+            ∙ sym (news-next (news Exact names seen) refl true
+            (place_among Exact (place_append Exact (news Exact names seen) place)));
+        known = λ name id own.
+            list_any-append (λ other. other == id) ids (i ∷ [])
+            ∙ ap (λ b. list_any (λ other. other == id) ids || b)
+            (or-false (i == id) ∙ same_place Exact n name place (place_of Exact name names id own))
+            ∙ ap (λ b. b || bytes_eq name n) (u.known name id own) ∙ sym (among-next name);
+      }
+
+  pub missing-use : (ids : List ℕ) (old new : Rules (Unit {0})) (k : ℕ) → AreUses rules seen ids old
+      → position (bytes_eq n) names ≡ None → IsAdded old new n k → AreUses rules (seen ++ n ∷ []) ids new
+  missing-use ids old new k u none a =
+      let not-known = position-none (bytes_eq n) names none in
+      let added : names_of new ≡ names_of old ++ news Exact (names_of old) (n ∷ []) = rw u.compares at a.all in
+      record {
+        compares = a.case ∙ u.compares;
+        all = added ∙ ap (λ l. l ++ news Exact l (n ∷ [])) u.all
+            ∙ sym (news-next (news Exact names seen) refl (is_among Exact (news Exact names seen) n)
+            (list_any-append (bytes_eq n) names (news Exact names seen)
+            ∙ ap (λ b. b || is_among Exact (news Exact names seen) n) not-known));
+        known = λ name id own.
+            u.known name id own ∙ sym (or-false (is_among Exact seen name))
+            ∙ ap (λ b. is_among Exact seen name || b) (sym (other-name name n (λ is.
+            none-some id (sym none ∙ ap (λ x. position (bytes_eq x) names) (sym is) ∙ own))))
+            ∙ sym (among-next name);
+      }
 
 -- the uses in one more member
 all-more : (ps : List Pattern) (p : Pattern) → names_in_all (patterns (ps ++ p ∷ [])) ≡ names_in_all (patterns ps)

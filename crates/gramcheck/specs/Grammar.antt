@@ -20,6 +20,14 @@ pub record Grammar : Type 0 where
   pub ranks : List ℕ
   pub keys : Marks
 
+-- the same of a grammar whose keys are not found yet
+pub record Ranked : Type 0 where
+  pub rules : table.Rules Expr
+  pub start : ℕ
+  pub nodes : List Node
+  pub bodies : List ℕ
+  pub ranks : List ℕ
+
 -- the nodes spell the rules' bodies, and every left step between them lowers the rank
 abbrev pub IsSoundGrammar : Grammar → Type 0
 IsSoundGrammar g = IsRanked (rules_of g.rules) g.start (shapes_of g.nodes) g.bodies g.ranks

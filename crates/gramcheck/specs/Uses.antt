@@ -1,11 +1,11 @@
 -- The names that the bodies of a grammar's rules use, in order.
-use Rattle.std.specs.Prelude.{ℕ, List, [], ◌∷◌, ◌++◌, map}
-use Rattle.std.specs.List.{flat_map}
-use Rattle.ruletable.specs.Rules.{Rules}
+use Rattle.std.specs.Prelude.{◌≡◌, ◌==◌, ℕ, List, [], ◌∷◌, ◌++◌, map, position, Some, bytes_eq}
+use Rattle.std.specs.List.{flat_map, list_any}
+use Rattle.ruletable.specs.Rules.{Rules, names_of}
 use Rattle.ruletable.specs.declared.table.NameCase.TheVariants.{Exact}
 use Rattle.pegread.specs.Pattern.{Pattern, Patterns, Any, Bytes, Set, Name, Seq, Choice, Star, Plus, Opt, And, Not, Act}
 use Rattle.pegread.specs.Pattern.{Open, Close, none, more, Rule}
-use Rattle.rulenames.specs.NameUses.{IsScanned}
+use Rattle.rulenames.specs.FirstUses.{is_among, news}
 
 -- the names in an expression, from left to right
 abbrev mutual
@@ -37,7 +37,10 @@ names_used rules = flat_map (λ rule. names_in rule.body) rules
 abbrev pub rule_names : List Rule → List (List ℕ)
 rule_names rules = map (λ rule. rule.name) rules
 
--- the names are the rules' names and after them those of the used ones that no rule has, and of each use there is the
--- id of its name
-abbrev pub AreUses : List Rule → List (List ℕ) → Rules (Unit {0}) → List ℕ → Type 0
-AreUses rules used names ids = IsScanned Exact (rule_names rules) used used names ids
+-- The missing names are those of the used ones that no rule has, in order of first use, and the id of a rule is among
+-- the ids exactly where a used name is the rule's.
+pub record AreUses (rules : List Rule) (used : List (List ℕ)) (ids : List ℕ) (missing : Rules (Unit {0})) : Type 0 where
+  pub compares : missing.names ≡ Exact
+  pub all : names_of missing ≡ news Exact (rule_names rules) used
+  pub known : (name : List ℕ) (id : ℕ) → position (bytes_eq name) (rule_names rules) ≡ Some id
+      → list_any (λ other. other == id) ids ≡ is_among Exact used name

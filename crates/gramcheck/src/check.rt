@@ -1,31 +1,23 @@
 //! The checks of a grammar.
-ghost use Rattle.std.specs.Prelude.{◌≡◌, ◌<◌, ◌≢◌, None, Option, List, ℕ, true, false, length, map, IfOk, IfSome};
+ghost use Rattle.std.specs.Prelude.{◌≡◌, ◌<◌, ◌≢◌, None, Option, ℕ, true, false, length, map, IfOk, IfSome};
 ghost use Rattle.std.specs.Prelude.{MatchOption, option_copied};
-ghost use Rattle.fixpoint.specs.NumberMarks.{AreBelow};
 ghost use Rattle.ruletable.specs.Notes.{said_of};
 ghost use Rattle.ruletable.specs.Rules.{find_in};
-ghost use Rattle.pegread.specs.Pattern.{Rule};
 ghost use Rattle.pegread.specs.PegViews.{rules_of};
 ghost use Rattle.gramcheck.specs.Checked.{is_refused, IsStart};
 ghost use Rattle.gramcheck.specs.Defined.{IsGiven};
 ghost use Rattle.gramcheck.specs.Grammar.{IsNumbered, IsSoundGrammar};
-ghost use Rattle.gramcheck.specs.Printing.{ArePrintMarks};
-ghost use Rattle.pegnodes.specs.Bodies.{AreBodies, IsBuilt};
-ghost use Rattle.pegnodes.specs.KeyLists.{marks_of, node_marks, tail_marks};
-ghost use Rattle.pegnodes.specs.KeyMarks.{AreMarks};
 ghost use Rattle.pegnodes.specs.NodeCounts.{node_counts};
 ghost use Rattle.pegnodes.specs.NodeLists.{AreNumbered};
 ghost use Rattle.pegnodes.specs.Nodes.{shapes_of};
-ghost use Rattle.pegnodes.specs.Slots.{AreCuts};
-ghost use Rattle.pegnodes.specs.StarTables.{AreStarTables};
 ghost use Rattle.gramcheck.specs.GrammarNotes.{AreNotes, names_at};
 ghost use Rattle.gramcheck.specs.Sound.{IsRanked};
 
 use crate::analysis::analysed;
 use crate::notes::{notes, refused};
-use crate::printing::print_marks;
-use crate::sound::{SoundPeg, Tables};
-use pegnodes::{Cut, MarkedNodes, cut_grammar, cut_templates, find_keys, find_tables};
+use crate::ranked::RankedPeg;
+use crate::sound::SoundPeg;
+use pegnodes::{Cut, cut_grammar};
 use pegread::{Expr, Peg};
 use ruletable::{Memory, NameCase, Note, RuleTable};
 use std::alloc::Global;
@@ -35,7 +27,7 @@ use std::alloc::Global;
 pub struct Checked<S> {
     /// The notes on it, in order.
     pub notes: Vec<Note>,
-    /// The grammar, ready to run, unless a note rejects it.
+    /// The grammar, unless a note rejects it.
     pub sound: Option<S>,
 }
 
@@ -61,6 +53,31 @@ pub fn check_peg(alloc: Global, peg: Peg, start: Option<&str>) -> Result<Checked
     ensures numbered { IfOk result (λ c. IfSome c.sound IsNumbered) }
     ensures nodes { IfOk result (λ c. IfSome c.sound (λ g. length g.nodes ≡ node_counts (rules_of peg.rules))) }
 {
+    let Checked { notes, sound } = judge_peg(alloc, peg, start)?;
+    match sound {
+        Some(ranked) => {
+            let sound = ranked.ready(alloc)?;
+            Ok(Checked {
+                notes,
+                sound: Some(sound),
+            })
+        }
+        None => Ok(Checked { notes, sound: None }),
+    }
+}
+
+/// Checks a grammar as `check_peg` does, and makes no table that only a run needs: where no note rejects the grammar,
+/// `RankedPeg::ready` makes them. The notes are those of `check_peg`.
+///
+/// # Errors
+/// `Memory` if an allocation fails; the grammar is dropped then.
+pub fn judge_peg(alloc: Global, peg: Peg, start: Option<&str>) -> Result<Checked<RankedPeg>, Memory>
+    ensures notes { IfOk result (λ c. AreNotes (rules_of peg.rules) (names_at (rules_of peg.rules) peg.redefined.items)
+        (option_copied start.entry) (map said_of c.notes.items)) }
+    ensures sound { IfOk result (λ c. MatchOption c.sound (is_refused (map said_of c.notes.items) ≡ true)
+        (λ g. (is_refused (map said_of c.notes.items) ≡ false) × (g.rules ≡ peg.rules)
+        × IsStart (option_copied start.entry) (rules_of peg.rules) g.start)) }
+{
     let judged = judge(alloc, &peg.rules, &peg.redefined, start)?;
     if refused(&judged.notes) {
         return Ok(Checked {
@@ -69,10 +86,10 @@ pub fn check_peg(alloc: Global, peg: Peg, start: Option<&str>) -> Result<Checked
         });
     }
     let first = start_id(&peg.rules, start)?;
-    let sound = sound_of(alloc, peg.rules, first, judged.cut, judged.ranks)?;
+    let ranked = RankedPeg::new(peg.rules, first, judged.cut, judged.ranks);
     Ok(Checked {
         notes: judged.notes,
-        sound: Some(sound),
+        sound: Some(ranked),
     })
 }
 
@@ -134,53 +151,4 @@ fn start_id(rules: &RuleTable<Expr>, start: Option<&str>) -> Result<usize, Memor
         Some(id) => Ok(id),
         None => unreachable!(),
     }
-}
-
-// Makes the grammar of these rules and nodes ready to run from the start rule.
-fn sound_of(
-    alloc: Global,
-    rules: RuleTable<Expr>,
-    start: usize,
-    cut: Cut,
-    ranks: Vec<usize>,
-) -> Result<SoundPeg, Memory>
-    requires ranked { IsRanked (rules_of rules) start (shapes_of cut.nodes.items) cut.bodies.items ranks.items }
-    requires numbered { AreNumbered (rules_of rules) (shapes_of cut.nodes.items) cut.bodies.items }
-    ensures { IfOk result (λ g. (g.rules ≡ rules) × (g.start ≡ start) × IsSoundGrammar g × IsNumbered g) }
-{
-    let tables = tables_of(alloc, &cut, start)?;
-    Ok(SoundPeg::new(rules, start, cut, ranks, tables))
-}
-
-// Finds the tables of these nodes. The grammar runs from the rule with the id `start`.
-fn tables_of(alloc: Global, cut: &Cut, start: usize) -> Result<Tables, Memory>
-    requires built { IsBuilt (shapes_of cut.now.nodes.items) }
-    requires bodies { AreBelow cut.now.bodies.items (length cut.now.nodes.items) }
-    requires start { start < length cut.now.bodies.items }
-    ensures { IfOk result (λ t. ((rules : List Rule) → AreBodies rules (shapes_of cut.now.nodes.items)
-        cut.now.bodies.items → ArePrintMarks rules (shapes_of cut.now.nodes.items) t.printing.items)
-        × AreCuts (shapes_of cut.now.nodes.items) t.templates.places.items t.templates.cuts.items
-        × AreMarks start (shapes_of cut.now.nodes.items) cut.now.bodies.items
-        (node_marks (marks_of (shapes_of cut.now.nodes.items) t.keys.nodes.items t.keys.behind.items))
-        (tail_marks (marks_of (shapes_of cut.now.nodes.items) t.keys.nodes.items t.keys.behind.items))
-        × AreStarTables (shapes_of cut.now.nodes.items) cut.now.bodies.items
-        (marks_of (shapes_of cut.now.nodes.items) t.keys.nodes.items t.keys.behind.items)
-        t.stars.places.items t.stars.tables.items) }
-{
-    let printing = print_marks(alloc, &cut.nodes, &cut.bodies)?;
-    let templates = cut_templates(alloc, &cut.nodes)?;
-    let keys = find_keys(alloc, &cut.nodes, &cut.bodies, start)?;
-    let marked = MarkedNodes {
-        nodes: &cut.nodes,
-        bodies: &cut.bodies,
-        keys: &keys.nodes,
-        behind: &keys.behind,
-    };
-    let stars = find_tables(alloc, &marked)?;
-    Ok(Tables {
-        printing,
-        templates,
-        keys,
-        stars,
-    })
 }

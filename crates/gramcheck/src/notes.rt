@@ -80,8 +80,10 @@ fn note_uses(
         (option_to_list (option_copied start.entry) ++ names_used (rules_of rules.now))))
         ++ map (said NoteKind.Unused) (chosen unused (names_of rules.now)))) }
 {
+    // its contract says that no two rules have one name
+    let _ = rules.len();
     let uses = uses_of(alloc, rules, start)?;
-    note_undefined(alloc, &uses.names, rules.len(), notes)?;
+    note_undefined(alloc, &uses.missing, 0, notes)?;
     note_unused(alloc, rules, &uses.ids, notes)
 }
 

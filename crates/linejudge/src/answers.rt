@@ -123,57 +123,6 @@ fn tell_line<W, J: Judge<W>>(
     Ok(())
 }
 
-/// Judges a line, and adds its explanation, if it has one; nothing if an allocation fails.
-fn judge_line<W, J: Judge<W>>(
-    judge: &J,
-    work: &mut W,
-    line: &[u8],
-    reached: &mut Reached,
-) -> Result<Answer, Memory>
-    requires served { length line.now ≤ J.served judge.now }
-    requires work { J.works_in judge.now work.old }
-    requires counted { reached.old.at.count + 1 < 2 ^ 64 }
-    ensures work { J.works_in judge.now work.new }
-    ensures at { reached.new.at ≡ reached.old.at }
-    ensures answer { IfOk result (J.told judge.now line.now) }
-    ensures told { IfOk result (λ said. Adds (TellsLine (J.told judge.now) (J.explains judge.now) (J.refusal judge.now)
-        reached.old.at line.now said) reached.old.told.items reached.new.told.items) }
-    ensures err { OnErr result (reached.new.told.items ≡ reached.old.told.items) }
-{
-    let said = judge.judge(work, line)?;
-    tell_line(judge, work, line, said, reached)?;
-    Ok(said)
-}
-
-/// Judges the first `n` bytes that are held, and adds their explanation, if they have one; nothing if an allocation
-/// fails. They are put in one piece only where the first piece is shorter.
-fn judge_held<W, J: Judge<W>, R: Source>(
-    judge: &J,
-    work: &mut W,
-    feed: &mut Feed<'_, R>,
-    n: usize,
-    reached: &mut Reached,
-) -> Result<Answer, Memory>
-    requires held { n ≤ length (bytes_of feed.old) }
-    requires served { n ≤ J.served judge.now }
-    requires work { J.works_in judge.now work.old }
-    requires counted { reached.old.at.count + 1 < 2 ^ 64 }
-    ensures work { J.works_in judge.now work.new }
-    ensures same { SameFeed feed.old feed.new }
-    ensures at { reached.new.at ≡ reached.old.at }
-    ensures answer { IfOk result (J.told judge.now (take n (bytes_of feed.old))) }
-    ensures told { IfOk result (λ said. Adds (TellsLine (J.told judge.now) (J.explains judge.now) (J.refusal judge.now)
-        reached.old.at (take n (bytes_of feed.old)) said) reached.old.told.items reached.new.told.items) }
-    ensures err { OnErr result (reached.new.told.items ≡ reached.old.told.items) }
-{
-    let front = feed.front();
-    if n <= front.len() {
-        return judge_line(judge, work, &front[..n], reached);
-    }
-    let window: &[u8] = feed.window();
-    judge_line(judge, work, &window[..n], reached)
-}
-
 /// Writes `no` and a number.
 fn write_no<O: Sink>(n: usize, out: &mut O) -> Result<(), WriteFault>
     requires { O.failed out.old ≡ false }
@@ -199,8 +148,40 @@ fn write_answer<O: Sink>(said: Answer, out: &mut O) -> Result<(), WriteFault>
     }
 }
 
+/// Judges a line, adds its explanation, if it has one, and writes the answer. `None` if an allocation fails; then
+/// nothing is added and written.
+fn answer_line<W, J: Judge<W>, O: Sink>(
+    judge: &J,
+    work: &mut W,
+    line: &[u8],
+    reached: &mut Reached,
+    out: &mut O,
+) -> Result<Option<Answer>, WriteFault>
+    requires served { length line.now ≤ J.served judge.now }
+    requires work { J.works_in judge.now work.old }
+    requires counted { reached.old.at.count + 1 < 2 ^ 64 }
+    requires out_is_fresh { O.failed out.old ≡ false }
+    ensures work { J.works_in judge.now work.new }
+    ensures at { reached.new.at ≡ reached.old.at }
+    ensures answered { Answered (J.told judge.now) (J.explains judge.now) (J.refusal judge.now) reached.old.at line.now
+        (O.contents out.old) (O.contents out.new) reached.old.told.items reached.new.told.items result }
+    ensures flag { Flags (O.failed out.old) (O.failed out.new) result }
+{
+    let Ok(said) = judge.judge(work, line) else {
+        return Ok(None);
+    };
+    if tell_line(judge, work, line, said, reached).is_err() {
+        return Ok(None);
+    }
+    match write_answer(said, out) {
+        Ok(()) => Ok(Some(said)),
+        Err(fault) => Err(fault),
+    }
+}
+
 /// Judges the first `n` bytes that are held, adds their explanation, if they have one, and writes the answer. `None` if
-/// an allocation fails; then nothing is added and written.
+/// an allocation fails; then nothing is added and written. The bytes are put in one piece only where the first piece is
+/// shorter.
 pub fn answer_held<W, J: Judge<W>, R: Source, O: Sink>(
     judge: &J,
     work: &mut W,
@@ -222,11 +203,10 @@ pub fn answer_held<W, J: Judge<W>, R: Source, O: Sink>(
         reached.new.told.items result }
     ensures flag { Flags (O.failed out.old) (O.failed out.new) result }
 {
-    let Ok(said) = judge_held(judge, work, feed, n, reached) else {
-        return Ok(None);
-    };
-    match write_answer(said, out) {
-        Ok(()) => Ok(Some(said)),
-        Err(fault) => Err(fault),
+    let front = feed.front();
+    if n <= front.len() {
+        return answer_line(judge, work, &front[..n], reached, out);
     }
+    let window: &[u8] = feed.window();
+    answer_line(judge, work, &window[..n], reached, out)
 }

@@ -1,17 +1,18 @@
 -- Marks of rules that derive the empty list, and of names.
 -- Serves: lower, lower_viable.
-use Rattle.std.proofs.Common.{◌≡◌, ◌↔◌, ℕ, zero, suc, ◌+◌, ◌<◌, Bool, true, false, List, [], ◌∷◌, ◌++◌, length, get_or}
-use Rattle.std.proofs.Common.{Some, refl, sym, ◌∙◌, ap, subst, arith, ⊎_elim, length-append}
+use Rattle.std.proofs.Common.{◌≡◌, ◌↔◌, ℕ, zero, suc, ◌<◌, Bool, true, false, List, [], ◌∷◌, length, get_or, Some, refl}
+use Rattle.std.proofs.Common.{sym, ◌∙◌, ap, subst, arith}
 use Rattle.std.specs.Prelude.{slice_get}
 use Rattle.std.proofs.lemmas.List.{length-map}
+use Rattle.std.proofs.lemmas.Option.{get_or_from_slice_get, slice_get_within}
 use Rattle.abnfread.specs.Element as e
 use Rattle.abnfread.specs.Element.{Element, Rule, bodies, body_of, id_of}
 use Rattle.abnfcheck.specs.Derivable as der
 use Rattle.abnfcheck.specs.Derivable.{Derives, RuleDerives}
+use Rattle.abnfcheck.specs.RuleMarks.{AreNullMarks}
 use Rattle.lowering.specs.NullElements.{AreNullRules, AreNullAlike}
 use Rattle.lowering.specs.Numbers.{NamesTell}
 use Rattle.flatgrammar.proofs.SliceGetLemmas.{get_below}
-use Rattle.flatgrammar.proofs.SliceGetLemmas.{push_cases}
 use Rattle.abnfcheck.proofs.RuleIdLemmas.{body_at_id}
 use Rattle.flatgrammar.proofs.SliceGetLemmas.{get_there}
 
@@ -56,33 +57,25 @@ names_tell rules others marks are alike n = record {
 pub alike_itself : (rules : List Rule) → AreNullAlike rules rules
 alike_itself rules = record { count = refl; alike = λ has id. ((λ d. d), (λ d. d)) }
 
--- what holds of the marks of the first rules
-pub record AreNullSoFar (rules : List Rule) (count : ℕ) (marks : List Bool) : Type 0 where
-  pub long : length marks ≡ count
-  pub each : (id : ℕ) (mark : Bool) → slice_get marks id ≡ Some mark → (has : ℕ → Bool) → (mark ≡ true)
-      ↔ RuleDerives has rules id []
-
-pub none_marked : (rules : List Rule) (marks : List Bool) → marks ≡ [] → AreNullSoFar rules 0 marks
-none_marked rules marks is = rw is (record { long = refl; each = λ id mark h. absurd (cc h) })
-
-pub next_marked : (rules : List Rule) (i : ℕ) (marks : List Bool) (mark : Bool) → AreNullSoFar rules i marks
-    → ((has : ℕ → Bool) → (mark ≡ true) ↔ RuleDerives has rules i []) →
-    AreNullSoFar rules (i + 1) (marks ++ mark ∷ [])
-next_marked rules i marks mark m is = record {
-  long = let l = length-append marks (mark ∷ []) in let was = m.long in omega (arith, l, was);
-  each = λ id b h has. ⊎_elim
-      (λ earlier. m.each id b earlier has)
-      (λ last.
-      let was = m.long in
-      let here : i ≡ id = omega (arith, last.0, was) in
-      subst (λ v. (b ≡ true) ↔ RuleDerives has rules v []) here
-      (subst (λ v. (v ≡ true) ↔ RuleDerives has rules i []) last.1 (is has)))
-      (push_cases marks mark id b h);
+-- of each rule there is a mark
+pub null_rules : (rules : List Rule) (marks : List Bool) → length marks ≡ length rules → AreNullMarks rules marks
+    → AreNullRules rules marks
+null_rules rules marks count are = record {
+  count = count;
+  each = λ id mark at has.
+      let below = slice_get_within marks id mark at in
+      subst (λ (b : Bool). (b ≡ true) ↔ RuleDerives has rules id []) (get_here marks id mark at)
+      (are has id (omega (arith, below, count)));
 }
 
-pub all_marked : (rules : List Rule) (i : ℕ) (marks : List Bool) → AreNullSoFar rules i marks → i ≡ length rules
-    → AreNullRules rules marks
-all_marked rules i marks m all = record { count = m.long ∙ all; each = m.each }
+-- the mark of a rule that is there
+pub null_at : (rules : List Rule) (marks : List Bool) (id : ℕ) (mark : Bool) → AreNullRules rules marks
+    → id < length rules → mark ≡ get_or marks id mark → (has : ℕ → Bool) → (mark ≡ true) ↔ RuleDerives has rules id []
+null_at rules marks id mark are lt is has =
+    let count = are.count in
+    let at = get_there marks id (omega (arith, lt, count)) in
+    subst (λ (b : Bool). (b ≡ true) ↔ RuleDerives has rules id [])
+    (sym (is ∙ get_or_from_slice_get marks id at.0 mark at.1)) (are.each id at.0 at.1 has)
 
 -- the same holds of a rule of both
 pub null_alike : (rules others : List Rule) (id : ℕ) (null : Bool) → AreNullAlike rules others

@@ -5,12 +5,12 @@ ghost use Rattle.abnfread.specs.Element.{bodies};
 ghost use Rattle.abnfread.specs.AbnfViews.{rules_of};
 ghost use Rattle.flatgrammar.specs.FlatVerdicts.{DerivesLine};
 ghost use Rattle.lowering.specs.Lowered.{IsLowered};
-ghost use Rattle.lowering.specs.NullElements.{AreNullAlike, AreNullRules};
+ghost use Rattle.lowering.specs.NullElements.{AreNullAlike};
 ghost use Rattle.flatgrammar.specs.Places.{places};
 ghost use Rattle.lowering.specs.Sizes.{sizes};
 
 use crate::lower_elem::{Numbered, add, number_bodies};
-use abnfcheck::SoundAbnf;
+use abnfcheck::{SoundAbnf, nullable_rules};
 use abnfread::Elem;
 use flatgrammar::{Flat, Node};
 use ruletable::{Memory, NameCase, RuleTable};
@@ -23,17 +23,6 @@ fn alone(alloc: Global, n: usize) -> Result<Vec<usize>, Memory>
     let mut numbers = Vec::new(alloc);
     numbers.push(n)?;
     Ok(numbers)
-}
-
-// Marks the rules of a grammar that derive the empty list.
-fn null_marks(alloc: Global, grammar: &SoundAbnf) -> Result<Vec<bool>, Memory>
-    ensures { IfOk result (λ marks. AreNullRules (rules_of grammar.now.rules) marks.items) }
-{
-    let mut marks = Vec::new(alloc);
-    for id in 0..grammar.rules().len() {
-        marks.push(grammar.nullable(id))?;
-    }
-    Ok(marks)
 }
 
 /// Lowers rules to numbered nodes, for lines of at most `limit` letters. There must be as many as the grammar has, and
@@ -51,12 +40,11 @@ pub fn lower_rules(
     ensures places { IfOk result (λ flat. places flat.nodes ≤ sizes limit (bodies (rules_of rules.now)) + 2) }
 {
     let judged = grammar.judged();
-    let marks = null_marks(alloc, grammar)?;
+    let marks = nullable_rules(alloc, grammar)?;
     let mut numbered = Numbered::new(alloc);
     let bodies = number_bodies(alloc, rules, &marks, limit, &mut numbered)?;
     let members = alone(alloc, bodies[judged])?;
-    let null = grammar.nullable(judged);
-    let whole = add(&mut numbered, Node::Concat(members), null)?;
+    let whole = add(&mut numbered, Node::Concat(members), marks[judged])?;
     let flat = Flat::new(alloc, numbered.nodes, numbered.nulls, bodies, whole, limit)?;
     Ok(flat)
 }

@@ -8,6 +8,7 @@ use Rattle.std.proofs.lemmas.Bool.{eqb-true, eq-eqb, and_parts, and_from}
 use Rattle.pegnodes.proofs.AreCutsLemmas.{get_new}
 use Rattle.matchfailure.specs.declared.farthest.visit.Visit.{Visit}
 use Rattle.matchfailure.specs.VisitLists.{ListsVisit, AreOnce, AddsVisits}
+use Rattle.matchfailure.specs.SeenVisits.{is_visit_at}
 
 abbrev pub visit : ℕ → ℕ → Visit
 visit n p = record { node = n; place = p }
@@ -62,44 +63,43 @@ adds_none vs n p there = record {
   once = λ o. o;
 }
 
-module _ (test : Visit → Bool) (n p : ℕ) (tells : (k : Visit) → test k ≡ (n == k.node) && (p == k.place)) where
-  is_tested : (v : Visit) → test v ≡ true → v ≡ visit n p
+module _ (n p : ℕ) where
+  is_tested : (v : Visit) → is_visit_at n p v ≡ true → v ≡ visit n p
   is_tested v h =
-      let both = and_parts (n == v.node) (p == v.place) (sym (tells v) ∙ h) in
+      let both = and_parts (n == v.node) (p == v.place) h in
       is_visit v n p (sym (eqb-true n v.node both.0)) (sym (eqb-true p v.place both.1))
 
-  own_test : test (visit n p) ≡ true
-  own_test = tells (visit n p) ∙ and_from (n == n) (p == p) (eq-eqb n n refl) (eq-eqb p p refl)
+  own_test : is_visit_at n p (visit n p) ≡ true
+  own_test = and_from (n == n) (p == p) (eq-eqb n n refl) (eq-eqb p p refl)
 
-  found_in : (vs : List Visit) → list_any test vs ≡ true → ListsVisit vs (visit n p)
+  found_in : (vs : List Visit) → list_any (is_visit_at n p) vs ≡ true → ListsVisit vs (visit n p)
   found_in [] h = absurd (cc h)
-  found_in (v ∷ vs) h = by (test v) refl h (λ g. found_in vs g)
+  found_in (v ∷ vs) h = by (is_visit_at n p v) refl h (λ g. found_in vs g)
     where
-      by : (b : Bool) → test v ≡ b → (b || list_any test vs) ≡ true → (list_any test vs ≡ true
-          → ListsVisit vs (visit n p))
-          → ListsVisit (v ∷ vs) (visit n p)
+      by : (b : Bool) → is_visit_at n p v ≡ b → (b || list_any (is_visit_at n p) vs) ≡ true
+          → (list_any (is_visit_at n p) vs ≡ true → ListsVisit vs (visit n p)) → ListsVisit (v ∷ vs) (visit n p)
       by true is g later = (0, ap Some (is_tested v is))
       by false is g later = let l = later g in (suc l.0, l.1)
 
-  not_found : (vs : List Visit) → list_any test vs ≡ false → ListsVisit vs (visit n p) → ⊥
+  not_found : (vs : List Visit) → list_any (is_visit_at n p) vs ≡ false → ListsVisit vs (visit n p) → ⊥
   not_found [] h (k, g) = absurd (cc g)
-  not_found (v ∷ vs) h (k, g) = by (test v) refl h k g (λ q k g. not_found vs q (k, g))
+  not_found (v ∷ vs) h (k, g) = by (is_visit_at n p v) refl h k g (λ q k g. not_found vs q (k, g))
     where
-      by : (b : Bool) → test v ≡ b → (b || list_any test vs) ≡ false → (k : ℕ) → slice_get (v ∷ vs) k
-          ≡ Some (visit n p) → (list_any test vs ≡ false → (k : ℕ) → slice_get vs k ≡ Some (visit n p) → ⊥) → ⊥
+      by : (b : Bool) → is_visit_at n p v ≡ b → (b || list_any (is_visit_at n p) vs) ≡ false → (k : ℕ)
+          → slice_get (v ∷ vs) k ≡ Some (visit n p)
+          → (list_any (is_visit_at n p) vs ≡ false → (k : ℕ) → slice_get vs k ≡ Some (visit n p) → ⊥) → ⊥
       by true is q k g later = cc q
-      by false is q zero g later = let same : v ≡ visit n p = cc g in cc (is, ap test same, own_test)
+      by false is q zero g later = let same : v ≡ visit n p = cc g in cc (is, ap (is_visit_at n p) same, own_test)
       by false is q (suc k) g later = later q k g
 
-  -- what an insertion makes of a list
-  pub adds_one : (vs : List Visit) → AddsVisits (λ m q. (m ≡ n) × (q ≡ p)) vs
-      (if list_any test vs then vs else vs ++ visit n p ∷ [])
-  adds_one vs = by (list_any test vs) refl
-    where
-      by : (b : Bool) → list_any test vs ≡ b → AddsVisits (λ m q. (m ≡ n) × (q ≡ p)) vs
-          (if b then vs else vs ++ visit n p ∷ [])
-      by true is = adds_none vs n p (found_in vs is)
-      by false is = adds_last vs n p (not_found vs is)
+  -- a pair that the list has, and one that it has not
+  pub adds_known : (vs : List Visit) → list_any (is_visit_at n p) vs ≡ true
+      → AddsVisits (λ m q. (m ≡ n) × (q ≡ p)) vs vs
+  adds_known vs is = adds_none vs n p (found_in vs is)
+
+  pub adds_new : (vs : List Visit) → list_any (is_visit_at n p) vs ≡ false
+      → AddsVisits (λ m q. (m ≡ n) × (q ≡ p)) vs (vs ++ visit n p ∷ [])
+  adds_new vs is = adds_last vs n p (not_found vs is)
 
 pub lists_kept : {A : ℕ → ℕ → Type 0} {old new : List Visit} (v : Visit) → AddsVisits A old new → ListsVisit old v
     → ListsVisit new v

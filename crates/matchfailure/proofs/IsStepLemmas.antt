@@ -27,7 +27,6 @@ use Rattle.pegmatch.specs.Visits.{NodeGives, Visits}
 use Rattle.pegmatch.proofs.AsksLemmas.{is_visited}
 use Rattle.pegmatch.proofs.NodeGivesLemmas.{gives_as}
 use Rattle.matchfailure.proofs.AreCellsLemmas.{all_at_most}
-use Rattle.matchfailure.proofs.IsPutLemmas.{is_put, different_put}
 use Rattle.matchfailure.proofs.IsStackLemmas.{top_visits, top_is_open, stack_push, stack_pop, cells_put, alone_is_start}
 use Rattle.matchfailure.proofs.IsStackLemmas.{all_visited, stack_begin, no_cells, under_way}
 
@@ -148,24 +147,14 @@ module _ (g : Grammar) (x : List ℕ) (more : Bool) (sound : IsSoundGrammar g) w
 
   module _ (old new : View) (t : Frame) (fs : List Frame) (h : Found) (f : Fits g x more old) (is : old.frames ≡ t ∷ fs)
       (turn : IsTurn Rs g.start Ns g.bodies x more old.cells t.node t.place (Answer h))
-      (cells : new.cells ≡ old.cells ++ record { node = t.node; place = t.place; found = h } ∷ [])
-      (frames : new.frames ≡ fs) (begun : new.begun ≡ old.begun) where
-    abbrev cell : Entry
-    cell = record { node = t.node; place = t.place; found = h }
-
-    put_once : IsPut old.cells new.cells t.node t.place h
-    put_once = subst (λ v. IsPut old.cells v t.node t.place h) (sym cells)
-        (is_put old.cells cell (is_top old t fs f is).none)
-
-    longer_by_one : length new.cells ≡ length old.cells + 1
-    longer_by_one = ap length cells ∙ length-append old.cells (cell ∷ [])
-
+      (put : IsPut old.cells new.cells t.node t.place h) (grown : length new.cells ≡ length old.cells + 1)
+      (different : AreDifferent new.cells) (frames : new.frames ≡ fs) (begun : new.begun ≡ old.begun) where
     pub drops_top : Drops old new h
     drops_top = record {
       top = t;
       was = is ∙ ap (λ v. t ∷ v) (sym frames);
-      cells = put_once;
-      grown = longer_by_one;
+      cells = put;
+      grown = grown;
       begun = begun;
     }
 
@@ -176,11 +165,11 @@ module _ (g : Grammar) (x : List ℕ) (more : Bool) (sound : IsSoundGrammar g) w
         let top = is_top old t fs f is in
         record {
           stack = rw frames (stack_pop Rs g.start Ns g.bodies g.ranks x more sound old.cells new.cells t fs h
-              (is_stacked old t fs f is) put_once);
+              (is_stacked old t fs f is) put);
           cells = cells_put Rs g.start Ns g.bodies g.ranks x more sound old.cells new.cells t.node t.place h f.cells
-              top.visits top.low turn put_once;
-          different = subst AreDifferent (sym cells) (different_put old.cells cell f.different top.none);
-          count = omega (arith, begun, f.count, lengths, before, longer_by_one);
+              top.visits top.low turn put;
+          different = different;
+          count = omega (arith, begun, f.count, lengths, before, grown);
         }
 
     pub dropped_step : (u : Frame) (us : List Frame) → new.frames ≡ u ∷ us → IsStep g x more old new None
@@ -193,7 +182,7 @@ module _ (g : Grammar) (x : List ℕ) (more : Bool) (sound : IsSoundGrammar g) w
         let root = alone_is_start Rs g.start Ns g.bodies g.ranks x more sound old.cells t s in
         let now = still_fits in
         let here : found_at new.cells t.node 0 ≡ Some h = subst (λ v. found_at new.cells t.node v ≡ Some h) root.1
-        put_once.here in
+        put.here in
         let found = now.cells.found t.node 0 h here in
         let lengths = ap length none in
         record {

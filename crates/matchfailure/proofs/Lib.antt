@@ -1,5 +1,4 @@
 pub mod CellMapLemmas
-pub mod IsPutLemmas
 pub mod HaveTakenLemmas
 pub mod IsTurnLemmas
 pub mod IsStackLemmas
@@ -8,6 +7,7 @@ pub mod AreCellsLemmas
 pub mod IsStepLemmas
 pub mod FrameLemmas
 pub mod AddsVisitsLemmas
+pub mod SeenVisitsLemmas
 pub mod CellWalksLemmas
 pub mod CellAsksLemmas
 pub mod IsDoneLemmas

@@ -3,6 +3,7 @@ pub mod State
 pub mod Turns
 pub mod Desk
 pub mod VisitLists
+pub mod SeenVisits
 pub mod Farthest
 pub mod CellAsks
 pub mod GreatestStop

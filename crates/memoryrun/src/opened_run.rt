@@ -7,17 +7,17 @@ ghost use Rattle.toolrun.specs.Status.{code_of};
 
 use crate::bytes::Bytes;
 use crate::outputs::Outputs;
-use pegrun::PegRunner;
+use pegrun::{PegRunner, PegSettings};
 use ruletable::SinkOf;
 use std::alloc::Global;
-use toolrun::{Settings, conclude_run};
+use toolrun::conclude_run;
 
 /// Returns what a run of an open grammar writes on an input in memory, behind what is told of the grammar.
 /// `Status::Fault` also if an allocation for one of the outputs fails: it then holds a beginning.
 pub fn run_opened(
     alloc: Global,
     runner: &mut PegRunner,
-    settings: &Settings<'_>,
+    settings: &PegSettings<'_>,
     input: &[u8],
 ) -> Outputs
     ensures same { runner.new ≡ runner.old }

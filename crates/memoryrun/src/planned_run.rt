@@ -15,7 +15,7 @@ use toolrun::{Language, Plan, Settings, act_on, conclude_run};
 pub fn run_plan<L: Language>(
     alloc: Global,
     plan: &Plan<L::Grammar, L::Sound>,
-    settings: &Settings<'_>,
+    settings: &Settings<'_, L::Options>,
     input: &[u8],
 ) -> Outputs
     ensures { IsPlannedRun (does_of (λ t. task_does L.canonical L.runs t settings.now) plan.now.task) input.now

@@ -6,18 +6,17 @@ ghost use Rattle.toolrun.specs.Status.{code_of};
 
 use crate::bytes::Bytes;
 use crate::outputs::Outputs;
-use abnfrun::run_abnf;
-use pegrun::run_peg;
+use abnfrun::{AbnfSettings, run_abnf};
+use pegrun::{PegSettings, run_peg};
 use ruletable::SinkOf;
 use std::alloc::Global;
-use toolrun::Settings;
 
 /// Returns what `run_peg` writes of a grammar on an input in memory. `Status::Fault` also if an allocation
 /// for one of the outputs fails: it then holds a beginning.
 pub fn peg_in_memory(
     alloc: Global,
     grammar: &[u8],
-    settings: &Settings<'_>,
+    settings: &PegSettings<'_>,
     input: &[u8],
 ) -> Outputs
     ensures { IsMemoryRun (States grammar.now settings.now) input.now result.out.items result.err.items
@@ -39,7 +38,7 @@ pub fn peg_in_memory(
 pub fn abnf_in_memory(
     alloc: Global,
     grammar: &[u8],
-    settings: &Settings<'_>,
+    settings: &AbnfSettings<'_>,
     input: &[u8],
 ) -> Outputs
     ensures { IsMemoryRun (AbnfStates grammar.now settings.now) input.now result.out.items result.err.items

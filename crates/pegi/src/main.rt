@@ -1,10 +1,12 @@
 //! Runs a grammar in the syntax of peg(1) on its standard input.
 #![tactic(auto)]
 
+mod command;
 mod run;
 
+use crate::command::Pegi;
 use crate::run::pegi_main;
-use cli::{end_without_memory, pegi_command, start_program};
+use cli::{Program, end_without_memory, start_program};
 use feed::SourceOf;
 use std::io::BufReader;
 use std::process::ExitCode;
@@ -14,7 +16,7 @@ fn main(rt: HostRuntime) -> ExitCode {
         &rt,
         rt.stdout(),
         rt.stderr(),
-        |alloc| pegi_command(alloc),
+        |alloc| Pegi::command(alloc),
         |words, out, err| {
             // without a buffer each unit would cost a system call
             let Ok(ahead) = BufReader::new(rt.alloc(), rt.stdin()) else {

@@ -2,17 +2,17 @@
 ghost use Rattle.std.specs.Prelude.{◌≡◌, ◌≢◌, [], false, map, string_bytes};
 ghost use Rattle.std.specs.Io.KnownBytes.{Keeps};
 ghost use Rattle.clap.specs.Words.{fault_of, matches_of};
-ghost use Rattle.cli.specs.Command.{IsAppOf};
 ghost use Rattle.cli.specs.Jobs.{JobStates};
 ghost use Rattle.cli.specs.Parsing.{WordsState};
+ghost use Rattle.pegi.specs.PegiCommand.{AsksPegi, IsPegiApp};
 ghost use Rattle.pegrun.specs.Answers.{States};
 ghost use Rattle.toolrun.specs.Right.{Comes};
 ghost use Rattle.toolrun.specs.Status.{code_of};
 ghost use Rattle.toolrun.specs.Stream.{no_input, passed};
 
-use cli::{Program, tool_main};
+use crate::command::Pegi;
+use cli::tool_main;
 use feed::Source;
-use pegrun::PegLanguage;
 use ruletable::Sink;
 use std::rt::Files;
 use toolrun::Status;
@@ -36,14 +36,14 @@ pub(crate) fn pegi_main<R: Files + AllocGlobal, I: Source, O: Sink, E: Sink>(
     requires reader_is_open { I.ended reader.old ≡ false }
     requires out_is_fresh { O.failed out.old ≡ false }
     requires err_is_fresh { E.failed err.old ≡ false }
-    ensures words { (app : _) × IsAppOf Program.Pegi app × (fault_of app (map string_bytes words.now) ≢ [] →
+    ensures words { (app : _) × IsPegiApp app × (fault_of app (map string_bytes words.now) ≢ [] →
         Keeps (I.remaining reader.old) (I.remaining reader.new) ×
         Comes (WordsState (fault_of app (map string_bytes words.now))) no_input
         (passed O.contents O.failed out.old out.new) (passed E.contents E.failed err.old err.new) (code_of result)) }
-    ensures right { (app : _) × IsAppOf Program.Pegi app × (fault_of app (map string_bytes words.now) ≡ [] →
-        Comes (JobStates States (matches_of app (map string_bytes words.now)))
+    ensures right { (app : _) × IsPegiApp app × (fault_of app (map string_bytes words.now) ≡ [] →
+        Comes (JobStates AsksPegi States (matches_of app (map string_bytes words.now)))
         (passed I.remaining I.failed reader.old reader.new) (passed O.contents O.failed out.old out.new)
         (passed E.contents E.failed err.old err.new) (code_of result)) }
 {
-    tool_main::<PegLanguage, R, I, O, E>(rt, Program::Pegi, words, reader, out, err)
+    tool_main::<Pegi, R, I, O, E>(rt, words, reader, out, err)
 }

@@ -23,7 +23,7 @@ use Rattle.toolrun.specs.Agrees.{Agrees}
 use Rattle.toolrun.specs.RunSteps.{Begins, EndsTold, HasToldRun}
 use Rattle.toolrun.specs.Stopped.{Fulfils}
 use Rattle.toolrun.specs.Stream.{Stream, passed}
-use Rattle.toolrun.specs.declared.settings.Settings.{Settings}
+use Rattle.pegrun.specs.PegSettings.{PegSettings}
 use Rattle.toolrun.specs.declared.stop.Stop.{Stop}
 use Rattle.toolrun.specs.declared.ending.Ending.{Ending}
 use Rattle.toolrun.specs.declared.ending.Ending.TheVariants.{Plain, Explained, Unexplained}
@@ -43,7 +43,7 @@ use Rattle.pegrun.proofs.WhyStoppedLemmas.{no_lines, some_told}
 use Rattle.pegrun.proofs.SomeReplyLemmas.{units_go_on, unit_goes_on}
 use Rattle.pegrun.specs.declared.unit.Step.TheVariants.{Takes, Stops}
 
-module _ (rules : List Rule) (start : ℕ) (settings : Settings) (input : Input) (old mid new : Option (List ℕ))
+module _ (rules : List Rule) (start : ℕ) (settings : PegSettings) (input : Input) (old mid new : Option (List ℕ))
     (place : ℕ) (text : List ℕ) (taken : ℕ)
     (units : Units rules start settings input place text) (wrote : Appends old mid text) where
   pub one_more_unit : (n : ℕ) → IsStep rules start settings input place mid new (Ok (Takes n)) →
@@ -204,14 +204,14 @@ module _ (rules : List Rule) (start : ℕ) (settings : Settings) (input : Input)
   )
 
 -- the units are the steps of a run
-pub goes_on : (g : Grammar) → IsSoundGrammar g → (settings : Settings) (input : Input) (place : ℕ) (text : List ℕ)
+pub goes_on : (g : Grammar) → IsSoundGrammar g → (settings : PegSettings) (input : Input) (place : ℕ) (text : List ℕ)
     → Units (rules_of g.rules) g.start settings input place text →
     Begins (Units (rules_of g.rules) g.start settings input) (Ends (rules_of g.rules) g.start settings input)
     (taken_at settings input) (taken_at settings input place) text
 goes_on g sound settings input place text units = units_go_on g settings input sound place text units
 
 -- what `cut` says, in the words of all runs
-pub cut_has_run : (g : Grammar) → IsSoundGrammar g → (settings : Settings) (input : Input) (taken : ℕ)
+pub cut_has_run : (g : Grammar) → IsSoundGrammar g → (settings : PegSettings) (input : Input) (taken : ℕ)
     (old new : Option (List ℕ)) (r : Result Ending WriteFault) →
     IsCut (rules_of g.rules) g.start settings input taken old new r →
     HasToldRun (Units (rules_of g.rules) g.start settings input) (Ends (rules_of g.rules) g.start settings input)
@@ -232,7 +232,7 @@ cut_has_run g sound settings input taken old new (Err fault) (place, k, text, la
     )
 
 -- the reader is given back as it was after the last unit
-pub units_were_run : (g : Grammar) → IsSoundGrammar g → (settings : Settings)
+pub units_were_run : (g : Grammar) → IsSoundGrammar g → (settings : PegSettings)
     → {R : Type 0} (remaining : R → Option (List ℕ)) (failed ended : R → Bool) (old now final : R) (out : Stream)
     (left : ℕ) (flow : Flow) (r : Result Ending WriteFault) → final ≡ now → IsToldBy (remaining now) (failed now)
     (ended now) left flow →
@@ -255,7 +255,7 @@ units_were_run g sound settings remaining failed ended old now final out left fl
     ) flag
 
 -- an allocation failed before the first unit
-pub no_unit_was_run : (g : Grammar) → IsSoundGrammar g → (settings : Settings) (r0 s0 : Option (List ℕ))
+pub no_unit_was_run : (g : Grammar) → IsSoundGrammar g → (settings : PegSettings) (r0 s0 : Option (List ℕ))
     (r_was r_failed o_was : Bool) →
     let r : Result Ending WriteFault = Ok (Plain NoMemory) in
     Fulfils (RunStates (rules_of g.rules) g.start settings)

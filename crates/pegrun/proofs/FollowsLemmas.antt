@@ -13,7 +13,7 @@ use Rattle.pegrun.specs.PastUnits.{EndsBehind, Follows, IsEndingWith}
 use Rattle.pegrun.specs.StopsExplained.{UnitBefore, none_before}
 use Rattle.pegrun.specs.declared.past.Past.{Past}
 use Rattle.toolrun.specs.Input.{Input}
-use Rattle.toolrun.specs.declared.settings.Settings.{Settings}
+use Rattle.pegrun.specs.PegSettings.{PegSettings}
 use Rattle.toolrun.specs.declared.ending.Ending.{Ending}
 use Rattle.toolrun.specs.declared.ending.Ending.TheVariants.{Plain, Explained, Unexplained}
 use Rattle.toolrun.specs.declared.stop.Stop.TheVariants.{NoMatch}
@@ -29,7 +29,7 @@ follows_front past at bytes next = record {
   whole = λ kept. sym bytes;
 }
 
-pub front_is_first : (rules : List Rule) (start : ℕ) (settings : Settings) (input : Input) (past : Past)
+pub front_is_first : (rules : List Rule) (start : ℕ) (settings : PegSettings) (input : Input) (past : Past)
     → past.bytes.items ≡ [] → UnitBefore rules start settings input 0
     (unit_before past.at.byte (length past.bytes.items))
 front_is_first rules start settings input past bytes = rw bytes none_before

@@ -11,9 +11,9 @@ use Rattle.pegrun.specs.Units.{none}
 use Rattle.toolrun.proofs.AgreesLemmas.{agrees_of}
 use Rattle.toolrun.specs.Agrees.{Agrees}
 use Rattle.toolrun.specs.Input.{Input, input_from}
-use Rattle.toolrun.specs.declared.settings.Settings.{Settings}
+use Rattle.pegrun.specs.PegSettings.{PegSettings}
 
-module _ (rules : List Rule) (start : ℕ) (settings : Settings) (was calls : ℕ) where
+module _ (rules : List Rule) (start : ℕ) (settings : PegSettings) (was calls : ℕ) where
   -- of a reader whose bytes are stated
   abbrev FewGiven : Option (List ℕ) → Option (List ℕ) → Bool → Type 0
   FewGiven old new failed = IfSome old (λ given. (taken : List ℕ) × Consumes old new taken
@@ -41,7 +41,7 @@ module _ (rules : List Rule) (start : ℕ) (settings : Settings) (was calls : �
       rw is (few_given (remaining old) (remaining now) (failed now) (ended now) left flow told run)
 
 -- nothing was read, and no match was asked for
-pub no_calls_given : (rules : List Rule) (start : ℕ) (settings : Settings) (calls : ℕ) (old : Option (List ℕ))
+pub no_calls_given : (rules : List Rule) (start : ℕ) (settings : PegSettings) (calls : ℕ) (old : Option (List ℕ))
     (failed : Bool) → IfSome old (λ given. (taken : List ℕ) × Consumes old old taken
     × HasFewCalls rules start settings (input_from given taken failed) (length taken) calls calls)
 no_calls_given rules start settings calls None failed = tt

@@ -16,7 +16,7 @@ use Rattle.toolrun.specs.Agrees.{Agrees}
 use Rattle.pegrun.specs.Attempts.{IsAttempt, IsStep, IsStepOn, StaysWithin, step_after, stop_at}
 use Rattle.toolrun.specs.Input.{Input}
 use Rattle.pegrun.specs.Units.{taken_at}
-use Rattle.toolrun.specs.declared.settings.Settings.{Settings}
+use Rattle.pegrun.specs.PegSettings.{PegSettings}
 use Rattle.toolrun.specs.declared.status.Status.TheVariants.{Done}
 use Rattle.toolrun.specs.declared.stop.Stop.TheVariants as stop
 use Rattle.pegrun.specs.declared.attempt.Attempt.{Attempt}
@@ -54,14 +54,14 @@ fits_of g items more raw limit s old new (Ok TooLong) a = tt
 fits_of g items more raw limit s old new (Ok NoMemory) a = tt
 fits_of g items more raw limit s old new (Err fault) a = tt
 
-pub step_on_fits : (g : Grammar) (held items : List ℕ) (more : Bool) (settings : Settings) (s : ℕ)
+pub step_on_fits : (g : Grammar) (held items : List ℕ) (more : Bool) (settings : PegSettings) (s : ℕ)
     (old new : Option (List ℕ)) (r : Result Step WriteFault) → items ≡ held →
     IsStepOn g held more settings s old new r → StaysWithin (s + length items) s r
 step_on_fits g held items more settings s old new r is (attempted, a, e) =
     rw is (subst (λ v. StaysWithin (s + length held) s v) (sym e)
-    (fits_of g held more settings.raw settings.limit s old new attempted a))
+    (fits_of g held more settings.options.raw settings.limit s old new attempted a))
 
-module _ (settings : Settings) (start : ℕ) (before items : List ℕ) (flow : Flow) (input : Input)
+module _ (settings : PegSettings) (start : ℕ) (before items : List ℕ) (flow : Flow) (input : Input)
     (here : length before ≡ start)
     (agrees : Agrees (before ++ items) flow input) where
   abbrev rest : List ℕ
@@ -83,10 +83,11 @@ module _ (settings : Settings) (start : ℕ) (before items : List ℕ) (flow : F
         × (length (before ++ items) ≡ taken_at settings input start)
     full_step g sound old new r (attempted, a, e) =
         let more : true ≡ nat_lt settings.limit (length rest) = let l = rest_long in grind (arith, common_steps, l) in
-        let there : IsAttempt g (take (suc settings.limit) rest) (nat_lt settings.limit (length rest)) settings.raw old
+        let there : IsAttempt g (take (suc settings.limit) rest)
+        (nat_lt settings.limit (length rest)) settings.options.raw old
         new attempted =
-        subst (λ (b : Bool). IsAttempt g (take (suc settings.limit) rest) b settings.raw old new attempted) more
-        (subst (λ (w : List ℕ). IsAttempt g w true settings.raw old new attempted)
+        subst (λ (b : Bool). IsAttempt g (take (suc settings.limit) rest) b settings.options.raw old new attempted) more
+        (subst (λ (w : List ℕ). IsAttempt g w true settings.options.raw old new attempted)
         (sym (window_is before items here agrees (suc settings.limit) full)) a) in
         let same = same_step settings.limit start (start + length items) (length input.bytes) attempted
         (not-equal start (start + length items) (omega (arith, full))
@@ -119,10 +120,11 @@ module _ (settings : Settings) (start : ℕ) (before items : List ℕ) (flow : F
       let more : false ≡ nat_lt settings.limit (length rest) = grind (arith, common_steps, l) in
       let window : items ≡ take (suc settings.limit) rest = sym (rest_held before items here agrees last.0)
       ∙ sym (take_all (suc settings.limit) rest (omega (arith, l))) in
-      let there : IsAttempt g (take (suc settings.limit) rest) (nat_lt settings.limit (length rest)) settings.raw old
+      let there : IsAttempt g (take (suc settings.limit) rest)
+      (nat_lt settings.limit (length rest)) settings.options.raw old
       new attempted =
-      subst (λ (b : Bool). IsAttempt g (take (suc settings.limit) rest) b settings.raw old new attempted) more
-      (subst (λ (w : List ℕ). IsAttempt g w false settings.raw old new attempted) window a) in
+      subst (λ (b : Bool). IsAttempt g (take (suc settings.limit) rest) b settings.options.raw old new attempted) more
+      (subst (λ (w : List ℕ). IsAttempt g w false settings.options.raw old new attempted) window a) in
       let same = same_step settings.limit start (start + length items) (length input.bytes) attempted
       (ap (λ n. start == n) (sym (end_len last.0 short))) in (
         subst (λ v. IsStep (rules_of g.rules) g.start settings input start old new v) (sym (e ∙ same))
@@ -142,7 +144,7 @@ module _ (settings : Settings) (start : ℕ) (before items : List ℕ) (flow : F
       )
 
 -- what is held stays so as it is looked at
-module _ (g : Grammar) (sound : IsSoundGrammar g) (settings : Settings) (start : ℕ) (before held items : List ℕ)
+module _ (g : Grammar) (sound : IsSoundGrammar g) (settings : PegSettings) (start : ℕ) (before held items : List ℕ)
     (flow : Flow) (input : Input)
     (here : length before ≡ start) (agrees : Agrees (before ++ items) flow input) (is : items ≡ held)
     (old new : Option (List ℕ)) (r : Result Step WriteFault) where

@@ -14,7 +14,7 @@ use Rattle.toolrun.specs.Status.{code_of}
 use Rattle.toolrun.specs.Stop.{message_of, status_of}
 use Rattle.pegrun.specs.Units.{taken_at, rest_from, MayRun, GivesAt, IsUnit, Units, none, one_more, Ends, broken}
 use Rattle.pegrun.specs.Units.{overlong, no_match, finished, empty_before_end, empty_at_end}
-use Rattle.toolrun.specs.declared.settings.Settings.{Settings}
+use Rattle.pegrun.specs.PegSettings.{PegSettings}
 use Rattle.toolrun.specs.declared.stop.Stop.{Stop}
 use Rattle.toolrun.specs.declared.stop.Stop.TheVariants.{Quiet, NoMatch, LongUnit, LongLine, Broken, NoMemory, Refused}
 use Rattle.toolrun.specs.declared.stop.Stop.TheVariants.{Unreadable}
@@ -31,7 +31,7 @@ same_reply a b out err status taken =
     let is : record { out = a.out; err = a.err; status = a.status; taken = a.taken }
     ≡ record { out = b.out; err = b.err; status = b.status; taken = b.taken } = cc in is
 
-module _ (rules : List Rule) (start : ℕ) (settings : Settings) (input : Input) where
+module _ (rules : List Rule) (start : ℕ) (settings : PegSettings) (input : Input) where
   abbrev Gives : ℕ → Outcome → Type 0
   Gives s o = GivesAt rules start settings input s o
 
@@ -351,6 +351,6 @@ module _ (rules : List Rule) (start : ℕ) (settings : Settings) (input : Input)
         ∙ ap (explained_reply q.before q.plain) why ∙ sym q.told
 
 -- one reply
-pub one_reply : NoMatchesAreOne → (rules : List Rule) (start : ℕ) (settings : Settings) (input : Input) (a b : Reply)
+pub one_reply : NoMatchesAreOne → (rules : List Rule) (start : ℕ) (settings : PegSettings) (input : Input) (a b : Reply)
     → Replies rules start settings input a → Replies rules start settings input b → a ≡ b
 one_reply one_told rules start settings input a b r q = one_told_reply rules start settings input one_told a b r q

@@ -1,23 +1,26 @@
 -- A run of an open grammar is a run of its text.
--- Serves: runs_as_a_run
+-- Serves: runs_as_a_run, PegLanguage::ready, open_peg
 use Rattle.std.proofs.Common.{◌≡◌, ℕ, List}
-use Rattle.std.specs.Prelude.{Some}
-use Rattle.gramcheck.specs.Grammar.{Grammar}
+use Rattle.std.specs.Prelude.{IfOk, Option, Result, Some, Ok, Err}
+use Rattle.gramcheck.specs.Grammar.{Grammar, IsSoundGrammar, Ranked}
 use Rattle.pegexplain.specs.PegNotes.{ExplainsNote}
 use Rattle.pegexplain.specs.PegHints.{ArePegHints}
 use Rattle.pegread.specs.PegViews.{rules_of}
 use Rattle.pegrun.specs.Answers.{States, runs}
+use Rattle.pegrun.specs.Noted.{start_given}
 use Rattle.pegrun.specs.OpenPeg.{IsPegOpened}
+use Rattle.pegrun.specs.PegLanguage.{IsChecked, IsReady}
 use Rattle.pegrun.specs.PegReply.{RunStates}
 use Rattle.ruletable.specs.Notes.{Said}
+use Rattle.ruletable.specs.declared.memory.Memory.{Memory}
 use Rattle.toolrun.specs.Input.{Input}
 use Rattle.toolrun.specs.Reply.{Reply}
 use Rattle.toolrun.specs.ToldNotes.{HintedNotes}
 use Rattle.toolrun.specs.declared.settings.Mode.TheVariants.{Run}
-use Rattle.toolrun.specs.declared.settings.Settings.{Settings}
+use Rattle.pegrun.specs.PegSettings.{PegSettings}
 
 -- what a run of an open grammar states is what a run of its text states after the notes
-pub open_peg_states : (text : List ℕ) (settings : Settings) (input : Input) (notes : List Said) (told : List ℕ)
+pub open_peg_states : (text : List ℕ) (settings : PegSettings) (input : Input) (notes : List Said) (told : List ℕ)
     (grammar : Grammar) (stated : Reply) → settings.mode ≡ Run → IsPegOpened text settings notes (Some grammar)
     → HintedNotes settings (ExplainsNote text) (ArePegHints text) notes told
     → RunStates (rules_of grammar.rules) grammar.start settings input stated → States text settings input told stated
@@ -25,3 +28,29 @@ open_peg_states text settings input notes told grammar stated run is tells does 
     let g = is.ready.1 in
     runs is.definitions notes told grammar.start stated is.reads is.are_notes tells is.ready.0 run g.start
     (rw g.rules at does)
+
+-- a grammar that is ready has the rules and the start rule of the one that was checked
+pub is_ready : (g : Ranked) (made : Result Grammar Memory) → IfOk made (λ s. s.rules ≡ g.rules)
+    → IfOk made (λ s. s.start ≡ g.start) → IfOk made IsSoundGrammar
+    → IfOk made (λ s. (text : List ℕ) (start : Option (List ℕ)) (notes : List Said)
+    → IsChecked text start notes (Some g) → IsReady text start notes s)
+is_ready g (Ok s) rules start sound = λ text given notes is. record {
+  definitions = is.definitions;
+  reads = is.reads;
+  are_notes = is.are_notes;
+  accepted = is.accepted.0;
+  rules = rw rules is.accepted.1;
+  start_rule = rw start is.accepted.2;
+  sound_grammar = sound;
+}
+is_ready g (Err e) rules start sound = tt
+
+-- a grammar that is ready is the one that is opened
+pub is_opened : (text : List ℕ) (settings : PegSettings) (notes : List Said) (g : Grammar)
+    → IsReady text (start_given settings) notes g → IsPegOpened text settings notes (Some g)
+is_opened text settings notes g is = record {
+  definitions = is.definitions;
+  reads = is.reads;
+  are_notes = is.are_notes;
+  ready = (is.accepted, record { rules = is.rules; start = is.start_rule });
+}

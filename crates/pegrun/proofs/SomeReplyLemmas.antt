@@ -20,18 +20,18 @@ use Rattle.toolrun.specs.Status.{code_of}
 use Rattle.toolrun.specs.Stop.{message_of, status_of}
 use Rattle.pegrun.specs.Units.{taken_at, MayRun, GivesAt, IsUnit, Units, none, one_more, Ends, broken, overlong}
 use Rattle.pegrun.specs.Units.{no_match, finished, empty_before_end, empty_at_end}
-use Rattle.toolrun.specs.declared.settings.Settings.{Settings}
+use Rattle.pegrun.specs.PegSettings.{PegSettings}
 use Rattle.toolrun.specs.declared.status.Status.TheVariants.{Done}
 use Rattle.toolrun.specs.declared.stop.Stop.{Stop}
 use Rattle.toolrun.specs.declared.stop.Stop.TheVariants.{Quiet, NoMatch, LongUnit, Broken}
 
 -- a reply that begins with the text and takes no less than a unit at s
-abbrev pub Goes : Grammar → Settings → Input → ℕ → List ℕ → Type 0
+abbrev pub Goes : Grammar → PegSettings → Input → ℕ → List ℕ → Type 0
 Goes g settings input s text = Begins (Units (rules_of g.rules) g.start settings input)
     (Ends (rules_of g.rules) g.start settings input)
     (taken_at settings input) (taken_at settings input s) text
 
-module _ (g : Grammar) (settings : Settings) (input : Input) where
+module _ (g : Grammar) (settings : PegSettings) (input : Input) where
   abbrev rest : ℕ → List ℕ
   rest s = drop s input.bytes
 
@@ -135,11 +135,11 @@ module _ (g : Grammar) (settings : Settings) (input : Input) where
       (o : Outcome) → GivesAt (rules_of g.rules) g.start settings input s o → Goes g settings input s text
   goes_within fuel s text later units inside room Fails d = goes_at_failure s text units inside d
   goes_within fuel s text later units inside room (Takes zero events) d =
-      let last : List ℕ = text_of settings.raw (rest s) events in
+      let last : List ℕ = text_of settings.options.raw (rest s) events in
       goes_before s s text last (omega arith) (goes_at_empty s text last units inside
       (record { events = events; gives = d; prints = refl }))
   goes_within fuel s text later units inside room (Takes (suc k) events) d =
-      let more : List ℕ = text_of settings.raw (rest s) events in
+      let more : List ℕ = text_of settings.options.raw (rest s) events in
       let unit : UnitAt s (suc k) more = record { events = events; gives = d; prints = refl } in
       goes_before s (s + suc k) text more (omega arith) (later (s + suc k) (text ++ more)
       (one_more s (suc k) text more units unit (omega arith)) (unit_inside s (suc k) more inside unit)

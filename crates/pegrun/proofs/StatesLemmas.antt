@@ -27,7 +27,7 @@ use Rattle.toolrun.specs.Input.{Input}
 use Rattle.toolrun.specs.Explained.{Explained, IsLongReply}
 use Rattle.toolrun.specs.Reply.{Reply, refusal, unexplained_fault}
 use Rattle.toolrun.specs.RunSteps as steps
-use Rattle.toolrun.specs.declared.settings.Settings.{Settings}
+use Rattle.pegrun.specs.PegSettings.{PegSettings}
 use Rattle.toolrun.proofs.OneStatementLemmas.{Stated, one_stated, one-explained, is_noted, is_checked, is_run}
 use Rattle.toolrun.proofs.OneStatementLemmas.{is_again, is_printed}
 use Rattle.toolrun.proofs.ToldNotesLemmas.{hinted-one, told-one}
@@ -55,7 +55,7 @@ NotesAreOne = (text : List ℕ) (start : Option (List ℕ)) (note : Said) (a b :
 abbrev pub HintsAreOne : Type 0
 HintsAreOne = (text a b : List ℕ) → ArePegHints text a → ArePegHints text b → a ≡ b
 
-module _ (settings : Settings) (input : Input) where
+module _ (settings : PegSettings) (input : Input) where
   -- what a run of these definitions states
   record RunOf (definitions : List Rule) (reply : Reply) : Type 0 where
     start : ℕ
@@ -153,7 +153,7 @@ module _ (settings : Settings) (input : Input) where
 
 -- one list of notes and one reply
 pub statement_is_one : NoMatchesAreOne → ExplanationsAreOne → NotesAreOne → HintsAreOne
-    → (text : List ℕ) (settings : Settings) (input : Input)
+    → (text : List ℕ) (settings : PegSettings) (input : Input)
     (notes others : List ℕ) (a b : Reply) →
     States text settings input notes a → States text settings input others b → a.status ≢ 5 → b.status ≢ 5
     → (notes ≡ others) × (a ≡ b)
@@ -166,7 +166,7 @@ long-unread : {text : List ℕ} {definitions : List Rule} → IsFaultOf text Too
 long-unread long r = let within = r.within in omega arith
 
 -- a text that is too long is reported as that, whether an allocation fails or not
-pub long_is_told : (text : List ℕ) (settings : Settings) (input : Input) (notes : List ℕ) (reply : Reply)
+pub long_is_told : (text : List ℕ) (settings : PegSettings) (input : Input) (notes : List ℕ) (reply : Reply)
     → IsFaultOf text TooLong → States text settings input notes reply
     → (notes ≡ []) × IsLongReply settings (Explains text TooLong) reply
 long_is_told text settings input notes reply long (refused fault why f other told) =

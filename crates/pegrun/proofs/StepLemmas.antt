@@ -17,14 +17,14 @@ use Rattle.pegrun.specs.Attempts.{IsAttempt, IsStep, StaysWithin, step_after}
 use Rattle.toolrun.specs.Input.{Input}
 use Rattle.pegrun.specs.Units.{MayRun, GivesAt, IsUnit, Ends, broken, overlong, no_match, finished, empty_before_end}
 use Rattle.pegrun.specs.Units.{empty_at_end}
-use Rattle.toolrun.specs.declared.settings.Settings.{Settings}
+use Rattle.pegrun.specs.PegSettings.{PegSettings}
 use Rattle.toolrun.specs.declared.status.Status.TheVariants.{Done}
 use Rattle.toolrun.specs.declared.stop.Stop.TheVariants.{Quiet, NoMatch, Broken}
 use Rattle.pegrun.specs.declared.attempt.Attempt.{Attempt}
 use Rattle.pegrun.specs.declared.attempt.Attempt.TheVariants.{Printed, Failed, TooLong, NoMemory}
 use Rattle.pegrun.proofs.WindowLemmas.{window_seen, seen_text, seen_long}
 
-module _ (g : Grammar) (settings : Settings) (input : Input) (s : ℕ) (inside : s ≤ length input.bytes) where
+module _ (g : Grammar) (settings : PegSettings) (input : Input) (s : ℕ) (inside : s ≤ length input.bytes) where
   abbrev rest : List ℕ
   rest = drop s input.bytes
 
@@ -51,11 +51,11 @@ module _ (g : Grammar) (settings : Settings) (input : Input) (s : ℕ) (inside :
 
     is_unit : (k : ℕ) (events : List Event) (looked : ℕ) → StartGives g window (Takes k events) looked
         → WasEnough window more looked →
-        IsUnit (rules_of g.rules) g.start settings input s k (text_of settings.raw window events)
+        IsUnit (rules_of g.rules) g.start settings input s k (text_of settings.options.raw window events)
     is_unit k events looked d enough = record {
       events = events;
       gives = gives_at (Takes k events) looked d enough;
-      prints = seen_text g rest settings.limit settings.raw k events looked d;
+      prints = seen_text g rest settings.limit settings.options.raw k events looked d;
     }
 
     fails_here : (b : Bool) → (s == length input.bytes) ≡ b → GivesAt (rules_of g.rules) g.start settings input s
@@ -71,7 +71,8 @@ module _ (g : Grammar) (settings : Settings) (input : Input) (s : ℕ) (inside :
     empty_here false text e d = let h : s < length input.bytes = grind (arith, common_steps, e) in
         empty_before_end text d h
 
-    pub step_is : (old new : Option (List ℕ)) (r : Result Attempt WriteFault) → IsAttempt g window more settings.raw old
+    pub step_is : (old new : Option (List ℕ)) (r : Result Attempt WriteFault)
+        → IsAttempt g window more settings.options.raw old
         new r →
         IsStep (rules_of g.rules) g.start settings input s old new (step_after settings.limit s (length input.bytes) r)
     step_is old new (Ok (Printed zero)) (events, looked, d, enough, wrote) =
@@ -87,7 +88,8 @@ module _ (g : Grammar) (settings : Settings) (input : Input) (s : ℕ) (inside :
     step_is old new (Ok NoMemory) kept = inl (refl, kept)
     step_is old new (Err fault) (k, events, looked, d, enough, wrote) = (k, _, is_unit k events looked d enough, wrote)
 
-  pub step_fits : (old new : Option (List ℕ)) (r : Result Attempt WriteFault) → IsAttempt g window more settings.raw old
+  pub step_fits : (old new : Option (List ℕ)) (r : Result Attempt WriteFault)
+      → IsAttempt g window more settings.options.raw old
       new r →
       StaysWithin (length input.bytes) s (step_after settings.limit s (length input.bytes) r)
   step_fits old new (Ok (Printed zero)) a = tt

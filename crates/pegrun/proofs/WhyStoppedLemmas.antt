@@ -8,7 +8,7 @@ use Rattle.toolrun.proofs.ExplainedIfLemmas.{if_asked, if_not_asked}
 use Rattle.toolrun.specs.Input.{Input}
 use Rattle.toolrun.specs.Reply.{Reply, explained_reply, unexplained_reply}
 use Rattle.toolrun.specs.RunSteps.{replied_told, unexplained}
-use Rattle.toolrun.specs.declared.settings.Settings.{Settings}
+use Rattle.pegrun.specs.PegSettings.{PegSettings}
 use Rattle.toolrun.specs.declared.stop.Stop.{Stop}
 use Rattle.toolrun.specs.declared.stop.Stop.TheVariants.{Quiet, NoMatch, LongUnit, LongLine, Broken, NoMemory, Refused}
 use Rattle.toolrun.specs.declared.stop.Stop.TheVariants.{Unreadable}
@@ -23,7 +23,7 @@ lines_or_none NoMemory = inr (λ has. has)
 lines_or_none (Refused fault) = inr (λ has. has)
 lines_or_none Unreadable = inr (λ has. has)
 
-module _ (rules : List Rule) (start : ℕ) (settings : Settings) (input : Input) where
+module _ (rules : List Rule) (start : ℕ) (settings : PegSettings) (input : Input) where
   -- a stop that no lines explain
   pub no_lines : (s : ℕ) (stop : Stop) → (HasLines stop → ⊥) → StopLines rules start settings input s stop []
   no_lines s (Quiet status) without = refl
@@ -72,7 +72,7 @@ module _ (rules : List Rule) (start : ℕ) (settings : Settings) (input : Input)
   ]
 
 -- each reply without explanations is that of something stated
-pub some_told : (rules : List Rule) (start : ℕ) (settings : Settings) (input : Input) (reply : Reply)
+pub some_told : (rules : List Rule) (start : ℕ) (settings : PegSettings) (input : Input) (reply : Reply)
     → PlainReplies rules start settings input reply
     → (stated : Reply) × RunStates rules start settings input stated × (stated.out ≡ reply.out)
     × (stated.taken ≡ reply.taken)

@@ -11,7 +11,7 @@ use Rattle.pegmatch.specs.Answers.{StartGives, WasEnough}
 use Rattle.pegmatch.specs.Text.{text_of}
 use Rattle.toolrun.specs.Input.{Input}
 use Rattle.pegrun.specs.Units.{IsUnit, Ends}
-use Rattle.toolrun.specs.declared.settings.Settings.{Settings}
+use Rattle.pegrun.specs.PegSettings.{PegSettings}
 use Rattle.toolrun.specs.declared.stop.Stop.{Stop}
 use Rattle.toolrun.specs.declared.status.Status.TheVariants.{Done}
 use Rattle.toolrun.specs.declared.stop.Stop.TheVariants as stop
@@ -61,15 +61,15 @@ step_after limit place len (Ok NoMemory) = Ok (Stops stop.NoMemory)
 step_after limit place len (Err fault) = Err fault
 
 -- what follows at a place from which these bytes are held
-abbrev pub IsStepOn : Grammar → List ℕ → Bool → Settings → ℕ → Option (List ℕ) → Option (List ℕ)
+abbrev pub IsStepOn : Grammar → List ℕ → Bool → PegSettings → ℕ → Option (List ℕ) → Option (List ℕ)
     → Result Step WriteFault → Type 0
 IsStepOn g items more settings s old new result = (attempted : Result Attempt WriteFault)
-    × IsAttempt g items more settings.raw old new attempted ×
+    × IsAttempt g items more settings.options.raw old new attempted ×
     (result ≡ step_after settings.limit s (s + length items) attempted)
 
 -- A unit of some bytes was printed, or the run ends here and the text of its last unit was printed, or an allocation
 -- failed and nothing was.
-abbrev pub IsStep : List Rule → ℕ → Settings → Input → ℕ → Option (List ℕ) → Option (List ℕ) → Result Step WriteFault
+abbrev pub IsStep : List Rule → ℕ → PegSettings → Input → ℕ → Option (List ℕ) → Option (List ℕ) → Result Step WriteFault
     → Type 0
 IsStep rules start settings input s old new (Ok (Goes k)) =
     (text : List ℕ) × IsUnit rules start settings input s k text × Appends old new text × (0 < k)

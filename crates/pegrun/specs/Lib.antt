@@ -6,6 +6,7 @@ pub mod OpenPeg
 pub mod PastUnits
 pub mod PegLanguage
 pub mod PegReply
+pub mod PegSettings
 pub mod PegStopped
 pub mod StopsExplained
 pub mod Units

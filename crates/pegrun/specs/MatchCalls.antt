@@ -3,7 +3,7 @@ use Rattle.std.specs.Prelude.{ℕ, ◌+◌, ◌*◌, ◌≤◌, List}
 use Rattle.pegread.specs.Pattern.{Rule}
 use Rattle.toolrun.specs.Input.{Input}
 use Rattle.pegrun.specs.Units.{Units, unit_count}
-use Rattle.toolrun.specs.declared.settings.Settings.{Settings}
+use Rattle.pegrun.specs.PegSettings.{PegSettings}
 use Rattle.pegrun.specs.declared.attempt.CountedMatcher.{CountedMatcher}
 
 -- the matches that it was asked for since it was made
@@ -16,7 +16,7 @@ most_calls = 340282366920938463463374607431768211455
 
 -- A run that took so many bytes asked for at most two matches for each unit in them, and for at most two where it
 -- stopped.
-pub record HasFewCalls (rules : List Rule) (start : ℕ) (settings : Settings) (input : Input) (taken was calls : ℕ)
+pub record HasFewCalls (rules : List Rule) (start : ℕ) (settings : PegSettings) (input : Input) (taken was calls : ℕ)
     : Type 0 where
   -- where the run stopped
   pub place : ℕ

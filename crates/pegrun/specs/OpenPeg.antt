@@ -8,15 +8,15 @@ use Rattle.pegread.specs.PegViews.{rules_of}
 use Rattle.pegread.specs.Reading.{Reads}
 use Rattle.pegrun.specs.Noted.{AreNotesOn, start_given}
 use Rattle.ruletable.specs.Notes.{Said}
-use Rattle.toolrun.specs.declared.settings.Settings.{Settings}
+use Rattle.pegrun.specs.PegSettings.{PegSettings}
 
 -- it has the rules of these definitions, and starts with the rule that settings name, or the first
-pub record IsGrammarOf (definitions : List Rule) (settings : Settings) (grammar : Grammar) : Type 0 where
+pub record IsGrammarOf (definitions : List Rule) (settings : PegSettings) (grammar : Grammar) : Type 0 where
   pub rules : rules_of grammar.rules ≡ firsts [] definitions
   pub start : IsStart (start_given settings) (firsts [] definitions) grammar.start
 
 -- The text is a grammar with these notes, one of which rejects it; or none does, and this is its grammar.
-pub record IsPegOpened (text : List ℕ) (settings : Settings) (notes : List Said) (grammar : Option Grammar) : Type
+pub record IsPegOpened (text : List ℕ) (settings : PegSettings) (notes : List Said) (grammar : Option Grammar) : Type
     0 where
   pub definitions : List Rule
   pub reads : Reads text definitions

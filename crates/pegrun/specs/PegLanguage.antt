@@ -9,7 +9,7 @@ use Rattle.pegread.specs.PegViews.{rules_of}
 use Rattle.pegread.specs.Reading.{Reads}
 use Rattle.pegread.specs.declared.expr.Expr.{Expr}
 use Rattle.gramcheck.specs.Checked.{is_refused, IsStart}
-use Rattle.gramcheck.specs.Grammar.{Grammar, IsSoundGrammar}
+use Rattle.gramcheck.specs.Grammar.{Grammar, IsSoundGrammar, Ranked}
 use Rattle.pegrun.specs.Noted.{AreAgain, AreNotesOn}
 
 -- the text is read as these rules, with the ids of those that it defines again
@@ -17,15 +17,25 @@ abbrev pub IsReadAs : List ℕ → table.Rules Expr → List ℕ → Type 0
 IsReadAs text rules redefined =
     (definitions : List Rule) × Reads text definitions × IsTableOf definitions rules redefined
 
--- the text's grammar with its notes, ready to run where none of them rejects it
-pub record IsChecked (text : List ℕ) (start : Option (List ℕ)) (notes : List Said) (sound : Option Grammar) : Type
+-- the text's grammar with its notes, unless one of them rejects it
+pub record IsChecked (text : List ℕ) (start : Option (List ℕ)) (notes : List Said) (judged : Option Ranked) : Type
     0 where
   pub definitions : List Rule
   pub reads : Reads text definitions
   pub are_notes : AreNotesOn definitions start notes
-  pub ready : MatchOption sound (is_refused notes ≡ true)
+  pub accepted : MatchOption judged (is_refused notes ≡ true)
       (λ g. (is_refused notes ≡ false) × (rules_of g.rules ≡ firsts [] definitions)
-      × IsStart start (firsts [] definitions) g.start × IsSoundGrammar g)
+      × IsStart start (firsts [] definitions) g.start)
+
+-- the text's grammar with its notes, none of which rejects it, ready to run
+pub record IsReady (text : List ℕ) (start : Option (List ℕ)) (notes : List Said) (sound : Grammar) : Type 0 where
+  pub definitions : List Rule
+  pub reads : Reads text definitions
+  pub are_notes : AreNotesOn definitions start notes
+  pub accepted : is_refused notes ≡ false
+  pub rules : rules_of sound.rules ≡ firsts [] definitions
+  pub start_rule : IsStart start (firsts [] definitions) sound.start
+  pub sound_grammar : IsSoundGrammar sound
 
 -- the text's grammar, with the notes on the rules that it defines again
 pub record IsPrintable (text : List ℕ) (rules : List Rule) (again : List Said) : Type 0 where

@@ -7,14 +7,14 @@ use Rattle.pegread.specs.Pattern.{Rule}
 use Rattle.toolrun.specs.Input.{Input}
 use Rattle.pegrun.specs.StopsExplained.{MayLack, TellsNothing, WhyStopped}
 use Rattle.pegrun.specs.Units.{IsUnit, Units, Ends, taken_at}
-use Rattle.toolrun.specs.declared.settings.Settings.{Settings}
+use Rattle.pegrun.specs.PegSettings.{PegSettings}
 use Rattle.toolrun.specs.RunSteps.{EndsTold}
 use Rattle.toolrun.specs.declared.ending.Ending.{Ending}
 
 -- After so many bytes were taken: the text of units and of a last one of no bytes, after which the run ends so, with
 -- what explains that if it is asked, or an allocation fails; or a prefix of the text of units.
-abbrev pub IsCut : List Rule → ℕ → Settings → Input → ℕ → Option (List ℕ) → Option (List ℕ) → Result Ending WriteFault
-    → Type 0
+abbrev pub IsCut : List Rule → ℕ → PegSettings → Input → ℕ → Option (List ℕ) → Option (List ℕ)
+    → Result Ending WriteFault → Type 0
 IsCut rules start settings input taken old new (Ok ending) = (place : ℕ) × (text last : List ℕ) ×
     Units rules start settings input place text × Appends old new (text ++ last)
     × (taken ≡ taken_at settings input place) ×

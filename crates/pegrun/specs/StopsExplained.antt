@@ -7,7 +7,7 @@ use Rattle.matchfailure.specs.InputPlaces.{place_behind}
 use Rattle.pegrun.specs.Units.{IsUnit, Units, taken_at}
 use Rattle.toolrun.specs.Explained.{Explained}
 use Rattle.toolrun.specs.Input.{Input}
-use Rattle.toolrun.specs.declared.settings.Settings.{Settings}
+use Rattle.pegrun.specs.PegSettings.{PegSettings}
 use Rattle.toolrun.specs.declared.stop.Stop.{Stop}
 use Rattle.toolrun.specs.declared.stop.Stop.TheVariants.{Quiet, NoMatch, LongUnit, LongLine, Broken, NoMemory, Refused}
 use Rattle.toolrun.specs.declared.stop.Stop.TheVariants.{Unreadable}
@@ -27,7 +27,7 @@ HasLines Unreadable = ⊥
 abbrev pub TellsNothing : ℕ → List ℕ → Type 0
 TellsNothing place told = told ≡ []
 
-module _ (rules : List Rule) (start : ℕ) (settings : Settings) (input : Input) where
+module _ (rules : List Rule) (start : ℕ) (settings : PegSettings) (input : Input) where
   -- the place of the unit before the one that is begun at s, or none where no unit is before it
   pub data UnitBefore : ℕ → Option ℕ → Type 0 where
     none_before : UnitBefore 0 None

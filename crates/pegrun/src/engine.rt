@@ -16,6 +16,7 @@ ghost use Rattle.toolrun.specs.Stopped.{Fulfils};
 ghost use Rattle.toolrun.specs.Stream.{passed};
 
 use crate::attempt::CountedMatcher;
+use crate::options::PegSettings;
 use crate::past::{Past, ending_at};
 use crate::unit::{Step, next_unit};
 use feed::{Feed, Source};
@@ -24,7 +25,7 @@ use matchfailure::FailureSearch;
 use pegmatch::Matcher;
 use ruletable::{Sink, WriteFault};
 use std::alloc::Global;
-use toolrun::{Ending, Settings, Stop};
+use toolrun::{Ending, Stop};
 
 /// What a run evaluates units with. Each part counts its evaluations.
 #[derive(Drop)]
@@ -54,7 +55,7 @@ fn cut<M: Matcher, R: Source, O: Sink>(
     alloc: Global,
     counted: &mut Counted<M>,
     peg: &SoundPeg,
-    settings: &Settings<'_>,
+    settings: &PegSettings<'_>,
     feed: &mut Feed<'_, R>,
     out: &mut O,
 ) -> Result<Ending, WriteFault>
@@ -101,7 +102,7 @@ pub fn run_units<M: Matcher, R: Source, O: Sink>(
     alloc: Global,
     counted: &mut Counted<M>,
     peg: &SoundPeg,
-    settings: &Settings<'_>,
+    settings: &PegSettings<'_>,
     reader: &mut R,
     out: &mut O,
 ) -> Result<Ending, WriteFault>

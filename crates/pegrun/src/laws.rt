@@ -9,7 +9,7 @@ ghost use Rattle.pegrun.specs.Answers.{States};
 ghost use Rattle.pegrun.specs.PegReply.{Replies};
 ghost use Rattle.toolrun.specs.Explained.{IsLongReply};
 ghost use Rattle.toolrun.specs.Reply.{Reply};
-ghost use Rattle.toolrun.specs.declared.settings.Settings.{Settings};
+ghost use Rattle.pegrun.specs.PegSettings.{PegSettings};
 
 use matchfailure::one_no_match;
 use pegexplain::{one_explanation, one_note_explanation, one_text_of_hints};
@@ -17,7 +17,7 @@ use pegread::one_reading;
 
 /// Says that a list of rules, a start rule and settings have at most one reply to an input.
 pub fn one_reply()
-    ensures { (rules : List Rule) (start : ℕ) (settings : Settings) (input : Input) (a b : Reply) →
+    ensures { (rules : List Rule) (start : ℕ) (settings : PegSettings) (input : Input) (a b : Reply) →
         Replies rules start settings input a → Replies rules start settings input b → a ≡ b }
 {
     one_no_match();
@@ -33,10 +33,10 @@ pub fn one_statement()
         IsFaultOf text fault → fault ≢ ReadFault.Memory → Reads text definitions → ⊥ }
     ensures one_fault { (text : List ℕ) (a b : ReadFault) →
         IsFaultOf text a → IsFaultOf text b → a ≢ ReadFault.Memory → b ≢ ReadFault.Memory → a ≡ b }
-    ensures whole { (text : List ℕ) (settings : Settings) (input : Input) (notes others : List ℕ) (a b : Reply) →
+    ensures whole { (text : List ℕ) (settings : PegSettings) (input : Input) (notes others : List ℕ) (a b : Reply) →
         States text settings input notes a → States text settings input others b → a.status ≢ 5 → b.status ≢ 5 →
         (notes ≡ others) × (a ≡ b) }
-    ensures long { (text : List ℕ) (settings : Settings) (input : Input) (notes : List ℕ) (reply : Reply) →
+    ensures long { (text : List ℕ) (settings : PegSettings) (input : Input) (notes : List ℕ) (reply : Reply) →
         IsFaultOf text ReadFault.TooLong → States text settings input notes reply →
         (notes ≡ []) × IsLongReply settings (Explains text ReadFault.TooLong) reply }
 {

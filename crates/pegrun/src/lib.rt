@@ -6,6 +6,7 @@ mod engine;
 mod laws;
 mod open_law;
 mod opened;
+mod options;
 mod past;
 mod peg_language;
 mod run;
@@ -15,8 +16,7 @@ pub use feed::{Broken, Source, SourceOf};
 pub use laws::{one_reply, one_statement};
 pub use open_law::runs_as_a_run;
 pub use opened::{OpenedPeg, PegRunner, open_peg};
+pub use options::{PegOptions, PegSettings};
 pub use peg_language::PegLanguage;
 pub use run::run_peg;
-pub use toolrun::{
-    Alphabet, DEFAULT_LIMIT, MAX_LIMIT, Mode, Settings, Status, Stop, close_run, end_run,
-};
+pub use toolrun::{DEFAULT_LIMIT, MAX_LIMIT, Mode, Settings, Status, Stop, close_run, end_run};

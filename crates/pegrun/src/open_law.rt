@@ -12,11 +12,11 @@ ghost use Rattle.toolrun.specs.Input.{Input};
 ghost use Rattle.toolrun.specs.Reply.{Reply};
 ghost use Rattle.toolrun.specs.ToldNotes.{HintedNotes};
 ghost use Rattle.toolrun.specs.declared.settings.Mode.TheVariants.{Run};
-ghost use Rattle.toolrun.specs.declared.settings.Settings.{Settings};
+ghost use Rattle.pegrun.specs.PegSettings.{PegSettings};
 
 /// Says that a run of an open grammar states what a run of its text states after the notes and hints. It does nothing.
 pub fn runs_as_a_run()
-    ensures { (text : List ℕ) (settings : Settings) (input : Input) (notes : List Said) (told : List ℕ)
+    ensures { (text : List ℕ) (settings : PegSettings) (input : Input) (notes : List Said) (told : List ℕ)
         (grammar : Grammar) (stated : Reply) → settings.mode ≡ Run → IsPegOpened text settings notes (Some grammar) →
         HintedNotes settings (ExplainsNote text) (ArePegHints text) notes told →
         RunStates (rules_of grammar.rules) grammar.start settings input stated →

@@ -1,24 +1,23 @@
 //! Opens a grammar of peg(1) once, to run it on many inputs.
-ghost use Rattle.std.specs.Prelude.{◌≡◌, IfErr, IfOk, false, map, option_copied};
+ghost use Rattle.std.specs.Prelude.{◌≡◌, IfErr, IfOk, false, map};
 ghost use Rattle.pegread.specs.PegViews.{rules_of};
 ghost use Rattle.pegread.specs.Reading.{IsFaultOf};
 ghost use Rattle.pegrun.specs.OpenPeg.{IsPegOpened};
-ghost use Rattle.pegrun.specs.PegLanguage.{IsChecked};
 ghost use Rattle.pegrun.specs.PegReply.{RunStates};
 ghost use Rattle.ruletable.specs.Notes.{said_of};
 ghost use Rattle.toolrun.specs.Stopped.{Fulfils};
 ghost use Rattle.toolrun.specs.Stream.{passed};
 
 use crate::engine::{Counted, run_units};
+use crate::options::PegSettings;
 use crate::peg_language::PegLanguage;
 use feed::Source;
 use gramcheck::SoundPeg;
 use packrat::Packrat;
-use pegread::read_peg;
 use ruletable::{Memory, Note, ReadFault, Sink, WriteFault};
 use std::alloc::Global;
 use std::marker::Model;
-use toolrun::{Checked, Ending, Language, Settings};
+use toolrun::{Checked, Ending, Language, open};
 
 /// A grammar that is run on inputs. It keeps the room that the runs before took.
 #[derive(Drop)]
@@ -46,7 +45,7 @@ impl PegRunner {
     pub fn run<R: Source, O: Sink>(
         &mut self,
         alloc: Global,
-        settings: &Settings<'_>,
+        settings: &PegSettings<'_>,
         reader: &mut R,
         out: &mut O,
     ) -> Result<Ending, WriteFault>
@@ -77,40 +76,32 @@ pub struct OpenedPeg {
     pub runner: Option<PegRunner>,
 }
 
-/// Reads a grammar's text, and checks it.
-fn checked_text(
-    alloc: Global,
-    text: &[u8],
-    start: Option<&str>,
-) -> Result<Checked<SoundPeg>, ReadFault>
-    ensures checked { IfOk result (λ c. IsChecked text.now (option_copied start.entry) (map said_of c.notes.items)
-        c.sound) }
-    ensures fault { IfErr result (λ f. IsFaultOf text.now f) }
-{
-    let grammar = read_peg(alloc, text)?;
-    match PegLanguage::check(alloc, grammar, start) {
-        Ok(checked) => Ok(checked),
-        Err(Memory) => Err(ReadFault::Memory),
-    }
-}
-
 /// Reads and checks a grammar's text. Returns the notes on it, and what runs it from the rule that settings name, or
 /// the first. It ignores the other settings. Fails by the text's fault if it is not a grammar, or if an allocation
 /// fails.
-pub fn open_peg(alloc: Global, text: &[u8], settings: &Settings<'_>) -> Result<OpenedPeg, ReadFault>
+pub fn open_peg(
+    alloc: Global,
+    text: &[u8],
+    settings: &PegSettings<'_>,
+) -> Result<OpenedPeg, ReadFault>
     ensures opened { IfOk result (λ o. IsPegOpened text.now settings.now (map said_of o.notes.items) o.runner) }
     ensures fault { IfErr result (λ f. IsFaultOf text.now f) }
 {
-    let Checked { notes, sound } = checked_text(alloc, text, settings.start)?;
-    let Some(grammar) = sound else {
+    let Checked { notes, judged } = open::<PegLanguage>(alloc, text, settings.start)?;
+    let Some(judged) = judged else {
         return Ok(OpenedPeg {
             notes,
             runner: None,
         });
     };
-    let counted = Counted::new(Packrat::new(alloc));
-    Ok(OpenedPeg {
-        notes,
-        runner: Some(PegRunner { grammar, counted }),
-    })
+    match PegLanguage::ready(alloc, judged) {
+        Ok(grammar) => {
+            let counted = Counted::new(Packrat::new(alloc));
+            Ok(OpenedPeg {
+                notes,
+                runner: Some(PegRunner { grammar, counted }),
+            })
+        }
+        Err(Memory) => Err(ReadFault::Memory),
+    }
 }

@@ -7,12 +7,13 @@ ghost use Rattle.matchfailure.specs.InputPlaces.{place_behind};
 ghost use Rattle.pegread.specs.PegViews.{rules_of};
 ghost use Rattle.pegrun.specs.PastUnits.{EndsBehind, Follows, IsEndingWith};
 
+use crate::options::PegSettings;
 use feed::{Feed, Source};
 use gramcheck::SoundPeg;
 use matchfailure::{FailureSearch, TextPlace, explain_long_unit};
 use ruletable::Memory;
 use std::alloc::Global;
-use toolrun::{Ending, Settings, Stop, ToldRefusals};
+use toolrun::{Ending, Stop, ToldRefusals};
 
 /// The last unit that was taken, of which the bytes are kept, and where the next one begins.
 #[derive(Drop)]
@@ -162,7 +163,7 @@ fn explained_stop<R: Source>(
 pub fn ending_at<R: Source>(
     search: &mut FailureSearch,
     peg: &SoundPeg,
-    settings: &Settings<'_>,
+    settings: &PegSettings<'_>,
     past: &mut Past,
     feed: &mut Feed<'_, R>,
     stop: Stop,

@@ -6,24 +6,29 @@ ghost use Rattle.pegread.specs.Canon.{grammar_text};
 ghost use Rattle.pegread.specs.PegViews.{rules_of};
 ghost use Rattle.pegread.specs.Reading.{IsFaultOf};
 ghost use Rattle.pegrun.specs.Answers.{States};
-ghost use Rattle.pegrun.specs.PegLanguage.{IsChecked, IsPrintable, IsReadAs};
+ghost use Rattle.pegrun.specs.PegLanguage.{IsChecked, IsPrintable, IsReadAs, IsReady};
 ghost use Rattle.pegrun.specs.PegReply.{RunStates};
 
 use crate::engine::{Counted, run_units};
+use crate::options::{PegOptions, PegSettings};
 use feed::Source;
-use gramcheck::{SoundPeg, check_peg, redefinitions};
+use gramcheck::{RankedPeg, SoundPeg, judge_peg, redefinitions};
 use packrat::Packrat;
 use pegexplain::{PegPlaces, explain_fault, explain_peg_note, peg_hints, peg_places};
 use pegread::{Peg, print_peg, read_peg};
 use ruletable::{Memory, Note, ReadFault, Sink, WriteFault};
 use std::alloc::Global;
-use toolrun::{Checked, Ending, Language, Settings};
+use toolrun::{Checked, Ending, Language};
 
 /// The language of peg(1).
 pub struct PegLanguage;
 
 impl Language for PegLanguage {
+    type Options = PegOptions;
+
     type Grammar = Peg;
+
+    type Judged = RankedPeg;
 
     type Sound = SoundPeg;
 
@@ -44,6 +49,8 @@ impl Language for PegLanguage {
     ghost is_read = { λ text peg. IsReadAs text peg.rules peg.redefined.items };
 
     ghost is_checked = { IsChecked };
+
+    ghost is_ready = { IsReady };
 
     ghost is_printable = { λ text peg again. IsPrintable text (rules_of peg.rules) again };
 
@@ -75,7 +82,7 @@ impl Language for PegLanguage {
     fn hints(
         alloc: Global,
         places: &PegPlaces,
-        _settings: &Settings<'_>,
+        _settings: &PegSettings<'_>,
     ) -> Result<Vec<u8>, Memory> {
         peg_hints(alloc, places)
     }
@@ -84,9 +91,16 @@ impl Language for PegLanguage {
         alloc: Global,
         grammar: Peg,
         start: Option<&str>,
-    ) -> Result<Checked<SoundPeg>, Memory> {
-        let gramcheck::Checked { notes, sound } = check_peg(alloc, grammar, start)?;
-        Ok(Checked { notes, sound })
+    ) -> Result<Checked<RankedPeg>, Memory> {
+        let gramcheck::Checked { notes, sound } = judge_peg(alloc, grammar, start)?;
+        Ok(Checked {
+            notes,
+            judged: sound,
+        })
+    }
+
+    fn ready(alloc: Global, judged: RankedPeg) -> Result<SoundPeg, Memory> {
+        judged.ready(alloc)
     }
 
     fn redefinitions(alloc: Global, grammar: &Peg) -> Result<Vec<Note>, Memory> {
@@ -100,7 +114,7 @@ impl Language for PegLanguage {
     fn run<R: Source, O: Sink>(
         alloc: Global,
         grammar: &SoundPeg,
-        settings: &Settings<'_>,
+        settings: &PegSettings<'_>,
         reader: &mut R,
         out: &mut O,
     ) -> Result<Ending, WriteFault> {

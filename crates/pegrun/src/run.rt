@@ -5,11 +5,12 @@ ghost use Rattle.pegrun.specs.Answers.{States};
 ghost use Rattle.toolrun.specs.Right.{IsRight};
 ghost use Rattle.toolrun.specs.Status.{code_of};
 
+use crate::options::PegSettings;
 use crate::peg_language::PegLanguage;
 use feed::Source;
 use ruletable::Sink;
 use std::alloc::Global;
-use toolrun::{Settings, Status, run_tool};
+use toolrun::{Status, run_tool};
 
 /// Runs a grammar on what a reader gives: prints the texts of its units on `out` and writes why it stopped on `err`.
 /// All three must be fresh: none has failed before, and the reader has not reported its end.
@@ -45,7 +46,7 @@ use toolrun::{Settings, Status, run_tool};
 pub fn run_peg<R: Source, O: Sink, E: Sink>(
     alloc: Global,
     grammar: &[u8],
-    settings: &Settings<'_>,
+    settings: &PegSettings<'_>,
     reader: &mut R,
     out: &mut O,
     err: &mut E,

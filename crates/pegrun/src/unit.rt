@@ -13,11 +13,12 @@ ghost use Rattle.toolrun.specs.Input.{Input};
 ghost use Rattle.pegrun.specs.Units.{taken_at};
 
 use crate::attempt::{Attempt, CountedMatcher};
+use crate::options::PegSettings;
 use feed::{Feed, Held, Source};
 use gramcheck::SoundPeg;
 use pegmatch::Matcher;
 use ruletable::{Sink, WriteFault};
-use toolrun::{Settings, Status, Stop};
+use toolrun::{Status, Stop};
 
 /// What follows at a place: a unit of so many bytes, or a stop.
 #[derive(Clone, Copy)]
@@ -138,7 +139,7 @@ fn unit_at<M: Matcher, R: Source, O: Sink>(
     peg: &SoundPeg,
     feed: &mut Feed<'_, R>,
     more: bool,
-    settings: &Settings<'_>,
+    settings: &PegSettings<'_>,
     start: usize,
     out: &mut O,
 ) -> Result<Step, WriteFault>
@@ -152,7 +153,7 @@ fn unit_at<M: Matcher, R: Source, O: Sink>(
     ensures twice { calls_of matcher.new ≤ calls_of matcher.old + 2 }
 {
     let end = start + feed.len();
-    let attempted = attempt_unit(matcher, peg, feed, more, settings.raw, out);
+    let attempted = attempt_unit(matcher, peg, feed, more, settings.options.raw, out);
     step_of(attempted, settings.limit, start, end)
 }
 
@@ -161,7 +162,7 @@ fn unit_at<M: Matcher, R: Source, O: Sink>(
 pub fn next_unit<M: Matcher, R: Source, O: Sink>(
     matcher: &mut CountedMatcher<M>,
     peg: &SoundPeg,
-    settings: &Settings<'_>,
+    settings: &PegSettings<'_>,
     feed: &mut Feed<'_, R>,
     start: usize,
     out: &mut O,

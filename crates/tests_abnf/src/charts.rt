@@ -1,48 +1,39 @@
-//! Lines judged by item sets.
+//! Item sets.
 
 use crate::flat_grammars::flat;
-use crate::rooms::is_told;
 use earley::{Chart, judge};
 use flatgrammar::{Flat, items_at_most};
-use lazydfa::Automaton;
 use lowering::items_tell;
-use ruletable::Memory;
 use std::alloc::Global;
 use testio::{Fields, Text};
 
-/// Returns whether the judged rule derives a line that is not too long.
-pub(crate) fn is_derived(chart: &mut Chart, flat: &Flat, line: &[u8]) -> Result<bool, Memory> {
-    if line.len() > flat.limit() {
-        return Err(Memory);
-    }
-    judge(chart, flat, line)
+/// A flat grammar, and the item sets of a line.
+#[derive(Drop)]
+struct Sets {
+    flat: Flat,
+    chart: Chart,
 }
 
-/// `judge GRAMMAR | LIMIT | LINE ..`: whether each line is derived, by one chart; with `!` where an automaton, if there
-/// is one and it answers, says something else.
-pub(crate) fn answers_of(alloc: Global, fields: &Fields, out: &mut Text) -> Option<()> {
-    let flat = flat(alloc, fields.text(0), fields.number(1))?;
-    let mut chart = Chart::new(alloc);
-    let mut automaton = Automaton::new(alloc, &flat).ok()?;
-    for at in 2..fields.len() {
-        let line = fields.text(at);
-        let answer = is_derived(&mut chart, &flat, line).ok()?;
-        out.add_answer(answer);
-        if !is_told(&mut automaton, line, answer).ok()? {
-            out.add(b"!");
-        }
-        out.add(b";");
-    }
-    Some(())
+// Returns the flat grammar of a text for lines of so many letters, with no item sets.
+fn no_sets(alloc: Global, text: &[u8], limit: usize) -> Option<Sets> {
+    let flat = flat(alloc, text, limit)?;
+    let chart = Chart::new(alloc);
+    Some(Sets { flat, chart })
 }
 
-/// `bytes GRAMMAR`: the runs of the bytes that are derived as lines of one letter.
-pub(crate) fn bytes_of(alloc: Global, fields: &Fields, out: &mut Text) -> Option<()> {
-    let flat = flat(alloc, fields.text(0), 1)?;
-    let mut chart = Chart::new(alloc);
+// Makes the item sets of a line. Returns whether the judged rule derives it; nothing if it is too long.
+fn is_derived(sets: &mut Sets, line: &[u8]) -> Option<bool> {
+    if line.len() > sets.flat.limit() {
+        return None;
+    }
+    judge(&mut sets.chart, &sets.flat, line).ok()
+}
+
+// `bytes`: the runs of the bytes that are derived as lines of one letter.
+fn add_bytes(sets: &mut Sets, out: &mut Text) -> Option<()> {
     let mut is_in_run = false;
     for byte in 0..=255u8 {
-        let answer = is_derived(&mut chart, &flat, &[byte]).ok()?;
+        let answer = is_derived(sets, &[byte])?;
         if answer && !is_in_run {
             out.add_number(u128::from(byte));
             out.add(b"-");
@@ -59,55 +50,65 @@ pub(crate) fn bytes_of(alloc: Global, fields: &Fields, out: &mut Text) -> Option
     Some(())
 }
 
-/// `items GRAMMAR | LINE | SET ..`: whether a line of at most 200 letters is derived, and how many items each set has;
-/// with `!` where the list of a set's items is empty and there are some, or the other way round.
-pub(crate) fn items_of(alloc: Global, fields: &Fields, out: &mut Text) -> Option<()> {
-    let flat = flat(alloc, fields.text(0), 200)?;
-    let mut chart = Chart::new(alloc);
-    out.add_answer(is_derived(&mut chart, &flat, fields.text(1)).ok()?);
-    for at in 2..fields.len() {
-        let set = fields.number(at);
+// Adds how many items a set has; with `!` where the list of them is empty and there are some, or the other way round.
+fn add_items(chart: &Chart, set: usize, out: &mut Text) {
+    out.add_number(chart.items(set) as u128);
+    match chart.spots(set) {
+        Ok(spots) if spots.is_empty() == (chart.items(set) == 0) => {}
+        _ => out.add(b"!"),
+    }
+}
+
+// `items .. | LINE | SET ..`: whether a line is derived, and how many items each set has.
+fn add_sets(sets: &mut Sets, fields: &Fields, out: &mut Text) -> Option<()> {
+    out.add_answer(is_derived(sets, fields.text(2))?);
+    for at in 3..fields.len() {
         out.add(b";");
-        out.add_number(chart.items(set) as u128);
-        if chart.spots(set).ok()?.is_empty() != (chart.items(set) == 0) {
-            out.add(b"!");
-        }
+        add_items(&sets.chart, fields.number(at), out);
     }
     Some(())
 }
 
-/// `items_within GRAMMAR | LIMIT | LINE | COUNT`: the limit, whether the line is derived, whether each of its sets has
-/// an item, and set j at most COUNT * (j + 1) of them, and how many items the set after the last has.
-pub(crate) fn items_within(alloc: Global, fields: &Fields, out: &mut Text) -> Option<()> {
-    let flat = flat(alloc, fields.text(0), fields.number(1))?;
-    let mut chart = Chart::new(alloc);
+// `items_within .. | LINE | COUNT`: the limit, whether the line is derived, whether each of its sets has an item, and
+// set j at most COUNT * (j + 1) of them, and how many items the set after the last has.
+fn add_bounds(sets: &mut Sets, fields: &Fields, out: &mut Text) -> Option<()> {
     let line = fields.text(2);
-    out.add_number(flat.limit() as u128);
+    out.add_number(sets.flat.limit() as u128);
     out.add(b";");
-    out.add_answer(is_derived(&mut chart, &flat, line).ok()?);
+    out.add_answer(is_derived(sets, line)?);
     for set in 0..=line.len() {
         let most = fields.number(3).saturating_mul(set.saturating_add(1));
         out.add(b";");
-        out.add_answer(0 < chart.items(set) && chart.items(set) <= most);
+        let count = sets.chart.items(set);
+        out.add_answer(0 < count && count <= most);
     }
     out.add(b";");
-    out.add_number(chart.items(line.len().saturating_add(1)) as u128);
+    out.add_number(sets.chart.items(line.len().saturating_add(1)) as u128);
     Some(())
 }
 
-/// `one_chart GRAMMAR | LINE`: whether one chart derives the prefixes of a line of seven letters a thousand times, and
-/// has no items after their ends.
-pub(crate) fn one_chart(alloc: Global, fields: &Fields, out: &mut Text) -> Option<()> {
-    let flat = flat(alloc, fields.text(0), 7)?;
-    let mut chart = Chart::new(alloc);
+// `one_chart .. | LINE`: whether one chart derives the prefixes of a line of seven letters a thousand times, and has no
+// items after their ends.
+fn add_prefixes(sets: &mut Sets, line: &[u8], out: &mut Text) -> Option<()> {
     let mut are_derived = true;
     for n in 0..1000usize {
         let end = n % 8;
-        let line = fields.text(1).get(..end)?;
-        are_derived &= is_derived(&mut chart, &flat, line).ok()? && chart.items(end + 1) == 0;
+        let prefix = line.get(..end)?;
+        are_derived &= is_derived(sets, prefix)? && sets.chart.items(end + 1) == 0;
     }
     out.add_answer(are_derived);
     Some(())
+}
+
+/// `CALL GRAMMAR | LIMIT | ..`: one of the calls on the item sets of lines that have at most so many letters.
+pub(crate) fn run(alloc: Global, call: &str, fields: &Fields, out: &mut Text) -> Option<()> {
+    let mut sets = no_sets(alloc, fields.text(0), fields.number(1))?;
+    match call {
+        "bytes" => add_bytes(&mut sets, out),
+        "items" => add_sets(&mut sets, fields, out),
+        "items_within" => add_bounds(&mut sets, fields, out),
+        _ => add_prefixes(&mut sets, fields.text(2), out),
+    }
 }
 
 /// `item_laws`: they return.

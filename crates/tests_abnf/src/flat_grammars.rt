@@ -2,9 +2,7 @@
 
 use crate::sound_grammars::sound;
 use flatgrammar::{Flat, Node};
-use letters::Alphabet;
 use lowering::lower;
-use prune::lower_viable;
 use std::alloc::Global;
 use testio::{Fields, Text};
 
@@ -12,19 +10,6 @@ use testio::{Fields, Text};
 pub(crate) fn flat(alloc: Global, text: &[u8], limit: usize) -> Option<Flat> {
     let grammar = sound(alloc, text, "")?;
     lower(alloc, &grammar, limit).ok()
-}
-
-/// Returns the flat grammar of a text without its parts that derive nothing, judged by the rule of that name, for lines
-/// of so many letters.
-pub(crate) fn viable_flat(
-    alloc: Global,
-    text: &[u8],
-    rule: &str,
-    alphabet: Alphabet,
-    limit: usize,
-) -> Option<Flat> {
-    let grammar = sound(alloc, text, rule)?;
-    lower_viable(alloc, &grammar, alphabet, limit).ok()
 }
 
 // Adds what a node is, if it is a name or a repetition's turns.

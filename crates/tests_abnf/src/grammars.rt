@@ -68,25 +68,20 @@ pub(crate) fn single_bytes_read(alloc: Global, out: &mut Text) {
     }
 }
 
-/// `sizes GRAMMAR`: how many rules, rules that are defined again and rules that are extended early there are.
+/// `sizes GRAMMAR`: how many rules, rules that are defined again and rules that are extended early there are; and how
+/// many alternatives each rule has.
 pub(crate) fn sizes_of(alloc: Global, fields: &Fields, out: &mut Text) -> Option<()> {
     let abnf = read_abnf(alloc, fields.text(0)).ok()?;
     for size in [abnf.rules.len(), abnf.redefined.len(), abnf.extended.len()] {
         out.add_number(size as u128);
         out.add(b";");
     }
-    Some(())
-}
-
-/// `alternatives GRAMMAR`: how many alternatives each rule has.
-pub(crate) fn alternatives_of(alloc: Global, fields: &Fields, out: &mut Text) -> Option<()> {
-    let abnf = read_abnf(alloc, fields.text(0)).ok()?;
     for id in 0..abnf.rules.len() {
+        out.add(b" ");
         match abnf.rules.body(id) {
             Elem::Alt(all) => out.add_number(all.len() as u128),
             _ => out.add(b"1"),
         }
-        out.add(b";");
     }
     Some(())
 }

@@ -1,7 +1,7 @@
 //! Calls on grammars by which lines can be judged.
 
 use abnfcheck::{
-    Checked, SoundAbnf, check_abnf, derivation_is_decided, furthest_is_found,
+    Checked, SoundAbnf, check_abnf, derivation_is_decided, furthest_is_found, nullable_rules,
     one_list_of_abnf_notes, productive,
 };
 use abnfread::read_abnf;
@@ -13,11 +13,8 @@ use testio::{Fields, Text};
 // The checked grammar of a text, judged by the rule of that name, or by the first one.
 fn checked(alloc: Global, text: &[u8], rule: &str) -> Option<Checked<SoundAbnf>> {
     let abnf = read_abnf(alloc, text).ok()?;
-    if rule.is_empty() {
-        check_abnf(alloc, abnf, None).ok()
-    } else {
-        check_abnf(alloc, abnf, Some(rule)).ok()
-    }
+    let rule = if rule.is_empty() { None } else { Some(rule) };
+    check_abnf(alloc, abnf, rule).ok()
 }
 
 /// Returns the grammar of a text, judged by the rule of that name, or by the first one if the name is empty.
@@ -56,13 +53,6 @@ pub(crate) fn notes_of(alloc: Global, fields: &Fields, out: &mut Text) -> Option
     Some(())
 }
 
-/// `nullable GRAMMAR`: whether the first rule derives the empty string.
-pub(crate) fn is_nullable(alloc: Global, fields: &Fields, out: &mut Text) -> Option<()> {
-    let grammar = sound(alloc, fields.text(0), "")?;
-    out.add_answer(!grammar.rules().is_empty() && grammar.nullable(0));
-    Some(())
-}
-
 // Adds whether the first rule derives some list of the letters.
 fn add_productive(
     alloc: Global,
@@ -75,9 +65,12 @@ fn add_productive(
     Some(())
 }
 
-/// `productive GRAMMAR`: whether the first rule derives some list of bytes, and some list of code points.
-pub(crate) fn are_productive(alloc: Global, fields: &Fields, out: &mut Text) -> Option<()> {
+/// `derives GRAMMAR`: whether the first rule derives the empty string, some list of bytes, and some of code points.
+pub(crate) fn derives(alloc: Global, fields: &Fields, out: &mut Text) -> Option<()> {
     let grammar = sound(alloc, fields.text(0), "")?;
+    let nulls = nullable_rules(alloc, &grammar).ok()?;
+    out.add_answer(nulls.first() == Some(&true));
+    out.add(b";");
     add_productive(alloc, &grammar, Alphabet::Bytes, out)?;
     out.add(b";");
     add_productive(alloc, &grammar, Alphabet::Utf8, out)

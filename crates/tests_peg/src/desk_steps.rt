@@ -1,10 +1,10 @@
 //! Steps of the plain machine.
-ghost use Rattle.std.specs.Prelude.{◌≡◌, List, ◌∷◌, false};
+ghost use Rattle.std.specs.Prelude.{◌≡◌, ◌<◌, List, ◌∷◌, length, true};
 ghost use Rattle.matchfailure.specs.Desk.{Fits};
 ghost use Rattle.matchfailure.specs.declared.desk.frame.Frame.{Frame};
 
 use crate::nodes::sound;
-use crate::plain_units::add_unit;
+use crate::units::add_unit;
 use gramcheck::SoundPeg;
 use matchfailure::Desk;
 use pegmatch::Unit;
@@ -12,17 +12,22 @@ use ruletable::Memory;
 use std::alloc::Global;
 use testio::{Fields, Text};
 
-// Steps on a window that is the whole rest until one answers: what it answers, and the number of steps.
-fn count_steps(
+// More steps than the machine makes on these.
+const MOST_STEPS: usize = 10_000;
+
+// Steps on a window until one answers: what it answers, and the number of steps.
+fn answered(
     desk: &mut Desk,
     peg: &SoundPeg,
     window: &[u8],
+    more: bool,
 ) -> Result<Option<(Unit, usize)>, Memory>
+    requires some { more ≡ true → 0 < length window.now }
     requires frame { (top : Frame) × (below : List Frame) × (desk.old.frames ≡ top ∷ below) }
-    requires fits { Fits peg.now window.now false desk.old }
+    requires fits { Fits peg.now window.now more desk.old }
 {
-    for i in 0..1000usize {
-        let stepped = desk.step(peg, window, false)?;
+    for i in 0..MOST_STEPS {
+        let stepped = desk.step(peg, window, more)?;
         if let Some(unit) = stepped {
             return Ok(Some((unit, i + 1)));
         }
@@ -30,29 +35,33 @@ fn count_steps(
     Ok(None)
 }
 
-// What steps from `begin` on answer on a window that is the whole rest, with the number of steps; and how many cells
-// there are then, and after a reset.
-fn stepped(
-    alloc: Global,
+/// Returns what the steps of a machine on a window answer, and how many there are.
+pub(crate) fn evaluated(
+    desk: &mut Desk,
     peg: &SoundPeg,
     window: &[u8],
-) -> Result<(Option<(Unit, usize)>, usize, usize), Memory> {
-    let mut desk = Desk::new(alloc);
+    more: bool,
+) -> Result<Option<(Unit, usize)>, Memory> {
+    let more = more && !window.is_empty();
     desk.begin(peg)?;
-    let counted = count_steps(&mut desk, peg, window)?;
-    let cells = desk.cells();
-    desk.reset();
-    Ok((counted, cells, desk.cells()))
+    answered(desk, peg, window, more)
+}
+
+// Returns the unit of a window that is the whole rest by a grammar, and in how many steps an empty machine finds it.
+fn stepped(alloc: Global, desk: &mut Desk, grammar: &[u8], window: &[u8]) -> Option<(Unit, usize)> {
+    let peg = sound(alloc, grammar, "")?;
+    evaluated(desk, &peg, window, false).ok()?
 }
 
 /// `desk GRAMMAR | WINDOW`: the unit of a window that is the whole rest, in how many steps it is found, and how many
 /// cells there are then, and after a reset.
 pub(crate) fn steps_of(alloc: Global, fields: &Fields, out: &mut Text) -> Option<()> {
-    let peg = sound(alloc, fields.text(0))?;
-    let (counted, cells, left) = stepped(alloc, &peg, fields.text(1)).ok()?;
-    let (unit, steps) = counted?;
+    let mut desk = Desk::new(alloc);
+    let (unit, steps) = stepped(alloc, &mut desk, fields.text(0), fields.text(1))?;
     add_unit(unit, out);
-    for number in [steps, cells, left] {
+    let cells = desk.cells();
+    desk.reset();
+    for number in [steps, cells, desk.cells()] {
         out.add(b";");
         out.add_number(number as u128);
     }

@@ -1,14 +1,12 @@
-//! The farthest failing comparison of a unit, and what explains that no unit goes on.
+//! The farthest failing comparison of a unit.
 
 use crate::nodes::sound;
 use gramcheck::SoundPeg;
 use matchfailure::{
-    FailureSearch, TextPlace, Told, Visit, explain_long_unit, failing_leaf_stops,
-    fails_so_in_input, farthest_failure, farthest_or_none, one_farthest, one_no_match, stops_fail,
-    told_unit,
+    Told, Visit, failing_leaf_stops, fails_so_in_input, farthest_failure, farthest_or_none,
+    one_farthest, one_no_match, stops_fail, told_unit,
 };
 use pegnodes::Node;
-use ruletable::Memory;
 use std::alloc::Global;
 use testio::{Fields, Text};
 
@@ -38,7 +36,7 @@ fn add_visits(peg: &SoundPeg, visits: &[Visit], out: &mut Text) {
 /// `farthest GRAMMAR | WINDOW`: the farthest byte at which a comparison outside of `!` fails, and what is expected
 /// there.
 pub(crate) fn farthest_of(alloc: Global, fields: &Fields, out: &mut Text) -> Option<()> {
-    let peg = sound(alloc, fields.text(0))?;
+    let peg = sound(alloc, fields.text(0), "")?;
     match farthest_failure(alloc, &peg, fields.text(1)).ok()? {
         None => out.add(b"none"),
         Some(far) => {
@@ -66,46 +64,6 @@ pub(crate) fn told_unit_of(fields: &Fields, out: &mut Text) {
         Told::Before => out.add(b"before"),
         Told::Last => out.add(b"last"),
     }
-}
-
-// Returns what explains that no unit goes on; nothing where a text is too long, or the last unit begins after what is
-// taken.
-fn told(
-    alloc: Global,
-    peg: &SoundPeg,
-    input: &[u8],
-    taken: &[u8],
-    before: usize,
-) -> Result<Vec<u8>, Memory> {
-    if input.len() > 100 || taken.len() > 100 || before > taken.len() {
-        return Ok(Vec::new(alloc));
-    }
-    let at = TextPlace::front().behind(input);
-    FailureSearch::new().explain_no_match(alloc, peg, taken, before, at)
-}
-
-/// `no_match GRAMMAR | INPUT | TAKEN | COUNT`: what explains that no unit goes on. The input stands before the unit
-/// before the last one, or before the last one if there is none; of what is taken after it so many bytes stand before
-/// the last unit.
-pub(crate) fn no_match_of(alloc: Global, fields: &Fields, out: &mut Text) -> Option<()> {
-    let peg = sound(alloc, fields.text(0))?;
-    let why = told(
-        alloc,
-        &peg,
-        fields.text(1),
-        fields.text(2),
-        fields.number(3),
-    )
-    .ok()?;
-    out.add(&why);
-    Some(())
-}
-
-/// `long_unit`: what explains a unit that is too long, and begins after one line end.
-pub(crate) fn long_unit_on_line_two(alloc: Global, out: &mut Text) -> Option<()> {
-    let at = TextPlace::front().behind(b"\n");
-    out.add(&explain_long_unit(alloc, at).ok()?);
-    Some(())
 }
 
 /// `failure_laws`: they return.

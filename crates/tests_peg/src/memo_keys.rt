@@ -6,16 +6,6 @@ use ruletable::Memory;
 use std::alloc::Global;
 use testio::{Fields, Text};
 
-// Returns what is found for a key.
-fn found_in(log: &mut KeyLog, spot: Spot) -> Result<Option<Found>, Memory>
-    ensures { log.new ≡ log.old }
-{
-    match log.get(spot)? {
-        Some(given) => Ok(Some(given.found)),
-        None => Ok(None),
-    }
-}
-
 // The outcome that a field spells: `failed`, or the byte at which it ends.
 fn outcome_of(fields: &Fields, at: usize) -> Found {
     if fields.is(at, b"failed") {
@@ -26,42 +16,40 @@ fn outcome_of(fields: &Fields, at: usize) -> Found {
 }
 
 // Adds what is found for a key.
-fn add_found(found: Option<Found>, out: &mut Text) {
-    match found {
+fn add_found(log: &mut KeyLog, spot: Spot, out: &mut Text) -> Option<()>
+    ensures { log.new ≡ log.old }
+{
+    match log.get(spot).ok()? {
         None => out.add(b"none"),
-        Some(Found::Failed) => out.add(b"failed"),
-        Some(Found::Took(end)) => {
-            out.add(b"took ");
-            out.add_number(end as u128);
-        }
+        Some(given) => match given.found {
+            Found::Failed => out.add(b"failed"),
+            Found::Took(end) => {
+                out.add(b"took ");
+                out.add_number(end as u128);
+            }
+        },
     }
-}
-
-// Returns what is found for a key before it is stored, after that, and in the next unit.
-fn kept(alloc: Global, spot: Spot, found: Found) -> Result<[Option<Found>; 3], Memory> {
-    let mut log = KeyLog::new(alloc);
-    log.begin_unit(2)?;
-    let before = found_in(&mut log, spot)?;
-    if spot.row() < 2 {
-        log.put(spot, Given { found, events: 0 })?;
-    }
-    let stored = found_in(&mut log, spot)?;
-    log.begin_unit(2)?;
-    Ok([before, stored, found_in(&mut log, spot)?])
-}
-
-/// `key NODE | POSITION | OUTCOME`: what is found for a key before it is stored, after that, and in the next unit.
-pub(crate) fn key_of(alloc: Global, fields: &Fields, out: &mut Text) -> Option<()> {
-    let spot = Spot::Pair {
-        node: fields.number(0),
-        place: fields.number(1),
-    };
-    let found = kept(alloc, spot, outcome_of(fields, 2)).ok()?;
-    for given in &found {
-        add_found(*given, out);
-        out.add(b";");
-    }
+    out.add(b";");
     Some(())
+}
+
+/// `key NODE | POSITION | OUTCOME`: what is found for a key before it is stored; whether it is stored, with how many
+/// keys there are then; and what is found then, and in the next unit.
+pub(crate) fn key_of(alloc: Global, fields: &Fields, out: &mut Text) -> Option<()> {
+    let (node, place) = (fields.number(0), fields.number(1));
+    let spot = Spot::Pair { node, place };
+    let found = outcome_of(fields, 2);
+    let mut log = KeyLog::new(alloc);
+    log.begin_unit(2).ok()?;
+    add_found(&mut log, spot, out)?;
+    let is_stored = node < 2 && log.put(spot, Given { found, events: 0 }).is_ok();
+    out.add_answer(is_stored);
+    out.add(b" ");
+    out.add_number(log.len() as u128);
+    out.add(b";");
+    add_found(&mut log, spot, out)?;
+    log.begin_unit(2).ok()?;
+    add_found(&mut log, spot, out)
 }
 
 // A log whose entries of a node hold the positions 3 to 5, 10 to 12, and 20.
@@ -84,26 +72,10 @@ fn log_of_runs(alloc: Global) -> Result<KeyLog, Memory> {
 pub(crate) fn run_of_keys(alloc: Global, fields: &Fields, out: &mut Text) -> Option<()> {
     let mut log = log_of_runs(alloc).ok()?;
     out.add_number(log.len() as u128);
+    out.add(b";");
     for at in 0..fields.len() {
         let place = fields.number(at);
-        out.add(b";");
-        add_found(found_in(&mut log, Spot::Pair { node: 1, place }).ok()?, out);
+        add_found(&mut log, Spot::Pair { node: 1, place }, out)?;
     }
-    Some(())
-}
-
-/// `far_key POSITION | OUTCOME`: whether a log stores that, which it does if both fit into 32 bits, and how many keys
-/// it has then. It finds the key just if it is stored.
-pub(crate) fn far_key(alloc: Global, fields: &Fields, out: &mut Text) -> Option<()> {
-    let found = outcome_of(fields, 1);
-    let place = fields.number(0);
-    let spot = Spot::Pair { node: 0, place };
-    let mut log = KeyLog::new(alloc);
-    log.begin_unit(1).ok()?;
-    let stored = log.put(spot, Given { found, events: 0 }).is_ok();
-    let is_found = found_in(&mut log, spot).ok()? == Some(found);
-    out.add_answer(stored && is_found);
-    out.add(b" ");
-    out.add_number(log.len() as u128);
     Some(())
 }

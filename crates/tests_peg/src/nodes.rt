@@ -12,28 +12,17 @@ use ruletable::ByteSet;
 use std::alloc::Global;
 use testio::{Fields, Text};
 
-/// Returns the grammar of a text, ready to run.
-pub(crate) fn sound(alloc: Global, text: &[u8]) -> Option<SoundPeg> {
+/// Returns the grammar of a text, ready to run from the rule of that name, or from the first one if the name is empty.
+pub(crate) fn sound(alloc: Global, text: &[u8], start: &str) -> Option<SoundPeg> {
     let peg = read_peg(alloc, text).ok()?;
-    let checked = check_peg(alloc, peg, None).ok()?;
-    checked.sound
-}
-
-// The same with a start rule of that name.
-fn sound_from(alloc: Global, text: &[u8], start: &str) -> Option<SoundPeg> {
-    let peg = read_peg(alloc, text).ok()?;
-    let checked = check_peg(alloc, peg, Some(start)).ok()?;
-    checked.sound
+    let start = if start.is_empty() { None } else { Some(start) };
+    check_peg(alloc, peg, start).ok()?.sound
 }
 
 /// `start GRAMMAR | RULE`: the id of the start rule, which is the first one if none is named, and how many rules there
 /// are.
 pub(crate) fn start_of(alloc: Global, fields: &Fields, out: &mut Text) -> Option<()> {
-    let peg = if fields.is(1, b"") {
-        sound(alloc, fields.text(0))?
-    } else {
-        sound_from(alloc, fields.text(0), fields.string(1))?
-    };
+    let peg = sound(alloc, fields.text(0), fields.string(1))?;
     out.add_number(peg.start() as u128);
     out.add(b" of ");
     out.add_number(peg.rules().len() as u128);
@@ -92,7 +81,7 @@ fn add_text(form: &[u8], text: &[u8], out: &mut Text) {
 
 /// `nodes GRAMMAR`: a line for each node, with ` silent` if it is; then the node of the start rule's body.
 pub(crate) fn nodes_of(alloc: Global, fields: &Fields, out: &mut Text) -> Option<()> {
-    let peg = sound(alloc, fields.text(0))?;
+    let peg = sound(alloc, fields.text(0), "")?;
     for n in 0..peg.nodes() {
         add_node(peg.node(n), out);
         if peg.is_silent(n) {
@@ -108,7 +97,7 @@ pub(crate) fn nodes_of(alloc: Global, fields: &Fields, out: &mut Text) -> Option
 /// `rank GRAMMAR | NODE | LEFT`: how many nodes there are, and whether the node has a greater rank than the other one,
 /// and none above their number.
 pub(crate) fn is_above(alloc: Global, fields: &Fields, out: &mut Text) -> Option<()> {
-    let peg = sound(alloc, fields.text(0))?;
+    let peg = sound(alloc, fields.text(0), "")?;
     let (node, left) = (fields.number(1), fields.number(2));
     if node >= peg.nodes() || left >= peg.nodes() {
         return None;

@@ -1,6 +1,9 @@
 //! Runs over a reader and writers in memory.
 
-use fanquber::{Alphabet, MAX_LIMIT, Mode, Program, Settings, SourceOf, Status, run_abnf, run_peg};
+use fanquber::{
+    AbnfOptions, Alphabet, MAX_LIMIT, Mode, PegOptions, Settings, SourceOf, Status, run_abnf,
+    run_peg,
+};
 use ruletable::SinkOf;
 use std::alloc::Global;
 use std::cell::Cell;
@@ -48,21 +51,75 @@ impl Ended {
     }
 }
 
-/// Runs a program's engine over a reader and writers in memory.
+/// A tool.
+#[derive(Clone, Copy)]
+pub enum Tool {
+    Peg,
+    Abnf,
+}
+
+/// Actions are trimmed.
+pub const PEG: PegOptions = PegOptions { raw: false };
+
+/// Lines are made of bytes, end with LF, and are answered by `yes` or `no` alone.
+pub const ABNF: AbnfOptions = AbnfOptions {
+    letters: Alphabet::Bytes,
+    viable: false,
+    nul: false,
+};
+
+/// What a run is asked for: what to do with the grammar, how many bytes a unit or a line may have, and whether messages
+/// are explained.
+#[derive(Clone, Copy)]
+pub struct Wanted {
+    pub mode: Mode,
+    pub limit: usize,
+    pub explain: bool,
+}
+
+impl Wanted {
+    /// Asks for a run in this mode with this limit, whose messages are not explained.
+    pub fn new(mode: Mode, limit: usize) -> Wanted {
+        Wanted {
+            mode,
+            limit,
+            explain: false,
+        }
+    }
+
+    /// Returns the settings that ask for this, with these options.
+    pub fn settings<O>(self, options: O) -> Settings<'static, O> {
+        Settings {
+            mode: self.mode,
+            limit: self.limit.max(1).min(MAX_LIMIT),
+            start: None,
+            explain: self.explain,
+            options,
+        }
+    }
+}
+
+/// Runs a tool over a reader and writers in memory.
 pub fn run_over(
     alloc: Global,
-    program: Program,
+    tool: Tool,
     grammar: &[u8],
-    settings: &Settings<'_>,
+    wanted: Wanted,
     ends: &Ends<'_>,
 ) -> Ended {
     let clock = Cell::new(0);
     let mut reader = SourceOf::new(Tape::new(ends.input, ends.step.max(1), ends.torn));
     let mut out = SinkOf::new(Paper::new(alloc, ends.step, &clock, ends.out));
     let mut err = SinkOf::new(Paper::new(alloc, ends.step, &clock, ends.err));
-    let status = match program {
-        Program::Pegi => run_peg(alloc, grammar, settings, &mut reader, &mut out, &mut err),
-        Program::Abnfi => run_abnf(alloc, grammar, settings, &mut reader, &mut out, &mut err),
+    let status = match tool {
+        Tool::Peg => {
+            let settings = wanted.settings(PEG);
+            run_peg(alloc, grammar, &settings, &mut reader, &mut out, &mut err)
+        }
+        Tool::Abnf => {
+            let settings = wanted.settings(ABNF);
+            run_abnf(alloc, grammar, &settings, &mut reader, &mut out, &mut err)
+        }
     };
     let out = out.into_inner();
     let err = err.into_inner();
@@ -72,19 +129,5 @@ pub fn run_over(
         flushed: (out.flushed, err.flushed),
         out: out.taken,
         err: err.taken,
-    }
-}
-
-/// Settings of a run by bytes, with this mode, limit and start rule.
-pub fn settings_of<'a>(mode: Mode, limit: usize, start: Option<&'a str>) -> Settings<'a> {
-    Settings {
-        mode,
-        limit: limit.max(1).min(MAX_LIMIT),
-        start,
-        raw: false,
-        letters: Alphabet::Bytes,
-        viable: false,
-        nul: false,
-        explain: false,
     }
 }

@@ -1,8 +1,6 @@
 //! Laws on whole runs.
 
-use fanquber::{
-    is_a_simple_command, one_reply, one_reply_of_abnf, one_statement, one_statement_of_abnf,
-};
+use fanquber::{one_reply, one_reply_of_abnf, one_statement, one_statement_of_abnf};
 
 #[test]
 fn laws_return() {
@@ -10,5 +8,4 @@ fn laws_return() {
     one_statement();
     one_reply_of_abnf();
     one_statement_of_abnf();
-    is_a_simple_command();
 }

@@ -1,14 +1,14 @@
 //! Readers that give a few bytes a call and fail, and how many bytes are left to them.
 
-use crate::ends::{Ends, run_over, settings_of};
-use fanquber::{DEFAULT_LIMIT, Mode, Program, Settings, Status};
+use crate::ends::{Ends, Tool, Wanted, run_over};
+use fanquber::{DEFAULT_LIMIT, Mode, Status};
 use std::process::Abort;
 use std::test::Fail;
 
-// A program, a grammar, how many bytes a unit or a line may have, an input, what is to come on both outputs, the
+// A tool, a grammar, how many bytes a unit or a line may have, an input, what is to come on both outputs, the
 // status, and how many bytes of the input are left to the reader.
 type Row = (
-    Program,
+    Tool,
     &'static [u8],
     usize,
     &'static [u8],
@@ -32,10 +32,10 @@ const TORN: &[u8] = b"read error\n";
 
 // Checks a row by reads and writes of so many bytes. A torn reader fails after the input.
 fn check_row<R: Abort + AllocGlobal>(rt: &R, row: &Row, torn: bool, step: usize) {
-    let settings = settings_of(Mode::Run, row.2, None);
+    let wanted = Wanted::new(Mode::Run, row.2);
     let mut ends = Ends::new(row.3, step);
     ends.torn = torn;
-    let ran = run_over(rt.alloc(), row.0, row.1, &settings, &ends);
+    let ran = run_over(rt.alloc(), row.0, row.1, wanted, &ends);
     assert!(rt; ran.is(row.4, row.5, row.6), "{:?} by {step}", row.1);
     assert!(rt; ran.left == row.7, "{:?} by {step}", row.1);
 }
@@ -53,7 +53,7 @@ fn check_rows<R: Abort + AllocGlobal>(rt: &R, rows: &[Row], torn: bool) {
 static FAULTS: [Row; 8] = [
     // the third unit has no window of two bytes
     (
-        Program::Pegi,
+        Tool::Peg,
         b"S <- . {x}",
         1,
         b"abc",
@@ -63,7 +63,7 @@ static FAULTS: [Row; 8] = [
         0,
     ),
     (
-        Program::Pegi,
+        Tool::Peg,
         b"S <- 'a' {x}",
         1,
         b"abc",
@@ -73,7 +73,7 @@ static FAULTS: [Row; 8] = [
         0,
     ),
     (
-        Program::Pegi,
+        Tool::Peg,
         USERNAME,
         L,
         b"a username\n",
@@ -84,7 +84,7 @@ static FAULTS: [Row; 8] = [
     ),
     // windows of nine bytes
     (
-        Program::Pegi,
+        Tool::Peg,
         USERNAME,
         8,
         b"a username\n",
@@ -94,7 +94,7 @@ static FAULTS: [Row; 8] = [
         0,
     ),
     (
-        Program::Pegi,
+        Tool::Peg,
         USERNAME,
         8,
         b"a username",
@@ -104,7 +104,7 @@ static FAULTS: [Row; 8] = [
         0,
     ),
     (
-        Program::Pegi,
+        Tool::Peg,
         USERNAME,
         8,
         b"a usernam",
@@ -114,7 +114,7 @@ static FAULTS: [Row; 8] = [
         0,
     ),
     (
-        Program::Pegi,
+        Tool::Peg,
         USERNAME,
         8,
         b"a userna",
@@ -125,7 +125,7 @@ static FAULTS: [Row; 8] = [
     ),
     // a torn line is not answered
     (
-        Program::Abnfi,
+        Tool::Abnf,
         WORD,
         L,
         b"ab\nc",
@@ -147,7 +147,13 @@ fn a_reader_may_fail_after_each_byte(rt: HostRuntime) {
     for given in 0..12 {
         let mut ends = Ends::new(&input[..given], 3);
         ends.torn = true;
-        let ran = run_over(rt.alloc(), Program::Pegi, USERNAME, &Settings::run(), &ends);
+        let ran = run_over(
+            rt.alloc(),
+            Tool::Peg,
+            USERNAME,
+            Wanted::new(Mode::Run, L),
+            &ends,
+        );
         assert!(rt; ran.is(b"", TORN, Status::Fault), "after {given}");
         assert!(rt; ran.left == 0, "after {given}");
     }
@@ -156,7 +162,7 @@ fn a_reader_may_fail_after_each_byte(rt: HostRuntime) {
 // Runs that stop early, and two that take all of their input.
 static LEFT: [Row; 9] = [
     (
-        Program::Pegi,
+        Tool::Peg,
         b"S <- 'a'",
         4,
         b"bcdefghij",
@@ -166,7 +172,7 @@ static LEFT: [Row; 9] = [
         4,
     ),
     (
-        Program::Pegi,
+        Tool::Peg,
         b"S <- <[ab]> {yytext} / 'c' 'd' 'e' 'f'",
         3,
         b"abaabbabcdefghij",
@@ -177,7 +183,7 @@ static LEFT: [Row; 9] = [
     ),
     // all is taken
     (
-        Program::Pegi,
+        Tool::Peg,
         USERNAME,
         L,
         b"a username\n",
@@ -187,7 +193,7 @@ static LEFT: [Row; 9] = [
         0,
     ),
     (
-        Program::Abnfi,
+        Tool::Abnf,
         WORD,
         3,
         b"abc\nabcd\n",
@@ -197,7 +203,7 @@ static LEFT: [Row; 9] = [
         1,
     ),
     (
-        Program::Abnfi,
+        Tool::Abnf,
         WORD,
         3,
         b"abcd\nef",
@@ -207,7 +213,7 @@ static LEFT: [Row; 9] = [
         3,
     ),
     (
-        Program::Abnfi,
+        Tool::Abnf,
         b"a = \"x\"\n/ \"y\"",
         L,
         b"x\n",
@@ -217,7 +223,7 @@ static LEFT: [Row; 9] = [
         2,
     ),
     (
-        Program::Abnfi,
+        Tool::Abnf,
         b"s = 4294967296\"a\"",
         L,
         b"x\n",
@@ -227,7 +233,7 @@ static LEFT: [Row; 9] = [
         2,
     ),
     (
-        Program::Abnfi,
+        Tool::Abnf,
         b"a = <any text> / b\nb = \"x\"",
         L,
         b"X\n",
@@ -237,7 +243,7 @@ static LEFT: [Row; 9] = [
         2,
     ),
     (
-        Program::Abnfi,
+        Tool::Abnf,
         WORD,
         L,
         b"ab\nA1\n\nZ",
@@ -276,9 +282,9 @@ static LIMITS: [(usize, &[u8], &[u8], Status, usize); 3] = [
 fn seventy_thousand_bytes(rt: HostRuntime) -> Result<(), Fail> {
     let text = vec![in rt.alloc(); b'a'; 70_000]?;
     for row in &LIMITS {
-        let settings = settings_of(Mode::Run, row.0, None);
+        let wanted = Wanted::new(Mode::Run, row.0);
         let ends = Ends::new(&text, 4096);
-        let ran = run_over(rt.alloc(), Program::Pegi, b"S <- .* {x}", &settings, &ends);
+        let ran = run_over(rt.alloc(), Tool::Peg, b"S <- .* {x}", wanted, &ends);
         assert!(rt;
             ran.is(row.1, row.2, row.3) && ran.left == row.4,
             "limit {}",

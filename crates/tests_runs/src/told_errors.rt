@@ -1,13 +1,13 @@
 //! Error outputs that fail within what explains a grammar's fault, a stop or a refused line.
 
-use crate::ends::{Ends, run_over, settings_of};
-use fanquber::{DEFAULT_LIMIT, Mode, Program, Status};
+use crate::ends::{Ends, Tool, Wanted, run_over};
+use fanquber::{DEFAULT_LIMIT, Mode, Status};
 use testio::{ALL, Takes};
 
-// A program, a grammar, an input, what is printed, what is told, how many bytes are left to the reader, and when both
+// A tool, a grammar, an input, what is printed, what is told, how many bytes are left to the reader, and when both
 // outputs are flushed: from 1, 0 for never.
 type Row = (
-    Program,
+    Tool,
     &'static [u8],
     &'static [u8],
     &'static [u8],
@@ -18,7 +18,7 @@ type Row = (
 
 static ROWS: [Row; 4] = [
     (
-        Program::Pegi,
+        Tool::Peg,
         b"S <-\t'\xC3\xA9' \xE2\x86\x90 x\n",
         b"x\n",
         b"",
@@ -32,7 +32,7 @@ static ROWS: [Row; 4] = [
         (1, 0),
     ),
     (
-        Program::Abnfi,
+        Tool::Abnf,
         b"my_rule = \"x\"\n",
         b"x\n",
         b"",
@@ -46,7 +46,7 @@ static ROWS: [Row; 4] = [
         (1, 0),
     ),
     (
-        Program::Pegi,
+        Tool::Peg,
         b"S <- \"a\" (\"=\" [0-9]+ \";\")*\n",
         b"a=12,",
         b"",
@@ -61,7 +61,7 @@ static ROWS: [Row; 4] = [
         (1, 0),
     ),
     (
-        Program::Abnfi,
+        Tool::Abnf,
         b"d = 2DIGIT \"-\" 2DIGIT\n",
         b"12x3\n12-34\n12-345\n12-",
         b"no\nyes\nno\nno\n",
@@ -83,8 +83,8 @@ line 4 ends too early: expected %x30-39
 #[test]
 fn an_error_output_that_fails_holds_a_prefix_of_what_is_told(rt: HostRuntime) {
     for row in &ROWS {
-        let mut settings = settings_of(Mode::Run, DEFAULT_LIMIT, None);
-        settings.explain = true;
+        let mut wanted = Wanted::new(Mode::Run, DEFAULT_LIMIT);
+        wanted.explain = true;
         for room in 0..row.4.len() {
             let ends = Ends {
                 input: row.2,
@@ -93,7 +93,7 @@ fn an_error_output_that_fails_holds_a_prefix_of_what_is_told(rt: HostRuntime) {
                 out: ALL,
                 err: Takes { room, ..ALL },
             };
-            let ran = run_over(rt.alloc(), row.0, row.1, &settings, &ends);
+            let ran = run_over(rt.alloc(), row.0, row.1, wanted, &ends);
             assert!(rt; ran.is(row.3, &row.4[..room], Status::Fault), "room {room}");
             assert!(rt;
                 ran.left == row.5 && ran.flushed == row.6,

@@ -1,9 +1,9 @@
 //! Writers that fail at a byte or in a flush, and notes that stand before a run.
 ghost use Rattle.std.specs.Prelude.{None};
 
-use crate::ends::{Ended, Ends, run_over, settings_of};
+use crate::ends::{Ended, Ends, PEG, Tool, Wanted, run_over};
 use crate::readers::{USERNAME, WORD};
-use fanquber::{DEFAULT_LIMIT, Mode, Program, SourceOf, Status, run_peg};
+use fanquber::{DEFAULT_LIMIT, Mode, SourceOf, Status, run_peg};
 use ruletable::SinkOf;
 use std::alloc::Global;
 use std::io;
@@ -22,7 +22,7 @@ type Written = (
 
 /// Runs a row with these outputs.
 fn run_row(alloc: Global, row: &Written, out: Takes, err: Takes) -> Ended {
-    let settings = settings_of(row.0, DEFAULT_LIMIT, None);
+    let wanted = Wanted::new(row.0, DEFAULT_LIMIT);
     let ends = Ends {
         input: row.2,
         step: 3,
@@ -30,7 +30,7 @@ fn run_row(alloc: Global, row: &Written, out: Takes, err: Takes) -> Ended {
         out,
         err,
     };
-    run_over(alloc, Program::Pegi, row.1, &settings, &ends)
+    run_over(alloc, Tool::Peg, row.1, wanted, &ends)
 }
 
 /// An output that fails once it holds so many bytes.
@@ -102,10 +102,10 @@ fn an_output_that_fails_holds_a_prefix(rt: HostRuntime) {
 
 #[test]
 fn an_output_that_fails_holds_a_prefix_of_the_answers(rt: HostRuntime) {
-    let settings = settings_of(Mode::Run, DEFAULT_LIMIT, None);
+    let wanted = Wanted::new(Mode::Run, DEFAULT_LIMIT);
     let mut ends = Ends::new(b"ab\nA1\n\nZ", 7);
     ends.out.room = 3;
-    let ran = run_over(rt.alloc(), Program::Abnfi, WORD, &settings, &ends);
+    let ran = run_over(rt.alloc(), Tool::Abnf, WORD, wanted, &ends);
     assert!(rt; ran.is(b"yes", b"write error\n", Status::Fault));
 }
 
@@ -174,7 +174,7 @@ impl Write for Counter {
 
 #[test]
 fn notes_are_handed_on_by_one_write(rt: HostRuntime) {
-    let settings = settings_of(Mode::Check, DEFAULT_LIMIT, None);
+    let settings = Wanted::new(Mode::Check, DEFAULT_LIMIT).settings(PEG);
     let mut reader = SourceOf::new(Tape::new(b"", 1, false));
     let mut out = SinkOf::new(Counter { calls: 0 });
     let mut err = SinkOf::new(Counter { calls: 0 });

@@ -14,7 +14,7 @@ use Rattle.toolrun.specs.NotesText.{notes_text}
 use Rattle.toolrun.specs.Plan.{behind_notes, in_reply, IsPlanned, stopped, told_behind}
 use Rattle.toolrun.specs.Reply.{Reply, refusal, text_alone, unexplained_fault, without_memory}
 use Rattle.toolrun.specs.Stop.{unread}
-use Rattle.toolrun.specs.Tasks.{checked_task, task_does}
+use Rattle.toolrun.specs.Tasks.{IsTask, task_does}
 use Rattle.toolrun.specs.ToldNotes.{AreHintedBefore, AreToldBefore, HintedNotes, told_whole, told_part}
 use Rattle.toolrun.specs.declared.plan.Task.{Task}
 use Rattle.toolrun.specs.declared.plan.Task.TheVariants.{Prints}
@@ -41,11 +41,12 @@ whole-unexplained why =
     ap (λ (t : List ℕ). record { out = []; err = t ++ codes "out of memory\n"; status = 5; taken = 0 })
     (sym (append-nil (fault_text why)))
 
-explained_not : (settings : Settings) (Why : List ℕ → Type 0) → settings.explain ≡ false → Explained settings Why []
+explained_not : {O : Type 0} (settings : Settings O) (Why : List ℕ → Type 0) → settings.explain ≡ false
+    → Explained settings Why []
 explained_not settings Why is = rw is refl
 
-explained_so : (settings : Settings) (Why : List ℕ → Type 0) (lines : List ℕ) → settings.explain ≡ true → Why lines
-    → Explained settings Why lines
+explained_so : {O : Type 0} (settings : Settings O) (Why : List ℕ → Type 0) (lines : List ℕ) → settings.explain ≡ true
+    → Why lines → Explained settings Why lines
 explained_so settings Why lines is h = rw is h
 
 module _ (States : Input → List ℕ → Reply → Type 0) (IsFault : ReadFault → Type 0)
@@ -66,15 +67,16 @@ module _ (States : Input → List ℕ → Reply → Type 0) (IsFault : ReadFault
   unread-plan fault.Memory faulty = λ input. behind_notes (no_memory input faulty)
   unread-plan (fault.NumberTooLarge line) faulty = refused-plan (fault.NumberTooLarge line) faulty (λ e. absurd (cc))
 
-module _ {Grammar Sound : Type 0} {States : List ℕ → Settings → Input → List ℕ → Reply → Type 0}
+module _ {Grammar Judged Sound Options : Type 0} {States : List ℕ → Settings Options → Input → List ℕ → Reply → Type 0}
     {HasFault : List ℕ → ReadFault → Type 0} {Explains : List ℕ → ReadFault → List ℕ → Type 0}
     {ExplainsNote : List ℕ → Option (List ℕ) → Said → List ℕ → Type 0}
-    {AreHints : List ℕ → Settings → List ℕ → Type 0} {IsRead : List ℕ → Grammar → Type 0}
-    {IsChecked : List ℕ → Option (List ℕ) → List Said → Option Sound → Type 0}
+    {AreHints : List ℕ → Settings Options → List ℕ → Type 0} {IsRead : List ℕ → Grammar → Type 0}
+    {IsChecked : List ℕ → Option (List ℕ) → List Said → Option Judged → Type 0}
+    {IsReady : List ℕ → Option (List ℕ) → List Said → Sound → Type 0}
     {IsPrintable : List ℕ → Grammar → List Said → Type 0} {canonical : Grammar → List ℕ}
-    {Runs : Sound → Settings → Input → Reply → Type 0}
-    (law : AreStated States HasFault Explains ExplainsNote AreHints IsRead IsChecked IsPrintable canonical Runs)
-    (text : List ℕ) (settings : Settings)
+    {Runs : Sound → Settings Options → Input → Reply → Type 0}
+    (law : AreStated States HasFault Explains ExplainsNote AreHints IsRead IsChecked IsReady IsPrintable canonical Runs)
+    (text : List ℕ) (settings : Settings Options)
   where
     abbrev Planned : List ℕ → Result (Task Grammar Sound) Stop → Type 0
     Planned first task = IsPlanned (States text settings) first (λ t. task_does canonical Runs t settings) task
@@ -108,29 +110,38 @@ module _ {Grammar Sound : Type 0} {States : List ℕ → Settings → Input → 
         in_reply refl (subst (States text settings input []) (whole-unexplained why)
         (law.unexplained text settings input why faulty other asked))
 
-    -- a grammar that was checked, and all whose notes are told
-    plan_whole : (notes : List Said) (told : List ℕ) (mode : Mode) (sound : Option Sound) → settings.mode ≡ mode
-        → mode ≢ Print → IsChecked text (option_copied settings.start) notes sound
-        → HintedNotes settings (ExplainsNote text) (AreHints text settings) notes told
-        → Planned told (checked_task mode sound)
-    plan_whole notes told mode None is other c t = λ input.
-        behind_notes (law.noted text settings input notes told c t (rw is other))
-    plan_whole notes told Run (Some sound) is other c t = record {
-      stated = λ input reply r. law.run text settings input notes told sound reply c t is r;
-      some = λ input. law.replies text settings input notes sound c;
-    }
-    plan_whole notes told Check (Some sound) is other c t = λ input.
-        behind_notes (law.checked text settings input notes told sound c t is)
-    plan_whole notes told Print (Some sound) is other c t = absurd (other refl)
+    -- what is ready of a grammar that was checked
+    abbrev Makes : Judged → Sound → Type 0
+    Makes judged sound = (t : List ℕ) (start : Option (List ℕ)) (notes : List Said)
+        → IsChecked t start notes (Some judged) → IsReady t start notes sound
 
-    pub plan_checked : (notes : List Said) (told : List ℕ) (mode : Mode) (sound : Option Sound)
-        (task : Result (Task Grammar Sound) Stop) → settings.mode ≡ mode → mode ≢ Print
-        → IsChecked text (option_copied settings.start) notes sound
-        → AreHintedBefore settings (ExplainsNote text) (AreHints text settings) notes told (checked_task mode sound)
-        task → Planned told task
-    plan_checked notes told mode sound task is other c (told_whole t) = plan_whole notes told mode sound is other c t
-    plan_checked notes told mode sound task is other c (told_part t) = λ input.
-        behind_notes (law.cut_notes text settings input notes told sound c t (rw is other))
+    -- a grammar that was checked, and all whose notes are told
+    plan_whole : (notes : List Said) (told : List ℕ) (mode : Mode) (judged : Option Judged)
+        (task : Result (Task Grammar Sound) Stop) → settings.mode ≡ mode
+        → mode ≢ Print → IsChecked text (option_copied settings.start) notes judged
+        → HintedNotes settings (ExplainsNote text) (AreHints text settings) notes told
+        → IsTask Makes mode judged task → Planned told task
+    plan_whole notes told mode None task is other c t e = rw e (λ input.
+        behind_notes (law.noted text settings input notes told c t (rw is other)))
+    plan_whole notes told Run (Some judged) task is other c t made =
+        let ready = made.1 text (option_copied settings.start) notes c in
+        rw made.2 (record {
+          stated = λ input reply r. law.run text settings input notes told made.0 reply ready t is r;
+          some = λ input. law.replies text settings input notes made.0 ready;
+        })
+    plan_whole notes told Check (Some judged) task is other c t e = rw e (λ input.
+        behind_notes (law.checked text settings input notes told judged c t is))
+    plan_whole notes told Print (Some judged) task is other c t e = absurd (other refl)
+
+    pub plan_checked : (notes : List Said) (told : List ℕ) (mode : Mode) (judged : Option Judged)
+        (first task : Result (Task Grammar Sound) Stop) → settings.mode ≡ mode → mode ≢ Print
+        → IsChecked text (option_copied settings.start) notes judged → IsTask Makes mode judged first
+        → AreHintedBefore settings (ExplainsNote text) (AreHints text settings) notes told first task
+        → Planned told task
+    plan_checked notes told mode judged first task is other c made (told_whole t) =
+        plan_whole notes told mode judged task is other c t made
+    plan_checked notes told mode judged first task is other c made (told_part t) = λ input.
+        behind_notes (law.cut_notes text settings input notes told judged c t (rw is other))
 
     -- a grammar that was read to be printed, with notes and without
     pub plan_again : (grammar : Grammar) (notes : List Said) (told : List ℕ) (task : Result (Task Grammar Sound) Stop)

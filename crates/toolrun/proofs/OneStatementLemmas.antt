@@ -12,7 +12,8 @@ use Rattle.toolrun.specs.declared.settings.Mode.{Mode}
 use Rattle.toolrun.specs.declared.settings.Mode.TheVariants.{Run, Check, Print}
 
 -- what explains is one text
-pub one-explained : (settings : Settings) (Why : List ℕ → Type 0) → ((a b : List ℕ) → Why a → Why b → a ≡ b)
+pub one-explained : {O : Type 0} (settings : Settings O) (Why : List ℕ → Type 0) →
+    ((a b : List ℕ) → Why a → Why b → a ≡ b)
     → (a b : List ℕ) → Explained settings Why a → Explained settings Why b → a ≡ b
 one-explained settings Why one a b g h = if-explained settings.explain Why one a b g h
 

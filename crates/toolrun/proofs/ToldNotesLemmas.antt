@@ -78,7 +78,7 @@ module _ {N : Type 0} (said_of : N → Said) {Why : Said → List ℕ → Type 0
       (sym (map-append said_of (take i notes) (note ∷ [])) ∙ ap (map said_of) (sym whole))
       (told-next (said_of note) why told w)
 
-module _ (settings : Settings) (Why : Option (List ℕ) → Said → List ℕ → Type 0) where
+module _ {O : Type 0} (settings : Settings O) (Why : Option (List ℕ) → Said → List ℕ → Type 0) where
   explained-if : (asked : Bool) (W : List ℕ → Type 0) (why : List ℕ) → asked ≡ true → W why
       → ExplainedIf asked W why
   explained-if true W why e w = w

@@ -9,10 +9,10 @@ ExplainedIf true Why why = Why why
 ExplainedIf false Why why = why ≡ []
 
 -- the lines that explain, where they are asked for, and else none
-abbrev pub Explained : Settings → (List ℕ → Type 0) → List ℕ → Type 0
+abbrev pub Explained : {O : Type 0} → Settings O → (List ℕ → Type 0) → List ℕ → Type 0
 Explained settings Why why = ExplainedIf settings.explain Why why
 
 -- The reply to a text that is too long: its message, which is explained if that is asked, where there is memory.
-abbrev pub IsLongReply : Settings → (List ℕ → Type 0) → Reply → Type 0
+abbrev pub IsLongReply : {O : Type 0} → Settings O → (List ℕ → Type 0) → Reply → Type 0
 IsLongReply settings Why reply = ((why : List ℕ) × Explained settings Why why × (reply ≡ refusal TooLong why))
     ⊎ ((settings.explain ≡ true) × (reply ≡ unexplained_fault TooLong))

@@ -12,56 +12,62 @@ use Rattle.toolrun.specs.declared.settings.Settings.{Settings}
 
 -- States is what the tool states. Of a text: HasFault says what is wrong with it, Explains what explains that,
 -- ExplainsNote what explains a note on its grammar, AreHints what else there is to say of that, IsRead what it is read
--- as, IsChecked what is noted of its grammar and what is ready to run, IsPrintable what is noted where it is only to be
--- printed. Of a grammar: canonical is its text, Runs what a run of it states.
-pub record AreStated {Grammar Sound : Type 0} (States : List ℕ → Settings → Input → List ℕ → Reply → Type 0)
+-- as, IsChecked what is noted of its grammar, IsReady what is ready to run, IsPrintable what is noted where it is only
+-- to be printed. Of a grammar: canonical is its text, Runs what a run of it states.
+pub record AreStated {Grammar Judged Sound Options : Type 0}
+    (States : List ℕ → Settings Options → Input → List ℕ → Reply → Type 0)
     (HasFault : List ℕ → ReadFault → Type 0) (Explains : List ℕ → ReadFault → List ℕ → Type 0)
     (ExplainsNote : List ℕ → Option (List ℕ) → Said → List ℕ → Type 0)
-    (AreHints : List ℕ → Settings → List ℕ → Type 0) (IsRead : List ℕ → Grammar → Type 0)
-    (IsChecked : List ℕ → Option (List ℕ) → List Said → Option Sound → Type 0)
+    (AreHints : List ℕ → Settings Options → List ℕ → Type 0) (IsRead : List ℕ → Grammar → Type 0)
+    (IsChecked : List ℕ → Option (List ℕ) → List Said → Option Judged → Type 0)
+    (IsReady : List ℕ → Option (List ℕ) → List Said → Sound → Type 0)
     (IsPrintable : List ℕ → Grammar → List Said → Type 0) (canonical : Grammar → List ℕ)
-    (Runs : Sound → Settings → Input → Reply → Type 0) : Type 0 where
+    (Runs : Sound → Settings Options → Input → Reply → Type 0) : Type 0 where
   -- a text that has a fault, which is told, and explained if that is asked
-  pub refused : (text : List ℕ) (settings : Settings) (input : Input) (fault : ReadFault) (why : List ℕ)
+  pub refused : (text : List ℕ) (settings : Settings Options) (input : Input) (fault : ReadFault) (why : List ℕ)
       → HasFault text fault → fault ≢ Memory → Explained settings (Explains text fault) why
       → States text settings input [] (refusal fault why)
-  pub unexplained : (text : List ℕ) (settings : Settings) (input : Input) (fault : ReadFault) → HasFault text fault
+  pub unexplained : (text : List ℕ) (settings : Settings Options) (input : Input) (fault : ReadFault)
+      → HasFault text fault
       → fault ≢ Memory → settings.explain ≡ true → States text settings input [] (unexplained_fault fault)
   -- any allocation may fail in reading a text or behind that
   pub within : (text : List ℕ) (grammar : Grammar) → IsRead text grammar → HasFault text Memory
-  pub no_memory : (text : List ℕ) (settings : Settings) (input : Input) → HasFault text Memory
+  pub within_checked : (text : List ℕ) (start : Option (List ℕ)) (notes : List Said) (judged : Option Judged)
+      → IsChecked text start notes judged → HasFault text Memory
+  pub no_memory : (text : List ℕ) (settings : Settings Options) (input : Input) → HasFault text Memory
       → States text settings input [] (without_memory [] 0)
   -- a grammar that is refused
-  pub noted : (text : List ℕ) (settings : Settings) (input : Input) (notes : List Said) (told : List ℕ)
+  pub noted : (text : List ℕ) (settings : Settings Options) (input : Input) (notes : List Said) (told : List ℕ)
       → IsChecked text (option_copied settings.start) notes None
       → HintedNotes settings (ExplainsNote text) (AreHints text settings) notes told
       → settings.mode ≢ Print → States text settings input told (notes_alone 2)
   -- a grammar that is not refused, and only to be checked
-  pub checked : (text : List ℕ) (settings : Settings) (input : Input) (notes : List Said) (told : List ℕ)
-      (sound : Sound) → IsChecked text (option_copied settings.start) notes (Some sound)
+  pub checked : (text : List ℕ) (settings : Settings Options) (input : Input) (notes : List Said) (told : List ℕ)
+      (judged : Judged) → IsChecked text (option_copied settings.start) notes (Some judged)
       → HintedNotes settings (ExplainsNote text) (AreHints text settings) notes told → settings.mode ≡ Check
       → States text settings input told (notes_alone 0)
   -- a grammar that is run, and states something for each input
-  pub run : (text : List ℕ) (settings : Settings) (input : Input) (notes : List Said) (told : List ℕ) (sound : Sound)
-      (reply : Reply) → IsChecked text (option_copied settings.start) notes (Some sound)
+  pub run : (text : List ℕ) (settings : Settings Options) (input : Input) (notes : List Said) (told : List ℕ)
+      (sound : Sound) (reply : Reply) → IsReady text (option_copied settings.start) notes sound
       → HintedNotes settings (ExplainsNote text) (AreHints text settings) notes told → settings.mode ≡ Run
       → Runs sound settings input reply
       → States text settings input told reply
-  pub replies : (text : List ℕ) (settings : Settings) (input : Input) (notes : List Said) (sound : Sound)
-      → IsChecked text (option_copied settings.start) notes (Some sound)
+  pub replies : (text : List ℕ) (settings : Settings Options) (input : Input) (notes : List Said) (sound : Sound)
+      → IsReady text (option_copied settings.start) notes sound
       → (reply : Reply) × Runs sound settings input reply
   -- a grammar on whose notes an allocation fails in explaining them
-  pub cut_notes : (text : List ℕ) (settings : Settings) (input : Input) (notes : List Said) (told : List ℕ)
-      (sound : Option Sound) → IsChecked text (option_copied settings.start) notes sound
+  pub cut_notes : (text : List ℕ) (settings : Settings Options) (input : Input) (notes : List Said) (told : List ℕ)
+      (judged : Option Judged) → IsChecked text (option_copied settings.start) notes judged
       → CutNotes settings (ExplainsNote text) notes told → settings.mode ≢ Print
       → States text settings input told (without_memory [] 0)
   -- a grammar that is only to be printed, but defines a rule again
-  pub again : (text : List ℕ) (settings : Settings) (input : Input) (grammar : Grammar) (notes : List Said)
+  pub again : (text : List ℕ) (settings : Settings Options) (input : Input) (grammar : Grammar) (notes : List Said)
       (told : List ℕ) → IsPrintable text grammar notes → notes ≢ [] → ToldNotes settings (ExplainsNote text) notes told
       → settings.mode ≡ Print → States text settings input told (notes_alone 2)
-  pub cut_again : (text : List ℕ) (settings : Settings) (input : Input) (grammar : Grammar) (notes : List Said)
+  pub cut_again : (text : List ℕ) (settings : Settings Options) (input : Input) (grammar : Grammar) (notes : List Said)
       (told : List ℕ) → IsPrintable text grammar notes → notes ≢ [] → CutNotes settings (ExplainsNote text) notes told
       → settings.mode ≡ Print → States text settings input told (without_memory [] 0)
   -- a grammar that is only to be printed, and defines no rule again
-  pub printed : (text : List ℕ) (settings : Settings) (input : Input) (grammar : Grammar) → IsPrintable text grammar []
+  pub printed : (text : List ℕ) (settings : Settings Options) (input : Input) (grammar : Grammar)
+      → IsPrintable text grammar []
       → settings.mode ≡ Print → States text settings input [] (text_alone (canonical grammar))

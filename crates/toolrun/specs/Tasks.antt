@@ -12,14 +12,14 @@ use Rattle.toolrun.specs.declared.stop.Stop.{Stop}
 use Rattle.toolrun.specs.declared.stop.Stop.TheVariants.{Quiet}
 
 -- what a task states for settings and an input
-abbrev pub task_does : {G S : Type 0} → (G → List ℕ) → (S → Settings → Input → Reply → Type 0) → Task G S → Settings
-    → Input → Reply → Type 0
+abbrev pub task_does : {G S O : Type 0} → (G → List ℕ) → (S → Settings O → Input → Reply → Type 0) → Task G S
+    → Settings O → Input → Reply → Type 0
 task_does canonical RunStates (Prints grammar) settings input reply = reply ≡ text_alone (canonical grammar)
 task_does canonical RunStates (Runs sound) settings input reply = RunStates sound settings input reply
 
--- a grammar that is not refused is run, or that was all
-abbrev pub checked_task : {G S : Type 0} → Mode → Option S → Result (Task G S) Stop
-checked_task mode None = Err (Quiet status.Refused)
-checked_task Run (Some sound) = Ok (Runs sound)
-checked_task Check (Some sound) = Err (Quiet status.Done)
-checked_task Print (Some sound) = Err (Quiet status.Done)
+-- A grammar that is not rejected is run, or that was all. IsReady says what is ready to run.
+abbrev pub IsTask : {G J S : Type 0} → (J → S → Type 0) → Mode → Option J → Result (Task G S) Stop → Type 0
+IsTask IsReady mode None task = task ≡ Err (Quiet status.Refused)
+IsTask {S = S} IsReady Run (Some judged) task = (sound : S) × IsReady judged sound × (task ≡ Ok (Runs sound))
+IsTask IsReady Check (Some judged) task = task ≡ Err (Quiet status.Done)
+IsTask IsReady Print (Some judged) task = task ≡ Err (Quiet status.Done)

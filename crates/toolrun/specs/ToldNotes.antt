@@ -22,15 +22,16 @@ pub data AreNotesBegun (Why : Said → List ℕ → Type 0) : List Said → List
       → AreNotesBegun Why (notes ++ note ∷ others) (text ++ note_text note)
 
 -- what explains a note on the grammar of a text, if that is asked: Why says it where a name is given for the start rule
-abbrev pub WhyNoted : Settings → (Option (List ℕ) → Said → List ℕ → Type 0) → Said → List ℕ → Type 0
+abbrev pub WhyNoted : {O : Type 0} → Settings O → (Option (List ℕ) → Said → List ℕ → Type 0) → Said → List ℕ → Type 0
 WhyNoted settings Why note why = Explained settings (Why (option_copied settings.start) note) why
 
 -- the notes, each explained if that is asked
-abbrev pub ToldNotes : Settings → (Option (List ℕ) → Said → List ℕ → Type 0) → List Said → List ℕ → Type 0
+abbrev pub ToldNotes : {O : Type 0} → Settings O → (Option (List ℕ) → Said → List ℕ → Type 0) → List Said → List ℕ
+    → Type 0
 ToldNotes settings Why = AreNotesTold (WhyNoted settings Why)
 
 -- all notes, and behind them hints, if explanations are asked for
-pub record HintedNotes (settings : Settings) (Why : Option (List ℕ) → Said → List ℕ → Type 0)
+pub record HintedNotes {O : Type 0} (settings : Settings O) (Why : Option (List ℕ) → Said → List ℕ → Type 0)
     (AreHints : List ℕ → Type 0) (notes : List Said) (text : List ℕ) : Type 0 where
   pub first : List ℕ
   pub are_told : ToldNotes settings Why notes first
@@ -39,8 +40,8 @@ pub record HintedNotes (settings : Settings) (Why : Option (List ℕ) → Said �
   pub all : text ≡ first ++ hints
 
 -- the first of them, where an allocation fails in explaining them
-pub record CutNotes (settings : Settings) (Why : Option (List ℕ) → Said → List ℕ → Type 0) (notes : List Said)
-    (text : List ℕ) : Type 0 where
+pub record CutNotes {O : Type 0} (settings : Settings O) (Why : Option (List ℕ) → Said → List ℕ → Type 0)
+    (notes : List Said) (text : List ℕ) : Type 0 where
   pub asked : settings.explain ≡ true
   pub begun : AreNotesBegun (WhyNoted settings Why) notes text
 
@@ -62,12 +63,12 @@ pub data AreBefore {T : Type 0} (IsTold IsCut : List ℕ → Type 0) (text : Lis
   told_part : IsCut text → AreBefore IsTold IsCut text task (Err NoMemory)
 
 -- the notes are told before a task
-abbrev pub AreToldBefore : {T : Type 0} → Settings → (Option (List ℕ) → Said → List ℕ → Type 0) → List Said → List ℕ
+abbrev pub AreToldBefore : {T O : Type 0} → Settings O → (Option (List ℕ) → Said → List ℕ → Type 0) → List Said → List ℕ
     → Result T Stop → Result T Stop → Type 0
 AreToldBefore settings Why notes = AreBefore (ToldNotes settings Why notes) (CutNotes settings Why notes)
 
 -- the notes and hints are told before a task
-abbrev pub AreHintedBefore : {T : Type 0} → Settings → (Option (List ℕ) → Said → List ℕ → Type 0)
+abbrev pub AreHintedBefore : {T O : Type 0} → Settings O → (Option (List ℕ) → Said → List ℕ → Type 0)
     → (List ℕ → Type 0) → List Said → List ℕ → Result T Stop → Result T Stop → Type 0
 AreHintedBefore settings Why AreHints notes = AreBefore (HintedNotes settings Why AreHints notes)
     (CutNotes settings Why notes)

@@ -1,5 +1,5 @@
 //! A grammar language, and what its tool does.
-ghost use Rattle.std.specs.Prelude.{◌≡◌, ℕ, List, Option, IfOk, IfErr, false, map, option_copied};
+ghost use Rattle.std.specs.Prelude.{◌≡◌, ℕ, List, Option, Some, IfOk, IfErr, false, map, option_copied};
 ghost use Rattle.ruletable.specs.Notes.{Said, said_of};
 ghost use Rattle.ruletable.specs.Writing.{Flags, Writes};
 ghost use Rattle.ruletable.specs.declared.fault.ReadFault.{ReadFault as Fault};
@@ -18,26 +18,32 @@ use std::alloc::Global;
 
 /// What the checks of a grammar gave.
 #[derive(Drop)]
-pub struct Checked<S> {
+pub struct Checked<J> {
     /// What there is to say of it, in order.
     pub notes: Vec<Note>,
-    /// The grammar, ready to run, unless a note rejects it.
-    pub sound: Option<S>,
+    /// The grammar, unless a note rejects it.
+    pub judged: Option<J>,
 }
 
 /// A language of grammars: how a text is read, checked and printed, and what a grammar is run for.
 pub trait Language {
+    /// What settings ask for in this language alone.
+    type Options: Drop;
+
     /// What a text is read as.
     type Grammar: Drop;
 
     /// A grammar that was checked and that no note rejects.
+    type Judged: Drop;
+
+    /// Such a grammar, ready to run.
     type Sound: Drop;
 
     /// Where a text says what explains notes on its grammar.
     type Places: Drop;
 
     /// What is stated for a grammar's text, settings and an input: the notes, and what follows them.
-    ghost states: { List ℕ → AllSettings → Input → List ℕ → Reply → Type 0 };
+    ghost states: { List ℕ → AllSettings Self.Options → Input → List ℕ → Reply → Type 0 };
 
     /// What is wrong with a text.
     ghost has_fault: { List ℕ → Fault → Type 0 };
@@ -52,13 +58,16 @@ pub trait Language {
     ghost explains_note: { List ℕ → Option (List ℕ) → Said → List ℕ → Type 0 };
 
     /// What else there is to say of the grammar of a text, as settings ask: its hints.
-    ghost are_hints: { List ℕ → AllSettings → List ℕ → Type 0 };
+    ghost are_hints: { List ℕ → AllSettings Self.Options → List ℕ → Type 0 };
 
     /// What a text is read as.
     ghost is_read: { List ℕ → Self.Grammar → Type 0 };
 
+    /// What is noted of a text's grammar for the name of a start rule, and the grammar unless a note rejects it.
+    ghost is_checked: { List ℕ → Option (List ℕ) → List Said → Option Self.Judged → Type 0 };
+
     /// What is noted of a text's grammar for the name of a start rule, and what is ready to run.
-    ghost is_checked: { List ℕ → Option (List ℕ) → List Said → Option Self.Sound → Type 0 };
+    ghost is_ready: { List ℕ → Option (List ℕ) → List Said → Self.Sound → Type 0 };
 
     /// What is noted of a text's grammar that is only to be printed.
     ghost is_printable: { List ℕ → Self.Grammar → List Said → Type 0 };
@@ -67,7 +76,7 @@ pub trait Language {
     ghost canonical: { Self.Grammar → List ℕ };
 
     /// What a run of a grammar states for settings and an input.
-    ghost runs: { Self.Sound → AllSettings → Input → Reply → Type 0 };
+    ghost runs: { Self.Sound → AllSettings Self.Options → Input → Reply → Type 0 };
 
     /// Reads a grammar's text.
     fn read(alloc: Global, text: &[u8]) -> Result<Self::Grammar, ReadFault>
@@ -97,7 +106,7 @@ pub trait Language {
     fn hints(
         alloc: Global,
         places: &Self::Places,
-        settings: &Settings<'_>,
+        settings: &Settings<'_, Self::Options>,
     ) -> Result<Vec<u8>, Memory>
         ensures { IfOk result (λ told. (text : List ℕ)
             → are_places text (option_copied settings.now.start) places.now
@@ -108,9 +117,14 @@ pub trait Language {
         alloc: Global,
         grammar: Self::Grammar,
         start: Option<&str>,
-    ) -> Result<Checked<Self::Sound>, Memory>
+    ) -> Result<Checked<Self::Judged>, Memory>
         ensures { IfOk result (λ c. (text : List ℕ) → is_read text grammar →
-            is_checked text (option_copied start.entry) (map said_of c.notes.items) c.sound) };
+            is_checked text (option_copied start.entry) (map said_of c.notes.items) c.judged) };
+
+    /// Makes a grammar ready to run. `Memory` if an allocation fails; the grammar is dropped then.
+    fn ready(alloc: Global, judged: Self::Judged) -> Result<Self::Sound, Memory>
+        ensures { IfOk result (λ sound. (text : List ℕ) (start : Option (List ℕ)) (notes : List Said)
+            → is_checked text start notes (Some judged) → is_ready text start notes sound) };
 
     /// Returns the notes on the rules that a grammar defines again, alone. `Memory` if an allocation fails.
     fn redefinitions(alloc: Global, grammar: &Self::Grammar) -> Result<Vec<Note>, Memory>
@@ -127,7 +141,7 @@ pub trait Language {
     fn run<R: Source, O: Sink>(
         alloc: Global,
         grammar: &Self::Sound,
-        settings: &Settings<'_>,
+        settings: &Settings<'_, Self::Options>,
         reader: &mut R,
         out: &mut O,
     ) -> Result<Ending, WriteFault>
@@ -139,6 +153,6 @@ pub trait Language {
 
     /// Says that what is stated follows from what is read, checked, printed and run. It does nothing.
     fn follows()
-        ensures { AreStated states has_fault explains explains_note are_hints is_read is_checked is_printable canonical
-            runs };
+        ensures { AreStated states has_fault explains explains_note are_hints is_read is_checked is_ready is_printable
+            canonical runs };
 }

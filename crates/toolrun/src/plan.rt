@@ -1,13 +1,14 @@
 //! What is to be done for a grammar's text.
-ghost use Rattle.std.specs.Prelude.{◌≡◌, ◌≢◌, Option, [], Err, IfOk, IfErr, map, option_copied, true};
-ghost use Rattle.ruletable.specs.Notes.{said_of};
+ghost use Rattle.std.specs.Prelude.{◌≡◌, ◌≢◌, ℕ, List, Option, Some, [], Err, IfOk, IfErr, map, true};
+ghost use Rattle.ruletable.specs.Notes.{Said, said_of};
 ghost use Rattle.toolrun.specs.Plan.{IsPlanned, first_text};
 ghost use Rattle.toolrun.specs.Stop.{unread};
-ghost use Rattle.toolrun.specs.Tasks.{checked_task, task_does};
+ghost use Rattle.toolrun.specs.Tasks.{IsTask, task_does};
 ghost use Rattle.toolrun.specs.ToldNotes.{AreHintedBefore, AreToldBefore};
 ghost use Rattle.toolrun.specs.declared.settings.Mode.TheVariants.{Print};
 
 use crate::language::{Checked, Language};
+use crate::opening::open;
 use crate::settings::{Mode, Settings};
 use crate::status::Status;
 use crate::stop::{Stop, stop_unread};
@@ -50,24 +51,6 @@ struct Printable<G> {
     again: Vec<Note>,
 }
 
-/// Reads a grammar's text, and checks it.
-fn checked<L: Language>(
-    alloc: Global,
-    text: &[u8],
-    start: Option<&str>,
-) -> Result<Checked<L::Sound>, ReadFault>
-    ensures checked { IfOk result (λ c. L.is_checked text.now (option_copied start.entry) (map said_of c.notes.items)
-        c.sound) }
-    ensures fault { IfErr result (λ f. L.has_fault text.now f) }
-{
-    L::follows();
-    let grammar = L::read(alloc, text)?;
-    match L::check(alloc, grammar, start) {
-        Ok(checked) => Ok(checked),
-        Err(Memory) => Err(ReadFault::Memory),
-    }
-}
-
 /// Reads a grammar's text to print it.
 fn read_again<L: Language>(alloc: Global, text: &[u8]) -> Result<Printable<L::Grammar>, ReadFault>
     ensures read { IfOk result (λ p. L.is_printable text.now p.grammar (map said_of p.again.items)) }
@@ -81,16 +64,25 @@ fn read_again<L: Language>(alloc: Global, text: &[u8]) -> Result<Printable<L::Gr
     }
 }
 
-/// Returns what is left to do with a checked grammar: it is run, unless it was to be checked alone.
-fn task_of<G, S: Drop>(mode: Mode, sound: Option<S>) -> Result<Task<G, S>, Stop>
-    ensures { result ≡ checked_task mode sound }
+/// Returns what is left to do with a checked grammar: it is made ready and run, unless it was to be checked alone.
+/// `Memory` if an allocation fails.
+fn task_of<L: Language>(
+    alloc: Global,
+    mode: Mode,
+    judged: Option<L::Judged>,
+) -> Result<Result<Task<L::Grammar, L::Sound>, Stop>, Memory>
+    ensures { IfOk result (IsTask (λ j sound. (text : List ℕ) (start : Option (List ℕ)) (notes : List Said)
+        → L.is_checked text start notes (Some j) → L.is_ready text start notes sound) mode judged) }
 {
-    match sound {
-        None => Err(Stop::Quiet(Status::Refused)),
-        Some(sound) => match mode {
-            Mode::Run => Ok(Task::Runs(sound)),
-            Mode::Check | Mode::Print => Err(Stop::Quiet(Status::Done)),
-        },
+    let Some(judged) = judged else {
+        return Ok(Err(Stop::Quiet(Status::Refused)));
+    };
+    match mode {
+        Mode::Run => {
+            let sound = L::ready(alloc, judged)?;
+            Ok(Ok(Task::Runs(sound)))
+        }
+        Mode::Check | Mode::Print => Ok(Err(Stop::Quiet(Status::Done))),
     }
 }
 
@@ -109,7 +101,7 @@ fn plan_stop<G, S>(alloc: Global, fault: ReadFault) -> Plan<G, S>
 fn plan_explained<L: Language>(
     alloc: Global,
     text: &[u8],
-    settings: &Settings<'_>,
+    settings: &Settings<'_, L::Options>,
     fault: ReadFault,
 ) -> Plan<L::Grammar, L::Sound>
     requires fault { L.has_fault text.now fault }
@@ -138,7 +130,7 @@ fn plan_explained<L: Language>(
 fn plan_fault<L: Language>(
     alloc: Global,
     text: &[u8],
-    settings: &Settings<'_>,
+    settings: &Settings<'_, L::Options>,
     fault: ReadFault,
 ) -> Plan<L::Grammar, L::Sound>
     requires { L.has_fault text.now fault }
@@ -160,7 +152,7 @@ fn plan_fault<L: Language>(
 fn plan_noted<L: Language>(
     alloc: Global,
     text: &[u8],
-    settings: &Settings<'_>,
+    settings: &Settings<'_, L::Options>,
     notes: Vec<Note>,
     task: Result<Task<L::Grammar, L::Sound>, Stop>,
 ) -> Plan<L::Grammar, L::Sound>
@@ -190,7 +182,7 @@ fn plan_noted<L: Language>(
 fn plan_hinted<L: Language>(
     alloc: Global,
     text: &[u8],
-    settings: &Settings<'_>,
+    settings: &Settings<'_, L::Options>,
     notes: Vec<Note>,
     task: Result<Task<L::Grammar, L::Sound>, Stop>,
 ) -> Plan<L::Grammar, L::Sound>
@@ -219,18 +211,18 @@ fn plan_hinted<L: Language>(
 fn plan_checked<L: Language>(
     alloc: Global,
     text: &[u8],
-    settings: &Settings<'_>,
+    settings: &Settings<'_, L::Options>,
 ) -> Plan<L::Grammar, L::Sound>
     requires { settings.now.mode ≢ Print }
     ensures { IsPlanned (L.states text.now settings.now) (first_text result.first)
         (λ t. task_does L.canonical L.runs t settings.now) result.task }
 {
     L::follows();
-    match checked::<L>(alloc, text, settings.start) {
-        Ok(Checked { notes, sound }) => {
-            let task = task_of(settings.mode, sound);
-            plan_hinted::<L>(alloc, text, settings, notes, task)
-        }
+    match open::<L>(alloc, text, settings.start) {
+        Ok(Checked { notes, judged }) => match task_of::<L>(alloc, settings.mode, judged) {
+            Ok(task) => plan_hinted::<L>(alloc, text, settings, notes, task),
+            Err(Memory) => plan_stop(alloc, ReadFault::Memory),
+        },
         Err(fault) => plan_fault::<L>(alloc, text, settings, fault),
     }
 }
@@ -239,7 +231,7 @@ fn plan_checked<L: Language>(
 fn plan_print<L: Language>(
     alloc: Global,
     text: &[u8],
-    settings: &Settings<'_>,
+    settings: &Settings<'_, L::Options>,
 ) -> Plan<L::Grammar, L::Sound>
     requires { settings.now.mode ≡ Print }
     ensures { IsPlanned (L.states text.now settings.now) (first_text result.first)
@@ -265,7 +257,7 @@ fn plan_print<L: Language>(
 pub fn plan_of<L: Language>(
     alloc: Global,
     text: &[u8],
-    settings: &Settings<'_>,
+    settings: &Settings<'_, L::Options>,
 ) -> Plan<L::Grammar, L::Sound>
     ensures { IsPlanned (L.states text.now settings.now) (first_text result.first)
         (λ t. task_does L.canonical L.runs t settings.now) result.task }

@@ -95,7 +95,7 @@ pub fn told_notes<L: Language>(
 fn push_hints<L: Language>(
     alloc: Global,
     places: &L::Places,
-    settings: &Settings<'_>,
+    settings: &Settings<'_, L::Options>,
     told: &mut Vec<u8>,
 ) -> Result<(), Memory>
     ensures ok { OnOk result ((text : List ℕ) → L.are_places text (option_copied settings.now.start) places.now
@@ -112,7 +112,7 @@ fn push_hints<L: Language>(
 pub fn told_hints<L: Language>(
     alloc: Global,
     text: &[u8],
-    settings: &Settings<'_>,
+    settings: &Settings<'_, L::Options>,
     notes: &[Note],
 ) -> Told
     ensures { IsHintedOf (L.explains_note text.now (option_copied settings.now.start))

@@ -35,31 +35,11 @@ fn print_grammar<L: Language, O: Sink>(
     }
 }
 
-/// Performs a task. `WriteFault` if the output fails; then a prefix of its text is written.
-fn perform<L: Language, R: Source, O: Sink>(
-    task: &Task<L::Grammar, L::Sound>,
-    alloc: Global,
-    settings: &Settings<'_>,
-    reader: &mut R,
-    out: &mut O,
-) -> Result<Ending, WriteFault>
-    requires reader_is_fresh { R.failed reader.old ≡ false }
-    requires reader_is_open { R.ended reader.old ≡ false }
-    requires out_is_fresh { O.failed out.old ≡ false }
-    ensures { Fulfils (task_does L.canonical L.runs task.now settings.now)
-        (passed R.remaining R.failed reader.old reader.new) (passed O.contents O.failed out.old out.new) result }
-{
-    match task {
-        Task::Prints(grammar) => plain_ending(print_grammar::<L, O>(grammar, out)),
-        Task::Runs(grammar) => L::run(alloc, grammar, settings, reader, out),
-    }
-}
-
 /// Performs the task of a plan, if it has one. `WriteFault` if the output fails; then a prefix of its text is written.
 pub fn act<L: Language, R: Source, O: Sink>(
     task: &Result<Task<L::Grammar, L::Sound>, Stop>,
     alloc: Global,
-    settings: &Settings<'_>,
+    settings: &Settings<'_, L::Options>,
     reader: &mut R,
     out: &mut O,
 ) -> Result<Ending, WriteFault>
@@ -69,9 +49,13 @@ pub fn act<L: Language, R: Source, O: Sink>(
     ensures { Fulfils (does_of (λ t. task_does L.canonical L.runs t settings.now) task.now)
         (passed R.remaining R.failed reader.old reader.new) (passed O.contents O.failed out.old out.new) result }
 {
+    let task = match task {
+        Ok(task) => task,
+        Err(stop) => return Ok(Ending::Plain(*stop)),
+    };
     match task {
-        Ok(task) => perform::<L, R, O>(task, alloc, settings, reader, out),
-        Err(stop) => Ok(Ending::Plain(*stop)),
+        Task::Prints(grammar) => plain_ending(print_grammar::<L, O>(grammar, out)),
+        Task::Runs(grammar) => L::run(alloc, grammar, settings, reader, out),
     }
 }
 
@@ -89,7 +73,7 @@ fn status_before<T>(task: &Result<T, Stop>) -> Status
 pub fn run_tool<L: Language, R: Source, O: Sink, E: Sink>(
     alloc: Global,
     grammar: &[u8],
-    settings: &Settings<'_>,
+    settings: &Settings<'_, L::Options>,
     reader: &mut R,
     out: &mut O,
     err: &mut E,

@@ -6,11 +6,11 @@ use Rattle.abnfrun.specs.OpenAbnf.{answer_alone, line_alone}
 use Rattle.linejudge.specs.InputLines.{HasNoEnd}
 use Rattle.linejudge.specs.declared.answers.Answer.{Answer}
 use Rattle.toolrun.specs.declared.settings.Mode.TheVariants.{Run}
-use Rattle.toolrun.specs.declared.settings.Settings.{Settings}
+use Rattle.abnfrun.specs.AbnfSettings.{AbnfSettings}
 
 -- A run of the grammar on the line alone answers so, behind what it tells of the grammar. The line does not hold the
 -- byte that ends lines, and the settings ask for a run whose messages are not explained.
-abbrev pub AnswersAlone : List ℕ → Settings → List ℕ → Answer → Type 0
+abbrev pub AnswersAlone : List ℕ → AbnfSettings → List ℕ → Answer → Type 0
 AnswersAlone text settings line said = settings.mode ≡ Run → settings.explain ≡ false
     → HasNoEnd (form_of settings).end line
     → (told : List ℕ) × AbnfStates text settings (line_alone settings line) told (answer_alone settings line said [])

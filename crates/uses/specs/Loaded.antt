@@ -10,15 +10,15 @@ use Rattle.pegread.specs.Reading.{Reads}
 use Rattle.pegread.specs.PegViews.{rules_of}
 
 -- a note refuses the grammar of these definitions; or it can be run, from its first rule
-abbrev pub IsReady : List Rule → Option Grammar → Type 0
-IsReady definitions None =
+abbrev pub IsLoadedAs : List Rule → Option Grammar → Type 0
+IsLoadedAs definitions None =
     (notes : List Said) × AreNotes (firsts [] definitions) (names_at (firsts [] definitions) (agains [] definitions))
     None notes × (is_refused notes ≡ true)
-IsReady definitions (Some g) = IsSoundGrammar g × (rules_of g.rules ≡ firsts [] definitions)
+IsLoadedAs definitions (Some g) = IsSoundGrammar g × (rules_of g.rules ≡ firsts [] definitions)
     × IsStart None (firsts [] definitions) g.start
 
 -- the text is a grammar, which is refused or can be run
 pub record IsLoaded (text : List ℕ) (sound : Option Grammar) : Type 0 where
   pub definitions : List Rule
   pub reads : Reads text definitions
-  pub ready : IsReady definitions sound
+  pub ready : IsLoadedAs definitions sound

@@ -5,10 +5,10 @@ use Rattle.memoryrun.specs.declared.outputs.Outputs.{Outputs}
 use Rattle.pegrun.specs.Answers.{States}
 use Rattle.toolrun.specs.Status.{code_of}
 use Rattle.toolrun.specs.declared.settings.Mode.TheVariants.{Run}
-use Rattle.toolrun.specs.declared.settings.Settings.{Settings}
+use Rattle.pegrun.specs.PegSettings.{PegSettings}
 
 -- A run of the grammar's text on the input writes this, behind what it tells of the grammar. The settings ask for a run
 -- whose messages are not explained.
-abbrev pub RunsAlone : List ℕ → Settings → List ℕ → Outputs → Type 0
+abbrev pub RunsAlone : List ℕ → PegSettings → List ℕ → Outputs → Type 0
 RunsAlone text settings input wrote = settings.mode ≡ Run → settings.explain ≡ false → (told : List ℕ)
     × IsMemoryRun (States text settings) input wrote.out.items (told ++ wrote.err.items) (code_of wrote.status)

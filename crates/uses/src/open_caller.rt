@@ -4,9 +4,9 @@ ghost use Rattle.std.specs.Prelude.{◌≤◌, length, IfSome};
 ghost use Rattle.uses.specs.AnswersAlone.{AnswersAlone};
 ghost use Rattle.uses.specs.RunsAlone.{RunsAlone};
 
-use abnfrun::{Answer, OpenedAbnf, Settings, open_abnf};
+use abnfrun::{AbnfSettings, Answer, OpenedAbnf, open_abnf};
 use memoryrun::{Outputs, run_opened};
-use pegrun::{OpenedPeg, open_peg};
+use pegrun::{OpenedPeg, PegSettings, open_peg};
 use std::alloc::Global;
 
 /// Opens a grammar in ABNF, and returns the answers to two lines, each of at most as many bytes as the settings allow:
@@ -15,7 +15,7 @@ use std::alloc::Global;
 pub fn answer_both(
     alloc: Global,
     grammar: &[u8],
-    settings: &Settings<'_>,
+    settings: &AbnfSettings<'_>,
     first: &[u8],
     second: &[u8],
 ) -> Option<(Answer, Answer)>
@@ -45,7 +45,7 @@ pub fn answer_both(
 pub fn run_both(
     alloc: Global,
     grammar: &[u8],
-    settings: &Settings<'_>,
+    settings: &PegSettings<'_>,
     first: &[u8],
     second: &[u8],
 ) -> Option<(Outputs, Outputs)>

@@ -6,7 +6,7 @@ ghost use Rattle.fanquber.specs.AbnfAnswers.{AbnfStates};
 ghost use Rattle.fanquber.specs.Answers.{States};
 ghost use Rattle.fanquber.specs.Status.{code_of};
 
-use fanquber::{PegLanguage, Settings, Status};
+use fanquber::{AbnfSettings, PegLanguage, PegSettings, Status};
 use memoryrun::{Outputs, abnf_in_memory, peg_in_memory, run_plan};
 use std::alloc::Global;
 use toolrun::plan_of;
@@ -19,14 +19,19 @@ fn is_done(outputs: &Outputs) -> bool
 }
 
 /// Returns whether a run of a grammar of peg(1) takes all of an input. No where an allocation fails.
-pub fn is_all_taken(alloc: Global, grammar: &[u8], settings: &Settings<'_>, input: &[u8]) -> bool
+pub fn is_all_taken(alloc: Global, grammar: &[u8], settings: &PegSettings<'_>, input: &[u8]) -> bool
     ensures { result ≡ true → IsTaken (States grammar.now settings.now) input.now }
 {
     is_done(&peg_in_memory(alloc, grammar, settings, input))
 }
 
 /// Returns whether a grammar in ABNF derives each line of an input. No where an allocation fails.
-pub fn are_all_derived(alloc: Global, grammar: &[u8], settings: &Settings<'_>, input: &[u8]) -> bool
+pub fn are_all_derived(
+    alloc: Global,
+    grammar: &[u8],
+    settings: &AbnfSettings<'_>,
+    input: &[u8],
+) -> bool
     ensures { result ≡ true → IsTaken (AbnfStates grammar.now settings.now) input.now }
 {
     is_done(&abnf_in_memory(alloc, grammar, settings, input))
@@ -37,7 +42,7 @@ pub fn are_all_derived(alloc: Global, grammar: &[u8], settings: &Settings<'_>, i
 pub fn are_both_taken(
     alloc: Global,
     grammar: &[u8],
-    settings: &Settings<'_>,
+    settings: &PegSettings<'_>,
     first: &[u8],
     second: &[u8],
 ) -> (bool, bool)

@@ -1,12 +1,12 @@
 //! The order in which rules are printed, and definitions of one name.
-ghost use Rattle.std.specs.Prelude.{◌≡◌, ◌<◌, ◌≤◌, ◌++◌, length, map, IfOk, OnOk};
+ghost use Rattle.std.specs.Prelude.{◌≡◌, ◌<◌, ◌≤◌, ◌++◌, length, map, take, IfOk, OnOk};
 ghost use Rattle.abnftexts.specs.GivenRules.{text_rule};
-ghost use Rattle.abnftexts.specs.JoinedRules.{is_defined_by, is_added_by, first_definition, adding_numbers};
-ghost use Rattle.abnftexts.specs.JoinedRules.{printed_at, joined_order, clash_at, clashes_of};
+ghost use Rattle.abnftexts.specs.JoinedRules.{first_definition, printed_at, joined_order, clash_at, clashes_of};
+ghost use Rattle.abnftexts.specs.ListedRules.{ListNames};
 
+use crate::join::by_name::{Listed, first_number, list_rule, numbers_by_name, numbers_of};
 use crate::join::given::GivenRule;
-use crate::join::leaves::is_same_folded;
-use ruletable::Memory;
+use ruletable::{Memory, NameCase, RuleTable};
 use std::alloc::Global;
 
 /// Two definitions of one name, by their numbers: the first one, and another.
@@ -16,57 +16,35 @@ pub struct Clash {
     pub second: usize,
 }
 
-// Whether the other rule is a definition of the rule's name.
-fn is_defined(rule: &GivenRule, other: &GivenRule) -> bool
-    ensures { result ≡ is_defined_by (text_rule rule.now) (text_rule other.now) }
+// The number of the first definition of the rule's name, or how many rules there are. Definitions are listed by name.
+fn find_definition(
+    names: &RuleTable<Vec<usize>>,
+    rules: &[GivenRule],
+    rule: &GivenRule,
+) -> Result<usize, Memory>
+    requires { ListNames Listed.Definitions rules.now names.now }
+    ensures { IfOk result (λ first. first ≡ first_definition (text_rule rule.now) (map text_rule rules.now)) }
 {
-    !other.adds && is_same_folded(&rule.name, &other.name)
+    first_number(names, &rule.name, rules.len())
 }
 
-// Whether the other rule adds alternatives to the rule's name.
-fn is_added(rule: &GivenRule, other: &GivenRule) -> bool
-    ensures { result ≡ is_added_by (text_rule rule.now) (text_rule other.now) }
-{
-    other.adds && is_same_folded(&rule.name, &other.name)
-}
-
-// The number of the first definition of the rule's name, or how many rules there are.
-fn find_definition(rule: &GivenRule, rules: &[GivenRule]) -> usize
-    ensures found { result ≡ first_definition (text_rule rule.now) (map text_rule rules.now) }
-    ensures within { result ≤ length rules.now }
-{
-    let mut place = 0;
-    while place < rules.len() && !is_defined(rule, &rules[place]) {
-        place += 1;
-    }
-    place
-}
-
-// Adds the numbers of those rules that add to the rule's name.
-fn push_adding(order: &mut Vec<usize>, rule: &GivenRule, rules: &[GivenRule]) -> Result<(), Memory>
-    ensures { OnOk result (order.new.items
-        ≡ order.old.items ++ adding_numbers (text_rule rule.now) (map text_rule rules.now)) }
-{
-    for number in 0..rules.len() {
-        if is_added(rule, &rules[number]) {
-            order.push(number)?;
-        }
-    }
-    Ok(())
-}
-
-// Adds what is printed at the position of a rule.
+// Adds what is printed at the position of a rule. Definitions are listed by name, and what adds to one and is given
+// before the rule.
 fn push_printed(
     order: &mut Vec<usize>,
+    names: &RuleTable<Vec<usize>>,
+    added: &RuleTable<Vec<usize>>,
     rules: &[GivenRule],
     number: usize,
     rule: &GivenRule,
 ) -> Result<(), Memory>
-    requires { number ≤ length rules.now }
+    requires number { number ≤ length rules.now }
+    requires names { ListNames Listed.Definitions rules.now names.now }
+    requires added { ListNames Listed.Additions (take number rules.now) added.now }
     ensures { OnOk result (order.new.items
         ≡ order.old.items ++ printed_at (map text_rule rules.now) number (text_rule rule.now)) }
 {
-    let first = find_definition(rule, rules);
+    let first = find_definition(names, rules, rule)?;
     if rule.adds {
         if first < number || first == rules.len() {
             order.push(number)?;
@@ -75,7 +53,8 @@ fn push_printed(
     }
     order.push(number)?;
     if first == number {
-        push_adding(order, rule, &rules[..number])?;
+        let numbers = numbers_of(added, &rule.name)?;
+        order.extend_from_slice(numbers)?;
     }
     Ok(())
 }
@@ -88,24 +67,30 @@ fn push_printed(
 pub fn find_order(alloc: Global, rules: &[GivenRule]) -> Result<Vec<usize>, Memory>
     ensures { IfOk result (λ order. order.items ≡ joined_order (map text_rule rules.now)) }
 {
+    let names = numbers_by_name(alloc, Listed::Definitions, rules)?;
+    let mut added = RuleTable::new(alloc, NameCase::Fold);
     let mut order = Vec::new(alloc);
     for number in 0..rules.len() {
-        push_printed(&mut order, rules, number, &rules[number])?;
+        let rule = &rules[number];
+        push_printed(&mut order, &names, &added, rules, number, rule)?;
+        list_rule(alloc, &mut added, Listed::Additions, rule, number)?;
     }
     Ok(order)
 }
 
-// Adds a definition and the first one of its name, if that stands before it.
+// Adds a definition and the first one of its name, if that stands before it. Definitions are listed by name.
 fn push_clash(
     clashes: &mut Vec<Clash>,
+    names: &RuleTable<Vec<usize>>,
     rules: &[GivenRule],
     number: usize,
     rule: &GivenRule,
 ) -> Result<(), Memory>
+    requires { ListNames Listed.Definitions rules.now names.now }
     ensures { OnOk result (clashes.new.items
         ≡ clashes.old.items ++ clash_at (map text_rule rules.now) number (text_rule rule.now)) }
 {
-    let first = find_definition(rule, rules);
+    let first = find_definition(names, rules, rule)?;
     if !rule.adds && first < number {
         clashes.push(Clash {
             first,
@@ -122,9 +107,10 @@ fn push_clash(
 pub fn find_clashes(alloc: Global, rules: &[GivenRule]) -> Result<Vec<Clash>, Memory>
     ensures { IfOk result (λ clashes. clashes.items ≡ clashes_of (map text_rule rules.now)) }
 {
+    let names = numbers_by_name(alloc, Listed::Definitions, rules)?;
     let mut clashes = Vec::new(alloc);
     for number in 0..rules.len() {
-        push_clash(&mut clashes, rules, number, &rules[number])?;
+        push_clash(&mut clashes, &names, rules, number, &rules[number])?;
     }
     Ok(clashes)
 }

@@ -1,11 +1,12 @@
 //! Cells as a finite map.
-ghost use Rattle.std.specs.Prelude.{◌≡◌, [], ◌∷◌, ◌++◌, length, None, OnOk, OnErr};
-ghost use Rattle.memo.specs.Entries.{found_at};
+ghost use Rattle.std.specs.Prelude.{◌≡◌, ◌+◌, [], length, None, OnOk, OnErr};
+ghost use Rattle.memo.specs.Entries.{found_at, AreDifferent};
+ghost use Rattle.matchfailure.specs.State.{IsPut};
 
-use indexmap::IndexMap;
 use memo::Found;
 use ruletable::Memory;
 use std::alloc::Global;
+use std::collections::HashMap;
 use std::marker::Model;
 
 /// A node at a place.
@@ -15,10 +16,10 @@ pub(crate) struct Pair {
     pub(crate) place: usize,
 }
 
-/// What was found for pairs of a node and a place, seen as the list of its entries in the order in which they were put.
+/// What was found for pairs of a node and a place, seen as the list of its entries.
 #[derive(Drop)]
 pub(crate) struct CellMap {
-    cells: IndexMap<Pair, Found>,
+    cells: HashMap<Pair, Found>,
 }
 
 impl Model for CellMap {
@@ -37,7 +38,7 @@ impl CellMap {
         ensures { result ≡ [] }
     {
         CellMap {
-            cells: IndexMap::new(alloc),
+            cells: HashMap::new(alloc),
         }
     }
 
@@ -68,7 +69,9 @@ impl CellMap {
     /// `Memory` if an allocation fails; no cell is added.
     pub(crate) fn put(&mut self, node: usize, place: usize, found: Found) -> Result<(), Memory>
         requires { found_at self.old node place ≡ None }
-        ensures added { OnOk result (self.new ≡ self.old ++ record { node = node; place = place; found = found } ∷ []) }
+        ensures put { OnOk result (IsPut self.old self.new node place found) }
+        ensures grown { OnOk result (length self.new ≡ length self.old + 1) }
+        ensures different { OnOk result (AreDifferent self.new) }
         ensures unchanged { OnErr result (self.new ≡ self.old) }
     {
         self.cells.insert(Pair { node, place }, found)?;

@@ -6,9 +6,8 @@ ghost use Rattle.matchfailure.specs.CellAsks.{WalksTo, TriesTo, CellAsksBy};
 ghost use Rattle.matchfailure.specs.VisitLists.{AddsVisits};
 
 use crate::desk::Desk;
-use crate::farthest::visit::{Visit, add};
+use crate::farthest::visit::{Visit, VisitList};
 use gramcheck::SoundPeg;
-use indexmap::IndexSet;
 use memo::Found;
 use pegnodes::Node;
 use ruletable::Memory;
@@ -42,14 +41,13 @@ fn add_members(
     desk: &Desk,
     members: &[usize],
     place: usize,
-    seen: &mut IndexSet<Visit>,
+    seen: &mut VisitList,
 ) -> Result<(), Memory>
-    ensures { OnOk result (AddsVisits (λ m q. WalksTo desk.now.cells members.now place m q) seen.old.keys
-        seen.new.keys) }
+    ensures { OnOk result (AddsVisits (λ m q. WalksTo desk.now.cells members.now place m q) seen.old seen.new) }
 {
     let mut end = place;
     for member in members {
-        add(seen, *member, end)?;
+        seen.add(*member, end)?;
         match end_at(desk, *member, end) {
             Some(after) => end = after,
             None => return Ok(()),
@@ -63,13 +61,13 @@ fn add_alternatives(
     desk: &Desk,
     alternatives: &[usize],
     place: usize,
-    seen: &mut IndexSet<Visit>,
+    seen: &mut VisitList,
 ) -> Result<(), Memory>
     ensures { OnOk result (AddsVisits (λ m q. TriesTo desk.now.cells place alternatives.now m × (q ≡ place))
-        seen.old.keys seen.new.keys) }
+        seen.old seen.new) }
 {
     for alternative in alternatives {
-        add(seen, *alternative, place)?;
+        seen.add(*alternative, place)?;
         if !fails_at(desk, *alternative, place) {
             return Ok(());
         }
@@ -83,14 +81,14 @@ fn add_turns(
     operand: usize,
     again: usize,
     place: usize,
-    seen: &mut IndexSet<Visit>,
+    seen: &mut VisitList,
 ) -> Result<(), Memory>
     ensures { OnOk result (AddsVisits (λ m q. ((m ≡ operand) × (q ≡ place)) ⊎ ((m ≡ again)
-        × (found_at desk.now.cells operand place ≡ Some (Found.Took q)))) seen.old.keys seen.new.keys) }
+        × (found_at desk.now.cells operand place ≡ Some (Found.Took q)))) seen.old seen.new) }
 {
-    add(seen, operand, place)?;
+    seen.add(operand, place)?;
     match end_at(desk, operand, place) {
-        Some(end) => add(seen, again, end),
+        Some(end) => seen.add(again, end),
         None => Ok(()),
     }
 }
@@ -105,21 +103,21 @@ pub(crate) fn add_asked(
     desk: &Desk,
     node: &Node,
     visit: Visit,
-    seen: &mut IndexSet<Visit>,
+    seen: &mut VisitList,
 ) -> Result<(), Memory>
     requires { (id : ℕ) → shape_of node.now ≡ Name id → id < length peg.now.bodies }
     ensures { OnOk result (AddsVisits (λ m q. CellAsksBy desk.now.cells peg.now.bodies (shape_of node.now) visit.node
-        visit.place m q) seen.old.keys seen.new.keys) }
+        visit.place m q) seen.old seen.new) }
 {
     let place = visit.place;
     match node {
-        Node::Name(id) => add(seen, peg.body_node(*id), place),
+        Node::Name(id) => seen.add(peg.body_node(*id), place),
         Node::Seq(members) => add_members(desk, members, place, seen),
         Node::Choice(alternatives) => add_alternatives(desk, alternatives, place, seen),
         Node::Star(operand) => add_turns(desk, *operand, visit.node, place, seen),
         Node::Plus { operand, star } => add_turns(desk, *operand, *star, place, seen),
-        Node::Opt(operand) => add(seen, *operand, place),
-        Node::And(operand) => add(seen, *operand, place),
+        Node::Opt(operand) => seen.add(*operand, place),
+        Node::And(operand) => seen.add(*operand, place),
         Node::Not(_) => Ok(()),
         Node::Any => Ok(()),
         Node::Bytes(_) => Ok(()),

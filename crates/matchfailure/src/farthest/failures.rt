@@ -8,9 +8,8 @@ ghost use Rattle.matchfailure.specs.Farthest.{IsFarthest, NoneFails};
 use crate::farthest::greatest::{greatest_stop, stopped_at};
 use crate::farthest::order::put_in_order;
 use crate::farthest::outside::add_outside;
-use crate::farthest::visit::Visit;
+use crate::farthest::visit::{Visit, VisitList};
 use gramcheck::SoundPeg;
-use indexmap::IndexSet;
 use ruletable::Memory;
 use std::alloc::Global;
 
@@ -41,7 +40,7 @@ pub fn farthest_failure(
         (λ far. IsFarthest (rules_of peg.now.rules) (shapes_of peg.now.nodes) peg.now.bodies window.now peg.now.start
         far.place far.expected.items)) }
 {
-    let mut seen = IndexSet::new(alloc);
+    let mut seen = VisitList::new(alloc);
     add_outside(alloc, peg, window, &mut seen)?;
     let visits = seen.as_slice();
     let Some(place) = greatest_stop(peg, window, visits) else {

@@ -1,9 +1,11 @@
-//! Pairs of a node and a place.
-ghost use Rattle.std.specs.Prelude.{◌≡◌, ℕ, OnOk};
+//! Pairs of a node and a place, and the list of those that were found.
+ghost use Rattle.std.specs.Prelude.{◌≡◌, ℕ, [], OnOk};
 ghost use Rattle.matchfailure.specs.VisitLists.{AddsVisits};
 
-use indexmap::IndexSet;
 use ruletable::Memory;
+use std::alloc::Global;
+use std::collections::HashSet;
+use std::marker::Model;
 
 /// A node at a place.
 #[derive(Clone, Copy, PartialEq, Eq, PartialOrd, Ord, Hash)]
@@ -14,13 +16,62 @@ pub struct Visit {
     pub place: usize,
 }
 
-/// Adds a pair, if it is not there yet.
-///
-/// # Errors
-/// `Memory` if an allocation fails.
-pub(crate) fn add(seen: &mut IndexSet<Visit>, node: usize, place: usize) -> Result<(), Memory>
-    ensures { OnOk result (AddsVisits (λ m q. (m ≡ node) × (q ≡ place)) seen.old.keys seen.new.keys) }
-{
-    seen.insert(Visit { node, place })?;
-    Ok(())
+/// Pairs in the order in which they were added, seen as their list.
+#[derive(Drop)]
+pub(crate) struct VisitList {
+    visits: Vec<Visit>,
+    seen: HashSet<Visit>,
+}
+
+impl Model for VisitList {
+    ghost use Rattle.std.specs.Prelude.{List};
+    ghost use Rattle.matchfailure.specs.declared.farthest.visit.Visit.{Visit};
+    ghost use Rattle.matchfailure.specs.SeenVisits.{HasSeen};
+
+    ghost Value = { List Visit };
+
+    ghost view = { λ v. v.visits.items };
+
+    ghost invariant = { λ v. HasSeen v.visits.items v.seen };
+}
+
+impl VisitList {
+    /// Returns an empty list; it takes no memory.
+    pub(crate) fn new(alloc: Global) -> VisitList
+        ensures { result ≡ [] }
+    {
+        VisitList {
+            visits: Vec::new(alloc),
+            seen: HashSet::new(alloc),
+        }
+    }
+
+    /// Returns its pairs.
+    pub(crate) fn as_slice(&self) -> &[Visit]
+        ensures { result.now ≡ self.now }
+    {
+        self.visits.as_slice()
+    }
+
+    /// Adds a pair, if it is not there yet.
+    ///
+    /// # Errors
+    /// `Memory` if an allocation fails.
+    pub(crate) fn add(&mut self, node: usize, place: usize) -> Result<(), Memory>
+        ensures { OnOk result (AddsVisits (λ m q. (m ≡ node) × (q ≡ place)) self.old self.new) }
+    {
+        let visit = Visit { node, place };
+        if self.seen.contains(&visit) {
+            return Ok(());
+        }
+        let count = self.visits.len();
+        self.visits.push(visit)?;
+        match self.seen.insert(visit) {
+            Ok(_) => Ok(()),
+            Err(_) => {
+                self.visits.truncate(count);
+                Err(Memory)
+            }
+        }
+    }
 }

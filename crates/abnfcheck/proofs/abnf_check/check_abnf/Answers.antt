@@ -68,7 +68,7 @@ returns-clause-sound c =
     λ h. let yes = tells.1 h in let no = c.if-found.false in absurd (cc (yes, no)) in
     let sound = sound_unless_refused (rules_of c.args.abnf.rules) _ _ (option_copied c.args.rule) passes in (
       passes,
-      c.in_ok-sound.ensures.rules ∙ c.in_ok-rules.ensures,
-      c.in_ok-sound.ensures.judged ∙ sym (judged_where _ _ _ sound.judged_is_rule
+      c.new.ensures.rules ∙ c.in_ok-rules.ensures,
+      c.new.ensures.judged ∙ sym (judged_where _ _ _ sound.judged_is_rule
           (rw c.in_ok-rules.ensures at c.in_ok-found.ensures.judged)),
     )

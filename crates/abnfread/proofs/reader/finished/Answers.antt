@@ -10,4 +10,4 @@ pub returns : goal.returns
 returns c =
     c.alternation.ensures
     ∙ ap alternation (elements_of-push _ _ _ c.in_ok-push.ensures.items
-    ∙ ap (λ (x : Element). snoc (elements_of c.args.alternatives.items) x) c.concatenation.ensures)
+    ∙ ap (λ (x : Element). snoc (elements_of c.args.alternatives.items) x) c.concatenation-2.ensures)

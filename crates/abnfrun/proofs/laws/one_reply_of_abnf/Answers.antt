@@ -6,6 +6,7 @@ use Rattle.linejudge.proofs.LinesReplyLemmas.{one_lines_reply}
 pub returns : goal.returns
 returns c = λ rules judged settings input a b.
     one_lines_reply (AnswersFor rules judged settings)
-    (λ line. one_answer c.utf8_is_decided.ensures.one c.furthest_is_found.ensures.one settings.letters rules judged line
-    settings.viable) (form_of settings) input settings.explain (RefusalFor rules judged settings)
-    (c.refusal_is_one.ensures settings.letters rules judged) a b
+    (λ line. one_answer c.utf8_is_decided.ensures.one c.furthest_is_found.ensures.one settings.options.letters rules
+    judged line
+    settings.options.viable) (form_of settings) input settings.explain (RefusalFor rules judged settings)
+    (c.refusal_is_one.ensures settings.options.letters rules judged) a b

@@ -7,10 +7,10 @@ use Rattle.ruletable.specs.Notes.{said_of}
 pub returns-in_default-clause-opened : goal.returns-in_default-clause-opened
 returns-in_default-clause-opened c =
     refused_is_opened c.args.text.now c.args.settings.now (map said_of c.in_ok-notes.field-0.notes.items)
-    c.in_ok-notes.field-0.sound c.in_ok-notes.ensures.checked c.in_default.is
+    c.in_ok-notes.field-0.judged c.in_ok-notes.ensures.checked c.in_default.is
 
 pub returns-in-Ok-clause-opened : goal.returns-in-Ok-clause-opened
 returns-in-Ok-clause-opened c =
     judge_is_opened c.args.text.now c.args.settings.now (map said_of c.in_ok-notes.field-0.notes.items)
-    c.in_ok-notes.field-0.sound c.in-Some.grammar c.in-Ok.judge c.in_ok-notes.ensures.checked c.in-Some.is
+    c.in_ok-notes.field-0.judged c.in-Some.grammar c.in-Ok.judge c.in_ok-notes.ensures.checked c.in-Some.is
     c.in-Ok.ensures

@@ -1,5 +1,5 @@
 -- The help was written, or a prefix of it.
-use Rattle.std.proofs.Common.{◌≡◌, ℕ, [], false, List, Option, Some, refl}
+use Rattle.std.proofs.Common.{◌≡◌, [], false, Some, refl}
 use Rattle.std.specs.Prelude.{Result, Ok, Err}
 use Rattle.ruletable.proofs.AppendsLemmas.{Appends-same}
 use Rattle.ruletable.specs.declared.sink.WriteFault.{WriteFault}

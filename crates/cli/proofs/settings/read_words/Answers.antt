@@ -14,11 +14,12 @@ returns g c =
         said.1,
         (
           said.2.0,
-          words_ask (found_of c.in-Ok.matches) (matches_of said.0 (map g.S.AsStr.text c.args.words.now)) said.2.1
-              c.in-Ok.ensures.whole (record { settings = c.settings_of-settings.result; path = c.unwrap-path.result })
-              c.get_str.result settings.mode settings.limit settings.start settings.raw
-              settings.letters settings.viable settings.nul settings.explain c.get_str.ensures
-              c.unwrap-path.ensures,
+          words_ask g.P.Program.asks (found_of c.in-Ok.matches)
+              (matches_of said.0 (map g.S.AsStr.text c.args.words.now)) said.2.1
+              (c.follows.ensures.whole c.in-Ok.matches c.in-Ok.ensures.parsed)
+              (record { settings = c.settings_of-settings.result; path = c.unwrap-path.result })
+              c.get_str.result settings.mode settings.limit settings.start settings.explain settings.options
+              c.get_str.ensures c.unwrap-path.ensures,
         ),
       );
     }

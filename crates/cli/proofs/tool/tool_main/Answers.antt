@@ -16,12 +16,12 @@ returns-in-Ok g c =
       right = (
         job.0,
         job.1,
-        λ none. job_comes g.L.Language.states (matches_of job.0 words)
+        λ none. job_comes g.P.Program.asks g.P.Program.states (matches_of job.0 words)
             (record { settings = c.in-Ok.job.settings; path = job.2.1.0 }) job.2.1.1 c.as_slice.result.now
-            (passed g.I.Source.remaining g.I.Source.failed c.args.reader.now c.run_tool.new.reader)
-            (passed g.O.Sink.contents g.O.Sink.failed c.args.out.now c.run_tool.new.out)
-            (passed g.E.Sink.contents g.E.Sink.failed c.args.err.now c.run_tool.new.err) (code_of c.run_tool.result)
-            c.run_tool.ensures.right,
+            (passed g.I.Source.remaining g.I.Source.failed c.args.reader.now c.run.new.reader)
+            (passed g.O.Sink.contents g.O.Sink.failed c.args.out.now c.run.new.out)
+            (passed g.E.Sink.contents g.E.Sink.failed c.args.err.now c.run.new.err) (code_of c.run.result)
+            c.run.ensures.right,
       );
     }
 
@@ -35,7 +35,8 @@ returns-in-Err g c =
       right = (
         job.0,
         job.1,
-        λ none. unready_comes g.L.Language.states (matches_of job.0 words) (g.I.Source.remaining c.args.reader.now)
+        λ none. unready_comes g.P.Program.asks g.P.Program.states (matches_of job.0 words)
+            (g.I.Source.remaining c.args.reader.now)
             (g.I.Source.failed c.args.reader.now)
             (g.I.Source.failed c.args.reader.now) (passed g.O.Sink.contents g.O.Sink.failed c.args.out.now
             c.end_unready.new.out)

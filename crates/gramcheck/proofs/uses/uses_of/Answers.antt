@@ -10,7 +10,7 @@ use Rattle.gramcheck.proofs.uses.uses_of.Goals as goal
 pub loop-id-init : goal.loop-id-init
 loop-id-init c =
     rw append-nil (c.in_ok-add_start.ensures [] (rw c.new.ensures.items
-    (uses-none c.args.rules.now c.in_ok-names.names c.in_ok-names.ensures.case c.in_ok-names.ensures.names)))
+    (uses-none (rules_of c.args.rules.now) c.new-2.result c.new-2.ensures.names c.new-2.ensures.rules)))
 
 pub loop-id-preserved : goal.loop-id-preserved
 loop-id-preserved c =
@@ -20,4 +20,4 @@ loop-id-preserved c =
           (names_used (take c.loop-id.id (rules_of c.args.rules.now)))
           (names_in (pattern_of c.body.result.now)),
     )
-    (c.in_ok-add_uses.ensures (rules_of c.args.rules.now) _ c.loop-id.invariant)
+    (c.in_ok-add_uses.ensures _ c.loop-id.invariant)

@@ -10,4 +10,4 @@ abbrev pub invariant-loop-id : goal.invariant-loop-id
 invariant-loop-id l = AreUses (rules_of l.rules)
     (option_to_list (start_of (option_copied l.fn.start) (rules_of l.rules))
     ++ names_used (take l.id (rules_of l.rules)))
-    l.uses.names l.uses.ids.items
+    l.uses.ids.items l.uses.missing

@@ -2,12 +2,12 @@ use Rattle.std.proofs.Common.{sym}
 use Rattle.std.proofs.lemmas.List.{length-map}
 use Rattle.abnfread.specs.AbnfViews.{rule_of, rules_of}
 use Rattle.lowering.proofs.LoweredLemmas as o
-use Rattle.lowering.proofs.NamesTellLemmas.{names_tell, null_alike, judged_there}
+use Rattle.lowering.proofs.NamesTellLemmas.{names_tell, null_alike, null_at, null_rules, judged_there}
 use Rattle.lowering.proofs.lowered.lower_rules.Goals as goal
 
 pub number_bodies-requires-clause-marks : goal.number_bodies-requires-clause-marks
 number_bodies-requires-clause-marks c = rw c.deref.ensures.value
-    (names_tell _ _ _ c.in_ok-marks.ensures c.requires.alike)
+    (names_tell _ _ _ (null_rules _ _ c.in_ok-marks.ensures.count c.in_ok-marks.ensures.marks) c.requires.alike)
 
 pub new-requires-clause-nulls : goal.new-requires-clause-nulls
 new-requires-clause-nulls c =
@@ -16,7 +16,9 @@ new-requires-clause-nulls c =
     c.in_ok-whole.ensures.nodes c.in_ok-members.ensures c.in_ok-whole.ensures.nulls
     (rw c.judged-judged.ensures.id at c.index.ensures)
     (judged_there _ _ _ c.requires.alike c.judged-judged.ensures.sound.sound.judged_is_rule)
-    (null_alike _ _ _ _ c.requires.alike (rw c.judged-judged.ensures.id at c.nullable-null.ensures))
+    (null_alike _ _ _ _ c.requires.alike
+    (null_at _ _ _ _ (null_rules _ _ c.in_ok-marks.ensures.count c.in_ok-marks.ensures.marks)
+    c.judged-judged.ensures.sound.sound.judged_is_rule (rw c.judged-judged.ensures.id at c.index-2.ensures)))
 
 pub new-requires-clause-ordered : goal.new-requires-clause-ordered
 new-requires-clause-ordered c =

@@ -12,10 +12,10 @@ use Rattle.linejudge.specs.declared.answers.Answer.{Answer}
 use Rattle.ruletable.specs.Notes.{Said}
 use Rattle.toolrun.proofs.ToldNotesLemmas.{hinted-plain}
 use Rattle.toolrun.specs.NotesText.{notes_text}
-use Rattle.toolrun.specs.declared.settings.Settings.{Settings}
+use Rattle.abnfrun.specs.AbnfSettings.{AbnfSettings}
 use Rattle.uses.proofs.open_caller.answer_both.Goals as goal
 
-module _ (text : List ℕ) (settings : Settings) (notes : List Said) (judge : OpenJudge)
+module _ (text : List ℕ) (settings : AbnfSettings) (notes : List Said) (judge : OpenJudge)
     (is : IsOpened text settings notes (Some judge)) (line : List ℕ) (within : length line ≤ settings.limit)
     (said : Answer)
     (answers : IsAnswerTo judge.letters judge.viable (rules_of judge.grammar.rules) judge.grammar.judged line said)

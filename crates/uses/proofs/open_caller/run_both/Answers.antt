@@ -15,10 +15,10 @@ use Rattle.toolrun.proofs.DeliversLemmas.{delivers_after}
 use Rattle.toolrun.proofs.ToldNotesLemmas.{hinted-plain}
 use Rattle.toolrun.specs.NotesText.{notes_text}
 use Rattle.toolrun.specs.Status.{code_of}
-use Rattle.toolrun.specs.declared.settings.Settings.{Settings}
+use Rattle.pegrun.specs.PegSettings.{PegSettings}
 use Rattle.uses.proofs.open_caller.run_both.Goals as goal
 
-module _ (text : List ℕ) (settings : Settings) (notes : List Said) (grammar : Grammar)
+module _ (text : List ℕ) (settings : PegSettings) (notes : List Said) (grammar : Grammar)
     (is : IsPegOpened text settings notes (Some grammar)) (input : List ℕ) (wrote : Outputs)
     (ran : IsPlannedRun (RunStates (rules_of grammar.rules) grammar.start settings) input wrote.out.items
     wrote.err.items (code_of wrote.status)) where

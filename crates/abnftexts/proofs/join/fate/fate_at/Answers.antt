@@ -4,10 +4,10 @@ use Rattle.abnftexts.proofs.join.fate.fate_at.Goals as goal
 
 pub returns-then-same-number : goal.returns-then-same-number
 returns-then-same-number c = fate-again c.args.rules.now (text_rule c.args.rule.now) c.args.number
-    c.find_wanted-wanted.result c.find_same-same.result c.requires c.find_wanted-wanted.ensures.found
-    c.if-wanted-rules.false c.find_same-same.ensures.found c.if-same-number.true
+    c.in_ok-wanted.wanted c.in_ok-same.same c.requires.number c.in_ok-wanted.ensures
+    c.if-wanted-rules.false c.in_ok-same.ensures c.if-same-number.true
 
 pub returns : goal.returns
-returns c = fate-stands c.args.rules.now (text_rule c.args.rule.now) c.args.number c.find_wanted-wanted.result
-    c.find_same-same.result c.requires c.find_wanted-wanted.ensures.found c.if-wanted-rules.false
-    c.find_same-same.ensures.found c.if-same-number.false
+returns c = fate-stands c.args.rules.now (text_rule c.args.rule.now) c.args.number c.in_ok-wanted.wanted
+    c.in_ok-same.same c.requires.number c.in_ok-wanted.ensures c.if-wanted-rules.false
+    c.in_ok-same.ensures c.if-same-number.false

@@ -1,18 +1,19 @@
-use Rattle.std.proofs.Common.{arith}
-use Rattle.abnftexts.specs.GivenRules.{text_rule, yields_to}
-use Rattle.abnftexts.proofs.FatesLemmas.{one-fails, one-passes}
+use Rattle.std.proofs.Common.{◌∙◌, sym, map}
+use Rattle.abnftexts.specs.GivenRules.{first_wanted, text_rule}
+use Rattle.abnftexts.proofs.ListNamesLemmas.{found-first, none_wanted-adds, none_wanted-elements, wanted-listed}
 use Rattle.abnftexts.proofs.join.fate.find_wanted.Goals as goal
 
-pub loop-place-preserved : goal.loop-place-preserved
-loop-place-preserved c =
-    let more = one-fails (yields_to (text_rule c.args.rule.now)) c.args.rules.now c.loop-place.place
-    c.index-rules-place.result c.yields_to.result c.loop-place-test.true c.index-rules-place.is c.yields_to.ensures
-    c.if-not-yields_to.true in
-    record { within = omega arith; same = omega (arith, more, c.loop-place.invariant.same) }
+pub returns-then-rule : goal.returns-then-rule
+returns-then-rule c = none_wanted-adds c.args.rules.now (text_rule c.args.rule.now) c.if-rule.true
 
-pub returns-else-not-yields_to-clause-found : goal.returns-else-not-yields_to-clause-found
-returns-else-not-yields_to-clause-found c =
-    let none = one-passes (yields_to (text_rule c.args.rule.now)) c.args.rules.now c.loop-place.place
-    c.index-rules-place.result c.yields_to.result c.loop-place-test.true c.index-rules-place.is c.yields_to.ensures
-    c.if-not-yields_to.false in
-    omega (arith, none, c.loop-place.invariant.same)
+pub returns-then-not-is_only_prose : goal.returns-then-not-is_only_prose
+returns-then-not-is_only_prose c = none_wanted-elements c.args.rules.now (text_rule c.args.rule.now)
+    (sym c.is_only_prose.ensures ∙ c.if-not-is_only_prose.true)
+
+pub returns : goal.returns
+returns c =
+    let rule = text_rule c.args.rule.now in
+    found-first c.args.names.now _ rule.name _ (first_wanted rule (map text_rule c.args.rules.now))
+    c.first_number.result c.deref.ensures.value
+    (wanted-listed c.args.rules.now rule _ c.if-rule.false
+    (sym c.is_only_prose.ensures ∙ c.if-not-is_only_prose.false) (c.requires.1 rule.name)) c.first_number.ensures

@@ -44,7 +44,8 @@ returns-then-is_empty c =
     rw c.ended.ensures
     (ended_step _ _ _ c.requires.sound _ _ _ _
     (ended_here _ _ _ c.requires.sound _ _ _ _ _ c.requires.fits is c.in-Answer.ensures
-    c.in_ok-put-in-Answer.ensures.added (c.pop.ensures _ _ is) refl
+    c.in_ok-put-in-Answer.ensures.put c.in_ok-put-in-Answer.ensures.grown c.in_ok-put-in-Answer.ensures.different
+    (c.pop.ensures _ _ is) refl
     (c.is_empty.ensures.0 c.if-is_empty.true)) refl)
 
 pub returns-else-is_empty : goal.returns-else-is_empty
@@ -53,4 +54,5 @@ returns-else-is_empty c =
     let some = some_frame c.pop.new.self (λ none. both_ways c.is_empty.result c.if-is_empty.false
     (c.is_empty.ensures.1 none)) in
     dropped_step _ _ _ c.requires.sound _ _ _ _ _ c.requires.fits is c.in-Answer.ensures
-    c.in_ok-put-in-Answer.ensures.added (c.pop.ensures _ _ is) refl _ _ some.2
+    c.in_ok-put-in-Answer.ensures.put c.in_ok-put-in-Answer.ensures.grown c.in_ok-put-in-Answer.ensures.different
+    (c.pop.ensures _ _ is) refl _ _ some.2

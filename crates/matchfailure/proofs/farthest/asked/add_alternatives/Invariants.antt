@@ -7,4 +7,4 @@ abbrev pub invariant-loop-alternative : goal.invariant-loop-alternative
 invariant-loop-alternative l =
     AddsBut (λ m q. TriesTo l.desk.cells l.place l.alternatives m × (q ≡ l.place))
     (λ m q. TriesTo l.desk.cells l.place (drop l.alternative-index l.alternatives) m × (q ≡ l.place))
-    l.initial.seen.keys l.seen.keys
+    l.initial.seen l.seen

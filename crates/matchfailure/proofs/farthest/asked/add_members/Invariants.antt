@@ -6,4 +6,4 @@ use Rattle.matchfailure.proofs.farthest.asked.add_members.Given as goal
 abbrev pub invariant-loop-member : goal.invariant-loop-member
 invariant-loop-member l =
     AddsBut (WalksTo l.desk.cells l.members l.place) (WalksTo l.desk.cells (drop l.member-index l.members) l.end)
-    l.initial.seen.keys l.seen.keys
+    l.initial.seen l.seen

@@ -1,4 +1,4 @@
-use Rattle.std.proofs.Common.{arith, Some, ap, ◌∙◌}
+use Rattle.std.proofs.Common.{arith, length, Some, ap, ◌∙◌}
 use Rattle.std.proofs.lemmas.Option.{slice_get-get_or}
 use Rattle.pegmatch.proofs.NodeShapeLemmas.{shape_at}
 use Rattle.matchfailure.proofs.OutsideLemmas.{name_has_body, spread_begins, spread_on, spread_few, spread_whole}
@@ -12,22 +12,27 @@ visits-init c =
 
 pub visits-smaller : goal.visits-smaller
 visits-smaller c =
-    let few = spread_few c.args.peg.now c.args.window.now c.start.ensures.sound c.visits.next c.visits.seen.keys
+    let few = spread_few c.args.peg.now c.args.window.now c.start.ensures.sound c.visits.next c.visits.seen
     c.visits.invariant in
-    omega (arith, few, c.visits-test.true)
+    omega (arith, few, ap length c.as_slice.ensures, c.visits-test.true)
 
 pub visits-preserved : goal.visits-preserved
 visits-preserved c =
     spread_on c.args.peg.now c.args.window.now c.start.ensures.sound _ c.in_ok-desk.ensures _ _ _ _ _
     c.visits.invariant
-    (rw c.as_slice.ensures.keys (slice_get-get_or c.visits.seen.keys c.visits.next _ (omega arith)))
+    (rw c.as_slice-visits.ensures (slice_get-get_or c.visits.seen c.visits.next _
+    (omega (arith, ap length c.as_slice.ensures))))
     (shape_at c.args.peg.now.nodes _ _ c.node.ensures) c.in_ok-add_asked.ensures
 
 pub node-requires : goal.node-requires
 node-requires c =
-    let there = spread_within c.args.peg.now c.args.window.now c.start.ensures.sound c.visits.next c.visits.seen.keys
-    c.visits.invariant _ (c.visits.next, slice_get-get_or c.visits.seen.keys c.visits.next _ (omega arith)) in
-    rw c.as_slice.ensures.keys there.0
+    let there = spread_within c.args.peg.now c.args.window.now c.start.ensures.sound c.visits.next c.visits.seen
+    c.visits.invariant _ (
+      c.visits.next,
+      slice_get-get_or c.visits.seen c.visits.next _
+          (omega (arith, ap length c.as_slice.ensures)),
+    ) in
+    rw c.as_slice-visits.ensures there.0
 
 pub add_asked-requires : goal.add_asked-requires
 add_asked-requires c id is =
@@ -37,10 +42,10 @@ add_asked-requires c id is =
 pub returns-clause-listed : goal.returns-clause-listed
 returns-clause-listed c v = (
   λ h. c.visits.invariant.only v h,
-  λ o. spread_whole c.args.peg.now c.args.window.now c.visits.next c.visits.seen.keys c.visits.invariant
-      (omega (arith, c.len.ensures.len, c.visits-test.false)) o,
+  λ o. spread_whole c.args.peg.now c.args.window.now c.visits.next c.visits.seen c.visits.invariant
+      (omega (arith, ap length c.as_slice.ensures, c.visits-test.false)) o,
 )
 
 pub returns-clause-within : goal.returns-clause-within
 returns-clause-within c = spread_within c.args.peg.now c.args.window.now c.start.ensures.sound c.visits.next
-    c.visits.seen.keys c.visits.invariant
+    c.visits.seen c.visits.invariant

@@ -1,0 +1,58 @@
+-- The command of the program, as a parse reads it, and what its words ask for.
+use Prim.Native.Char.{code}
+use Rattle.std.specs.Prelude.{◌≡◌, ℕ, List, [], ◌∷◌, Option, Some, None, codes, map, if◌then◌else◌}
+use Rattle.std.specs.Str.{bytes_eq}
+use Rattle.clap.specs.Words.{App, Row, Rule, Text, first_of, new_app, new_rule, one_of, with_rule}
+use Rattle.clap.specs.declared.builder.value_parser.ValueParser.TheVariants as vp
+use Rattle.abnfrun.specs.declared.options.AbnfOptions.{AbnfOptions}
+use Rattle.cli.specs.Asked.{is_flagged}
+use Rattle.cli.specs.Command.{AreModes, Names, explain_rule, flag_rule, grammar_rule, with_options}
+use Rattle.letters.specs.declared.alphabet.Alphabet.{Alphabet}
+use Rattle.letters.specs.declared.alphabet.Alphabet.TheVariants.{Bytes, Utf8}
+
+-- the names of the alphabets of a line
+abbrev pub alphabet_names : List Text
+alphabet_names = codes "bytes" ∷ codes "utf8" ∷ []
+
+-- the texts are the names of the alphabets
+abbrev pub AreAlphabets : Names → Type 0
+AreAlphabets names = map (λ s. s.now) names.now ≡ alphabet_names
+
+-- `-u MODE`, one of the names; `bytes` where it is not given
+abbrev pub letters_rule : Names → Rule
+letters_rule names = record (new_rule (codes "letters")) {
+  short = Some (code "u");
+  value_names = 1;
+  parser = Some (vp.Names names);
+  defaults = codes "bytes" ∷ [];
+}
+
+-- `-w`
+abbrev pub viable_rule : Rule
+viable_rule = flag_rule (codes "viable") (code "w")
+
+-- `-z`
+abbrev pub nul_rule : Rule
+nul_rule = flag_rule (codes "nul") (code "z")
+
+-- `abnfi [-m MODE] [-l N] [-s RULE] [-u MODE] [-w] [-z] [-x] GRAMMAR`
+abbrev pub abnfi_app : Names → Names → App
+abnfi_app names alphabets =
+    with_rule (with_rule (with_rule (with_rule (with_rule (with_options names (new_app (codes "abnfi")))
+    (letters_rule alphabets)) viable_rule) nul_rule) explain_rule) grammar_rule
+
+-- this is the command of the program
+abbrev pub IsAbnfiApp : App → Type 0
+IsAbnfiApp app = (names : Names) × AreModes names × (alphabets : Names) × AreAlphabets alphabets ×
+    (app ≡ abnfi_app names alphabets)
+
+-- the alphabet of a name; bytes where none is given
+abbrev pub alphabet_named : Option (List ℕ) → Alphabet
+alphabet_named None = Bytes
+alphabet_named (Some name) = if bytes_eq name (codes "utf8") then Utf8 else Bytes
+
+-- the matches ask for these options
+pub record AsksAbnfi (rows : List Row) (options : AbnfOptions) : Type 0 where
+  pub letters : options.letters ≡ alphabet_named (first_of (codes "letters") rows)
+  pub viable : options.viable ≡ is_flagged (one_of (codes "viable") rows)
+  pub nul : options.nul ≡ is_flagged (one_of (codes "nul") rows)

@@ -1,0 +1,128 @@
+//! Grammars that no note rejects, before they are made ready to run.
+ghost use Rattle.std.specs.Prelude.{◌≡◌, ◌<◌, List, length, IfOk};
+ghost use Rattle.fixpoint.specs.NumberMarks.{AreBelow};
+ghost use Rattle.pegread.specs.Pattern.{Rule};
+ghost use Rattle.pegread.specs.PegViews.{rules_of};
+ghost use Rattle.gramcheck.specs.Grammar.{IsNumbered, IsSoundGrammar};
+ghost use Rattle.gramcheck.specs.Printing.{ArePrintMarks};
+ghost use Rattle.pegnodes.specs.Bodies.{AreBodies, IsBuilt};
+ghost use Rattle.pegnodes.specs.KeyLists.{marks_of, node_marks, tail_marks};
+ghost use Rattle.pegnodes.specs.KeyMarks.{AreMarks};
+ghost use Rattle.pegnodes.specs.NodeLists.{AreNumbered};
+ghost use Rattle.pegnodes.specs.Nodes.{shapes_of};
+ghost use Rattle.pegnodes.specs.Slots.{AreCuts};
+ghost use Rattle.pegnodes.specs.StarTables.{AreStarTables};
+ghost use Rattle.gramcheck.specs.Sound.{IsRanked};
+
+use crate::printing::print_marks;
+use crate::sound::{SoundPeg, Tables};
+use pegnodes::{Cut, MarkedNodes, cut_templates, find_keys, find_tables};
+use pegread::Expr;
+use ruletable::{Memory, RuleTable};
+use std::alloc::Global;
+use std::marker::Model;
+
+/// A grammar that no note rejects: its rules, a start rule, the rules' bodies cut into numbered nodes, and of each node
+/// a rank. It has none of the tables that a run needs.
+#[derive(Drop)]
+pub struct RankedPeg {
+    rules: RuleTable<Expr>,
+    start: usize,
+    cut: Cut,
+    ranks: Vec<usize>,
+}
+
+impl Model for RankedPeg {
+    ghost use Rattle.gramcheck.specs.Grammar.{Ranked};
+    ghost use Rattle.gramcheck.specs.Sound.{IsRanked};
+    ghost use Rattle.pegnodes.specs.NodeLists.{AreNumbered};
+    ghost use Rattle.pegnodes.specs.Nodes.{shapes_of};
+    ghost use Rattle.pegnodes.specs.contracts.node.Node as n;
+    ghost use Rattle.pegread.specs.PegViews.{rules_of};
+    ghost use Rattle.pegread.specs.contracts.expr.Expr as e;
+    ghost use Rattle.std.specs.Coded.{codes};
+
+    ghost Value = { Ranked };
+
+    ghost coded = { Prim.hlevel (codes, e.the_row.coded, n.the_row.coded) };
+
+    ghost view = { λ p. record {
+      rules = p.rules;
+      start = p.start;
+      nodes = p.cut.nodes.items;
+      bodies = p.cut.bodies.items;
+      ranks = p.ranks.items;
+    } };
+
+    ghost invariant = { λ p. IsRanked (rules_of p.rules) p.start (shapes_of p.cut.nodes.items) p.cut.bodies.items
+        p.ranks.items × AreNumbered (rules_of p.rules) (shapes_of p.cut.nodes.items) p.cut.bodies.items };
+}
+
+impl RankedPeg {
+    /// Returns the grammar of these rules and nodes, with the ranks of its nodes.
+    pub(crate) fn new(
+        rules: RuleTable<Expr>,
+        start: usize,
+        cut: Cut,
+        ranks: Vec<usize>,
+    ) -> RankedPeg
+        requires ranked { IsRanked (rules_of rules) start (shapes_of cut.nodes.items) cut.bodies.items ranks.items }
+        requires numbered { AreNumbered (rules_of rules) (shapes_of cut.nodes.items) cut.bodies.items }
+        ensures rules { result.rules ≡ rules }
+        ensures start { result.start ≡ start }
+    {
+        RankedPeg {
+            rules,
+            start,
+            cut,
+            ranks,
+        }
+    }
+
+    /// Makes the grammar ready to run from its start rule.
+    ///
+    /// # Errors
+    /// `Memory` if an allocation fails; the grammar is dropped then.
+    pub fn ready(self, alloc: Global) -> Result<SoundPeg, Memory>
+        ensures rules { IfOk result (λ g. g.rules ≡ self.rules) }
+        ensures start { IfOk result (λ g. g.start ≡ self.start) }
+        ensures sound { IfOk result IsSoundGrammar }
+        ensures numbered { IfOk result IsNumbered }
+    {
+        let tables = tables_of(alloc, &self.cut, self.start)?;
+        Ok(SoundPeg::new(self.rules, self.start, self.cut, self.ranks, tables))
+    }
+}
+
+// Finds the tables of these nodes. The grammar runs from the rule with the id `start`.
+fn tables_of(alloc: Global, cut: &Cut, start: usize) -> Result<Tables, Memory>
+    requires built { IsBuilt (shapes_of cut.now.nodes.items) }
+    requires bodies { AreBelow cut.now.bodies.items (length cut.now.nodes.items) }
+    requires start { start < length cut.now.bodies.items }
+    ensures { IfOk result (λ t. ((rules : List Rule) → AreBodies rules (shapes_of cut.now.nodes.items)
+        cut.now.bodies.items → ArePrintMarks rules (shapes_of cut.now.nodes.items) t.printing.items)
+        × AreCuts (shapes_of cut.now.nodes.items) t.templates.places.items t.templates.cuts.items
+        × AreMarks start (shapes_of cut.now.nodes.items) cut.now.bodies.items
+        (node_marks (marks_of (shapes_of cut.now.nodes.items) t.keys.nodes.items t.keys.behind.items))
+        (tail_marks (marks_of (shapes_of cut.now.nodes.items) t.keys.nodes.items t.keys.behind.items))
+        × AreStarTables (shapes_of cut.now.nodes.items) cut.now.bodies.items
+        (marks_of (shapes_of cut.now.nodes.items) t.keys.nodes.items t.keys.behind.items)
+        t.stars.places.items t.stars.tables.items) }
+{
+    let printing = print_marks(alloc, &cut.nodes, &cut.bodies)?;
+    let templates = cut_templates(alloc, &cut.nodes)?;
+    let keys = find_keys(alloc, &cut.nodes, &cut.bodies, start)?;
+    let marked = MarkedNodes {
+        nodes: &cut.nodes,
+        bodies: &cut.bodies,
+        keys: &keys.nodes,
+        behind: &keys.behind,
+    };
+    let stars = find_tables(alloc, &marked)?;
+    Ok(Tables {
+        printing,
+        templates,
+        keys,
+        stars,
+    })
+}

@@ -1,0 +1,24 @@
+-- The command of the program, as a parse reads it, and what its words ask for.
+use Prim.Native.Char.{code}
+use Rattle.std.specs.Prelude.{◌≡◌, List, codes}
+use Rattle.clap.specs.Words.{App, Row, Rule, new_app, one_of, with_rule}
+use Rattle.cli.specs.Asked.{is_flagged}
+use Rattle.cli.specs.Command.{AreModes, Names, explain_rule, flag_rule, grammar_rule, with_options}
+use Rattle.pegrun.specs.declared.options.PegOptions.{PegOptions}
+
+-- `-r`
+abbrev pub raw_rule : Rule
+raw_rule = flag_rule (codes "raw") (code "r")
+
+-- `pegi [-m MODE] [-l N] [-s RULE] [-r] [-x] GRAMMAR`
+abbrev pub pegi_app : Names → App
+pegi_app names = with_rule (with_rule (with_rule (with_options names (new_app (codes "pegi"))) raw_rule) explain_rule)
+    grammar_rule
+
+-- this is the command of the program
+abbrev pub IsPegiApp : App → Type 0
+IsPegiApp app = (names : Names) × AreModes names × (app ≡ pegi_app names)
+
+-- the matches ask for these options
+pub record AsksPegi (rows : List Row) (options : PegOptions) : Type 0 where
+  pub raw : options.raw ≡ is_flagged (one_of (codes "raw") rows)

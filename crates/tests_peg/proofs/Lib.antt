@@ -1,2 +1,0 @@
-mod RuleGivesLemmas
-mod TurnsOnLemmas
