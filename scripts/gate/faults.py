@@ -44,6 +44,8 @@ def taken(name, text, texts, told=b"", status=0, words=()):
 
 # Names of runs of abnfi by a grammar that counts how often something nullable is repeated: they have no automaton.
 NO_AUTOMATON = {"a counted repetition of an option"}
+# Names of runs of pegi with a unit of one byte: its text is kept for the next ones where there is memory.
+UNITS_OF_A_BYTE = {"a word replaced", "a stop explained"}
 
 PRINT, CHECK = ("-m", "print"), ("-m", "check")
 YES, NO = b"yes\n", b"no\n"
@@ -195,7 +197,8 @@ def may_go_on(run, number):
     are written by pieces where there is none for their lines, and a unit that is kept may not be asked for."""
     has_automaton = run.program == "abnfi" and "-m" not in run.words and run.name not in NO_AUTOMATON
     has_notes = bool(run.told) and "-x" not in run.words and run.program != "abnfx"
-    keeps_units = run.program == "pegi" and "-x" in run.words and run.status == 0
+    explains = run.program == "pegi" and "-x" in run.words and run.status == 0
+    keeps_units = explains or run.name in UNITS_OF_A_BYTE
     return has_automaton or has_notes or keeps_units or number <= len(run.words) + GROWTHS_OF_WORDS
 
 

@@ -135,7 +135,8 @@ def of_served(top, files):
         if not found:
             yield f"{path}:2: the line is not `-- Serves: ` and public functions"
             continue
-        for name in re.sub(r" \([^)]*\)", "", found.group(1)).split(", "):
+        # A clause may follow a function in brackets, and the crate of functions above, as in `f (c), g; h of crate`.
+        for name in re.split("[,;] ", re.sub(r" \([^)]*\)| of \w+", "", found.group(1))):
             if name.rpartition("::")[2] not in known:
                 yield f"{path}:2: `{name}` is no function"
 

@@ -23,8 +23,8 @@ pub enum Found {
 ///
 /// A line opens a block if it begins, after its margin, with a rule's name and `=`. The block goes on over blank
 /// lines, comments, lines indented deeper and other rules at the same margin. It is read without its margin by
-/// `read_abnf`; if it does not read, its last paragraphs are left out one by one until it does. What is left out is
-/// looked at again. If nothing reads, the line looks like a rule and is none.
+/// `read_definitions`; if it does not read, its last paragraphs are left out one by one until it does. What is left
+/// out is looked at again. If nothing reads, the line looks like a rule and is none.
 ///
 /// # Errors
 /// `Memory` if an allocation fails.

@@ -105,6 +105,5 @@ pub(crate) fn look_at(alloc: Global, lines: &[TextLine<'_>]) -> Result<Look, Mem
         return Ok(Look::NoRule);
     }
     let size = block_size(lines);
-    let look = look_at_block(alloc, &lines[..size])?;
-    Ok(look)
+    look_at_block(alloc, &lines[..size])
 }

@@ -6,7 +6,7 @@ ghost use Rattle.abnfblocks.specs.FoundBlocks.{IsOutcome};
 
 use crate::block::joined_text;
 use crate::rfctext::TextLine;
-use abnfread::read_abnf;
+use abnfread::read_definitions;
 use ruletable::{Memory, ReadFault};
 use std::alloc::Global;
 
@@ -22,7 +22,7 @@ pub(crate) fn fault_of(
     ensures { IfOk result (λ r. IsOutcome (block_text margin_size (map numbered lines.now)) r) }
 {
     let text = joined_text(alloc, margin_size, lines)?;
-    match read_abnf(alloc, &text) {
+    match read_definitions(alloc, &text) {
         Ok(_) => Ok(None),
         Err(ReadFault::Memory) => Err(Memory),
         Err(fault) => Ok(Some(fault)),

@@ -129,6 +129,5 @@ pub(crate) fn is_refused(
     if ids.judged >= prose.len() {
         return Ok(true);
     }
-    let broken = reaches_broken(alloc, &ids.rows, prose, ids.judged)?;
-    Ok(broken)
+    reaches_broken(alloc, &ids.rows, prose, ids.judged)
 }

@@ -34,10 +34,7 @@ fn judged_id(rule: Option<&str>, names: &mut RuleTable<()>) -> Result<usize, Mem
     ensures judged { IfOk result (IsJudged (option_copied rule.entry) (names_of names.new)) }
 {
     match rule {
-        Some(name) => {
-            let id = add_name(name.as_bytes(), names)?;
-            Ok(id)
-        }
+        Some(name) => add_name(name.as_bytes(), names),
         None => Ok(0),
     }
 }

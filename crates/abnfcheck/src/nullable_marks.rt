@@ -18,7 +18,6 @@ pub fn nullable_rules(alloc: Global, grammar: &SoundAbnf) -> Result<Vec<bool>, M
     ensures count { IfOk result (λ marks. length marks.items ≡ length (rules_of grammar.now.rules)) }
     ensures marks { IfOk result (λ marks. AreNullMarks (rules_of grammar.now.rules) marks.items) }
 {
-    let _sound = grammar.judged();
     let mut marks = rule_marks(alloc, Aim::Empty, grammar.rules())?;
     marks.truncate(grammar.rules().len());
     Ok(marks)

@@ -21,7 +21,6 @@ pub fn productive(
 ) -> Result<Vec<bool>, Memory>
     ensures { IfOk result (λ marks. AreProductive alphabet (rules_of grammar.now.rules) marks.items) }
 {
-    let _sound = grammar.judged();
     let mut marks = rule_marks(alloc, Aim::Letters(alphabet), grammar.rules())?;
     marks.truncate(grammar.rules().len());
     Ok(marks)

@@ -77,8 +77,7 @@ impl NameChains {
         let Some(chains) = &self.chains else {
             return Ok(None);
         };
-        let chain = chains.chain_to(alloc, id)?;
-        Ok(chain)
+        Ok(chains.chain_to(alloc, id)?)
     }
 }
 

@@ -168,8 +168,7 @@ fn add_needs(
         Elem::Name(name) => name_need(alloc, rules.len(), rule_id(rules, name)?)?,
         Elem::Prose(_) => never(alloc)?,
     };
-    let n = push_need(needs, need)?;
-    Ok(n)
+    push_need(needs, need)
 }
 
 // Adds the needs of each of them in turn, and returns their numbers.
@@ -236,6 +235,5 @@ pub(crate) fn rule_marks(
 {
     let needs = rule_needs(alloc, aim, rules)?;
     let borrowed = borrowed_needs(alloc, &needs)?;
-    let marks = least(alloc, &borrowed)?;
-    Ok(marks)
+    Ok(least(alloc, &borrowed)?)
 }

@@ -3,7 +3,7 @@ ghost use Rattle.std.specs.Prelude.{◌≡◌};
 ghost use Rattle.abnfcheck.specs.AbnfGrammar.{IsSoundGrammar};
 
 use abnfread::Elem;
-use ruletable::RuleTable;
+use ruletable::{NameCase, RuleTable};
 use std::marker::Model;
 
 /// A grammar by which lines can be judged: the file's rules, then the core rules that it leaves alone, and the judged
@@ -38,9 +38,10 @@ impl SoundAbnf {
         SoundAbnf { rules, judged }
     }
 
-    /// Returns the file's rules, then the core rules that it leaves alone.
+    /// Returns the file's rules, then the core rules that it leaves alone. Their names compare without case.
     pub fn rules(&self) -> &RuleTable<Elem>
-        ensures { result.now ≡ self.now.rules }
+        ensures rules { result.now ≡ self.now.rules }
+        ensures folds { result.now.names ≡ NameCase.Fold }
     {
         &self.rules
     }

@@ -68,8 +68,7 @@ pub fn sound_rules(alloc: Global, rules: &RuleTable<Elem>) -> Result<Vec<bool>, 
     let prose = rules_with_prose(alloc, rules)?;
     let needs = broken_needs(alloc, &ids.rows, &prose)?;
     let broken = least(alloc, &needs)?;
-    let sound = opposites(alloc, &broken[..rules.len()])?;
-    Ok(sound)
+    opposites(alloc, &broken[..rules.len()])
 }
 
 /// Returns a mark for each rule of a table, by id: whether it derives some list of letters of the alphabet, as

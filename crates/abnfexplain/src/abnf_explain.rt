@@ -265,18 +265,11 @@ fn explain_token(alloc: Global, text: &[u8]) -> Result<Vec<u8>, Memory>
     tokens_make_up::<AbnfKind>();
     let decision = deciding_token(alloc, text)?;
     match decision {
-        Some(Decision::Hopeless(refused)) => {
-            let why = hopeless_lines(alloc, text, &refused)?;
-            Ok(why)
-        }
+        Some(Decision::Hopeless(refused)) => hopeless_lines(alloc, text, &refused),
         Some(Decision::TooDeep(token)) => {
-            let why = limit_lines(alloc, text, token, b"200 brackets are open before it\n")?;
-            Ok(why)
+            limit_lines(alloc, text, token, b"200 brackets are open before it\n")
         }
-        Some(Decision::TooLarge(token)) => {
-            let why = limit_lines(alloc, text, token, b"above 4294967295\n")?;
-            Ok(why)
-        }
+        Some(Decision::TooLarge(token)) => limit_lines(alloc, text, token, b"above 4294967295\n"),
         None => unreachable!(),
     }
 }
@@ -293,8 +286,7 @@ pub fn explain_abnf_fault(alloc: Global, text: &[u8], fault: ReadFault) -> Resul
     match fault {
         ReadFault::Memory => Ok(Vec::new(alloc)),
         ReadFault::TooLong => {
-            let why = Vec::from_slice(alloc, b"  a grammar has at most 1048576 bytes\n")?;
-            Ok(why)
+            Ok(Vec::from_slice(alloc, b"  a grammar has at most 1048576 bytes\n")?)
         }
         _ => explain_token(alloc, text),
     }

@@ -52,8 +52,7 @@ pub fn explain_abnf_note(
     ensures { IfOk result (λ why. (text : List ℕ) → AreAbnfPlaces text places.now
         → ExplainsNote text (option_copied start.entry) (said_of note.now) why.items) }
 {
-    let why = explain_note(alloc, places, start, note)?;
-    Ok(why)
+    explain_note(alloc, places, start, note)
 }
 
 /// Says that at most one text explains a note on the grammar of a text.

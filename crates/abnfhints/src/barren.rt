@@ -62,8 +62,7 @@ fn first_definition(alloc: Global, places: &Places, name: &[u8]) -> Result<Vec<u
         kind: NoteKind::Unused,
         name: Vec::from_slice(alloc, name)?,
     };
-    let why = explain_note(alloc, places, None, &note)?;
-    Ok(why)
+    explain_note(alloc, places, None, &note)
 }
 
 // Adds what is reported of a rule that derives nothing.

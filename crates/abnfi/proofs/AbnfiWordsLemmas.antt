@@ -1,14 +1,14 @@
 -- The command of the program is a simple one, and what is found of its words.
--- Serves: Abnfi::follows, Abnfi::options
+-- Serves: Abnfi::follows
 use Rattle.std.proofs.Common.{◌≡◌, ◌∙◌, ap, refl, true, arith}
 use Rattle.std.specs.Prelude.{codes}
-use Rattle.clap.specs.Words.{App, first_value, found_of, is_simple, is_simple_and_free, one_text, rows_of}
+use Rattle.clap.specs.Words.{App, found_of, is_simple, is_simple_and_free, rows_of}
 use Rattle.clap.specs.declared.parser.matches.ArgMatches.{ArgMatches}
-use Rattle.abnfi.specs.AbnfiCommand.{AsksAbnfi, IsAbnfiApp, abnfi_app, alphabet_named}
+use Rattle.abnfi.specs.AbnfiCommand.{AsksAbnfi, IsAbnfiApp, ReadsAbnfi, abnfi_app, alphabet_named}
 use Rattle.abnfrun.specs.declared.options.AbnfOptions.{AbnfOptions}
 use Rattle.cli.proofs.AreWholeLemmas.{first_arg, flag_is, grammar_is, is_command, limit_is}
 use Rattle.cli.proofs.AskLemmas.{first_found, flag_found}
-use Rattle.cli.specs.Asked.{AreWhole, IsFlagOf}
+use Rattle.cli.specs.Asked.{AreWhole}
 use Rattle.cli.specs.Command.{Names}
 use Rattle.cli.specs.Parsing.{IsParsedBy}
 
@@ -39,24 +39,22 @@ is_whole m by =
     }
 
 -- what the getters read of the options is what the rows ask for
-pub options_are : (m : ArgMatches) → IsParsedBy IsAbnfiApp m → (options : AbnfOptions)
-    → options.letters ≡ alphabet_named (first_value (found_of m) (codes "letters"))
-    → IsFlagOf (one_text (found_of m) (codes "viable")) options.viable
-    → IsFlagOf (one_text (found_of m) (codes "nul")) options.nul → AsksAbnfi (rows_of (found_of m)) options
-options_are m by options letters viable nul =
+pub options_are : (m : ArgMatches) (options : AbnfOptions) → IsParsedBy IsAbnfiApp m → ReadsAbnfi (found_of m) options
+    → AsksAbnfi (rows_of (found_of m)) options
+options_are m options by read =
     let app = abnfi_app by.1.0 by.1.2 in
     let c = by.2 in
     let f = found_of m in
     let is = is_command c app (by.3 ∙ by.1.4) refl refl refl in
     let d = first_arg c app.top.rules is (omega arith) in
     record {
-      letters = letters ∙ ap alphabet_named (first_found f (rows_of f) refl (codes "letters"));
+      letters = read.letters ∙ ap alphabet_named (first_found f (rows_of f) refl (codes "letters"));
       viable = flag_found f (rows_of f) refl (codes "viable") options.viable
           (flag_is c app.top.rules is m by.4 d 4 (codes "viable") 119
           (record { named = λ n. cc; help = refl; version = refl })
-          (record { within = omega arith; at = λ q. refl; only = refl })) viable;
+          (record { within = omega arith; at = λ q. refl; only = refl })) read.viable;
       nul = flag_found f (rows_of f) refl (codes "nul") options.nul
           (flag_is c app.top.rules is m by.4 d 5 (codes "nul") 122
           (record { named = λ n. cc; help = refl; version = refl })
-          (record { within = omega arith; at = λ q. refl; only = refl })) nul;
+          (record { within = omega arith; at = λ q. refl; only = refl })) read.nul;
     }

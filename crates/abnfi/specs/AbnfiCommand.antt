@@ -2,10 +2,12 @@
 use Prim.Native.Char.{code}
 use Rattle.std.specs.Prelude.{◌≡◌, ℕ, List, [], ◌∷◌, Option, Some, None, codes, map, if◌then◌else◌}
 use Rattle.std.specs.Str.{bytes_eq}
-use Rattle.clap.specs.Words.{App, Row, Rule, Text, first_of, new_app, new_rule, one_of, with_rule}
+use Rattle.clap.specs.Words.{App, Row, Rule, Text, first_of, first_value, new_app, new_rule, one_of, one_text}
+use Rattle.clap.specs.Words.{with_rule}
 use Rattle.clap.specs.declared.builder.value_parser.ValueParser.TheVariants as vp
+use Rattle.clap.specs.declared.parser.matches.Found.{Found}
 use Rattle.abnfrun.specs.declared.options.AbnfOptions.{AbnfOptions}
-use Rattle.cli.specs.Asked.{is_flagged}
+use Rattle.cli.specs.Asked.{IsFlagOf, is_flagged}
 use Rattle.cli.specs.Command.{AreModes, Names, explain_rule, flag_rule, grammar_rule, with_options}
 use Rattle.letters.specs.declared.alphabet.Alphabet.{Alphabet}
 use Rattle.letters.specs.declared.alphabet.Alphabet.TheVariants.{Bytes, Utf8}
@@ -50,6 +52,12 @@ IsAbnfiApp app = (names : Names) × AreModes names × (alphabets : Names) × Are
 abbrev pub alphabet_named : Option (List ℕ) → Alphabet
 alphabet_named None = Bytes
 alphabet_named (Some name) = if bytes_eq name (codes "utf8") then Utf8 else Bytes
+
+-- these options are read of what is found
+pub record ReadsAbnfi (f : Found) (options : AbnfOptions) : Type 0 where
+  pub letters : options.letters ≡ alphabet_named (first_value f (codes "letters"))
+  pub viable : IsFlagOf (one_text f (codes "viable")) options.viable
+  pub nul : IsFlagOf (one_text f (codes "nul")) options.nul
 
 -- the matches ask for these options
 pub record AsksAbnfi (rows : List Row) (options : AbnfOptions) : Type 0 where

@@ -1,6 +1,7 @@
 //! The command of the program.
 ghost use Rattle.std.specs.Prelude.{◌≡◌, codes, false};
-ghost use Rattle.abnfi.specs.AbnfiCommand.{AreAlphabets, AsksAbnfi, IsAbnfiApp, alphabet_named, letters_rule};
+ghost use Rattle.abnfi.specs.AbnfiCommand.{AreAlphabets, AsksAbnfi, IsAbnfiApp, ReadsAbnfi, alphabet_named};
+ghost use Rattle.abnfi.specs.AbnfiCommand.{letters_rule};
 ghost use Rattle.abnfrun.specs.AbnfAnswers.{AbnfStates};
 ghost use Rattle.clap.specs.Words.{first_value, found_of, rule_of};
 
@@ -57,6 +58,8 @@ impl Program for Abnfi {
     ghost is_app = { IsAbnfiApp };
 
     ghost asks = { AsksAbnfi };
+
+    ghost reads = { ReadsAbnfi };
 
     ghost states = { AbnfStates };
 

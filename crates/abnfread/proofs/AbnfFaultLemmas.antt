@@ -1,10 +1,12 @@
 -- A text has one list of definitions or one fault, unless memory runs out.
 -- Serves: read_abnf, one_reading
-use Rattle.std.proofs.Common.{◌≡◌, ◌≢◌, ℕ, inl, inr, ◌⊎◌, Some, List, refl, sym, ◌∙◌, ap, arith, slice_get, true, false}
+use Rattle.std.proofs.Common.{◌≡◌, ◌≢◌, ℕ, ◌≤◌, inl, inr, ◌⊎◌, Some, List, length, refl, sym, ◌∙◌, ap, arith, slice_get}
+use Rattle.std.proofs.Common.{true, false}
 use Rattle.ruletable.specs.Lines.{line_at}
 use Rattle.ruletable.specs.declared.lines.LineRule.TheVariants.{Lf}
 use Rattle.ruletable.specs.declared.fault.ReadFault.{ReadFault}
 use Rattle.ruletable.specs.declared.fault.ReadFault.TheVariants as faults
+use Rattle.lexer.specs.GrammarLimits.{max_grammar}
 use Rattle.lexer.specs.TokenLists.{Tok, start_of}
 use Rattle.lexer.proofs.TokenListLemmas.{tokens-one}
 use Rattle.lexer.proofs.ViabilityLemmas as lemmas
@@ -125,6 +127,16 @@ one-fault text (faults.NumberTooLarge a) (faults.Syntax b) f g m n = absurd (syn
 one-fault text (faults.NumberTooLarge a) (faults.Depth b) f g m n = absurd (deep-large text b a g f)
 one-fault text (faults.NumberTooLarge a) (faults.NumberTooLarge b) f g m n =
     ap (λ (l : ℕ). faults.NumberTooLarge l) (both-large text a b f g)
+
+-- the fault of a text that is too long
+pub long-fault : (text : List ℕ) → (length text ≤ max_grammar → ⊥) → (fault : ReadFault) → IsFaultOf text fault
+    → fault ≡ faults.TooLong
+long-fault text long (faults.Syntax line) h = absurd (long h.size)
+long-fault text long (faults.Depth line) h = absurd (long h.size)
+long-fault text long (faults.NumberTooLarge line) h = absurd (long h.size)
+long-fault text long faults.TooLong h = refl
+long-fault text long faults.Memory h = absurd (long h)
+long-fault text long (faults.CodePredicate line) h = absurd h
 
 -- no token of what is read decides
 none-decides : (text : List ℕ) (ds : List Definition) (line : ℕ) (D : List Marked → ℕ → Marked → Type 0)

@@ -1,5 +1,5 @@
 -- The body with which a definition begins a rule.
--- Serves: read_abnf
+-- Serves: read_abnf, begun_body
 use Rattle.std.proofs.Common.{◌≡◌, ℕ, ◌<◌, Bool, true, false, cond, ◌&&◌, Option, Some, None, List, [], ◌∷◌, ◌++◌}
 use Rattle.std.proofs.Common.{length, position, nat_lt, suc, ◌+◌, refl, sym, ap, ◌∙◌, arith}
 use Rattle.std.specs.List.{position_or_len}
@@ -11,12 +11,11 @@ use Rattle.ruletable.specs.Rules as table
 use Rattle.ruletable.specs.Rules.{find_in, same_name}
 use Rattle.ruletable.specs.declared.table.NameCase.TheVariants.{Fold}
 use Rattle.abnfread.specs.declared.elem.Elem.{Elem}
-use Rattle.abnfread.specs.declared.reader.Definition.{Definition as CodeDefinition}
-use Rattle.abnfread.specs.AbnfReader.{definition_from}
+use Rattle.abnfread.specs.declared.definition.Definition.{Definition as CodeDefinition}
 use Rattle.abnfread.specs.AbnfTable.{with_alternatives, IsBegun, IsCoreTable, IsFirstBody}
 use Rattle.abnfread.specs.CoreRules.{nowhere, core_list, core_bodies}
 use Rattle.abnfread.specs.Element.{Element, Elements, Prose, Rule, none, more, append, bodies, body_of}
-use Rattle.abnfread.specs.AbnfViews.{element_of, elements_of, rule_of, rules_of}
+use Rattle.abnfread.specs.AbnfViews.{definition_from, element_of, elements_of, rule_of, rules_of}
 use Rattle.abnfread.proofs.AbnfMachineLemmas.{append_assoc}
 use Rattle.abnfread.proofs.CoreRuleLemmas.{found-in}
 use Rattle.abnfread.proofs.ElementListLemmas.{elements_of-push}

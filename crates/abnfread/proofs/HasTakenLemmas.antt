@@ -25,7 +25,7 @@ use Rattle.abnfread.specs.declared.words.Said.{Said as CodeSaid}
 use Rattle.abnfread.specs.AbnfKinds.{ends_list, is_repeat}
 use Rattle.abnfread.specs.AbnfMachine.{Config, start, named, body, done, ended, finish, fresh, awaits, read, step, run}
 use Rattle.abnfread.specs.AbnfMachine.{levels_in}
-use Rattle.abnfread.specs.AbnfReader.{said_of, Steps, Takes, Refuses, IsSaid, sample, is_there}
+use Rattle.abnfread.specs.AbnfReader.{said_of, Steps, Takes, Refuses, sample, is_there}
 use Rattle.abnfread.specs.AbnfReading.{Reads, IsDecidedAt, is_bracket, IsSyntax, IsTooDeep, IsTooLarge}
 use Rattle.abnfread.specs.AbnfSays.{SaysKind, says_name, says_lparen, says_lbrack, Says, says, says_end, SayAll, Viable}
 use Rattle.abnfread.specs.AbnfSays.{IsSmall, AreSmall, IsShallow, AreWithin, IsOver}

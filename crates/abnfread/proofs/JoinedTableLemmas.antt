@@ -13,14 +13,13 @@ use Rattle.ruletable.specs.Rules as table
 use Rattle.ruletable.specs.Rules.{find_in, key_of, same_name, Defines, HasUniqueNames, set_body}
 use Rattle.ruletable.specs.declared.table.NameCase.TheVariants.{Fold}
 use Rattle.abnfread.specs.declared.elem.Elem.{Elem}
-use Rattle.abnfread.specs.declared.reader.Definition.{Definition as CodeDefinition}
-use Rattle.abnfread.specs.AbnfReader.{definition_from}
+use Rattle.abnfread.specs.declared.definition.Definition.{Definition as CodeDefinition}
 use Rattle.abnfread.specs.AbnfTable.{with_alternatives, id_in, begun, firsts, agains, is_early, earlies, IsTableOf}
 use Rattle.abnfread.specs.AbnfTable.{IsExtended, grow_named, TakesDefinition}
 use Rattle.abnfread.specs.AbnfTable.{grows, redefines, extends, begins}
 use Rattle.abnfread.specs.CoreRules.{core_list}
 use Rattle.abnfread.specs.Element.{Element, Rule, Definition, body_of}
-use Rattle.abnfread.specs.AbnfViews.{element_of, rule_of, rules_of}
+use Rattle.abnfread.specs.AbnfViews.{definition_from, element_of, rule_of, rules_of}
 use Rattle.abnfread.proofs.AbnfTableLemmas.{name_of, grow-names, take_all, take-all}
 use Rattle.abnfread.proofs.CoreRuleLemmas.{found-in, some-one}
 

@@ -9,7 +9,6 @@ use Rattle.abnfread.specs.declared.number.NumberFault.{NumberFault}
 use Rattle.abnfread.specs.declared.number.NumberFault.TheVariants as numbers
 use Rattle.abnfread.specs.declared.reader.Stop.{Stop}
 use Rattle.abnfread.specs.declared.reader.Stop.TheVariants as stops
-use Rattle.abnfread.specs.declared.reader.Definition.{Definition as CodeDefinition}
 use Rattle.abnfread.specs.declared.reader.Times.{Times as CodeTimes}
 use Rattle.abnfread.specs.declared.reader.Times.TheVariants as code_times
 use Rattle.abnfread.specs.declared.reader.Bracket.{Bracket as CodeBracket}
@@ -23,9 +22,9 @@ use Rattle.abnfread.specs.AbnfMachine.{awaits, read, Config, start, named, body,
 use Rattle.abnfread.specs.AbnfSays.{SaysKind, Says, IsSmall}
 use Rattle.abnfread.specs.AbnfWords as words
 use Rattle.abnfread.specs.AbnfWords.{Said, Word, word}
-use Rattle.abnfread.specs.Element.{Elements, Definition}
+use Rattle.abnfread.specs.Element.{Elements}
 use Rattle.abnfread.specs.MarkedTokens.{Marked}
-use Rattle.abnfread.specs.AbnfViews.{element_of, elements_of}
+use Rattle.abnfread.specs.AbnfViews.{elements_of, definitions_from}
 
 -- what the code's word stands for
 abbrev pub said_of : CodeSaid → Said
@@ -43,13 +42,6 @@ said_of (code.Values values) = words.Values values.items
 said_of (code.Range low high) = words.Range low high
 said_of (code.Prose text) = words.Prose text.now
 said_of code.End = words.End
-
--- a definition that was read
-abbrev pub definition_from : CodeDefinition → Definition
-definition_from d = record { adds = d.adds; name = d.name.now; span = d.span; body = element_of d.body }
-
-abbrev pub definitions_from : List CodeDefinition → List Definition
-definitions_from ds = map definition_from ds
 
 abbrev pub times_of : CodeTimes → Times
 times_of code_times.Once = just

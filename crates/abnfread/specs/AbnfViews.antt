@@ -1,11 +1,12 @@
--- The elements that the code's stand for.
+-- The elements, rules and definitions that the code's stand for.
 use Rattle.std.specs.Prelude.{List, [], ◌∷◌, map}
 use Rattle.ruletable.specs.Rules as table
+use Rattle.abnfread.specs.declared.definition.Definition.{Definition as CodeDefinition}
 use Rattle.abnfread.specs.declared.elem.Elem.{Elem}
 use Rattle.abnfread.specs.declared.elem.Elem.TheOpen.{Elem-F}
 use Rattle.abnfread.specs.declared.elem.Elem.TheFolds.{fold-Elem}
 use Rattle.abnfread.specs.Element.{Element, Elements, Text, Values, Range, Concat, Alt, Rep, Opt, Name, Prose, none}
-use Rattle.abnfread.specs.Element.{more, Rule}
+use Rattle.abnfread.specs.Element.{more, Rule, Definition}
 
 abbrev pub elements : List Element → Elements
 elements [] = none
@@ -35,3 +36,9 @@ rule_of rule = record { name = rule.name; body = element_of rule.body; span = ru
 
 abbrev pub rules_of : table.Rules Elem → List Rule
 rules_of rules = map rule_of rules.rules
+
+abbrev pub definition_from : CodeDefinition → Definition
+definition_from d = record { adds = d.adds; name = d.name.now; span = d.span; body = element_of d.body }
+
+abbrev pub definitions_from : List CodeDefinition → List Definition
+definitions_from ds = map definition_from ds

@@ -2,6 +2,7 @@
 #![tactic(auto)]
 
 mod appendix;
+mod definition;
 mod elem;
 mod indent;
 mod kind;
@@ -16,10 +17,11 @@ mod table;
 mod words;
 
 pub use appendix::core_rules;
+pub use definition::Definition;
 pub use elem::Elem;
 pub use kind::AbnfKind;
 pub use marked::abnf_tokens;
 pub use marks::{AbnfTokenIter, MarkedToken};
 pub use number::{MAX_REPEAT, MAX_VALUE};
-pub use read::{one_reading, one_tree, read_abnf};
-pub use table::Abnf;
+pub use read::{one_reading, one_tree, read_abnf, read_definitions};
+pub use table::{Abnf, begun_body};

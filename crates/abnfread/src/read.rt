@@ -1,11 +1,12 @@
 //! Reads a grammar's text.
-ghost use Rattle.std.specs.Prelude.{◌≡◌, ◌≢◌, ℕ, ◌<◌, ◌≤◌, List, length, Err, IfOk, IfErr, MatchResult};
-ghost use Rattle.abnfread.specs.AbnfReader.{config_of, definitions_from, IsSaid, Takes};
+ghost use Rattle.std.specs.Prelude.{◌≡◌, ◌≢◌, ℕ, ◌<◌, List, length, Err, IfOk, IfErr, MatchResult};
+ghost use Rattle.abnfread.specs.AbnfReader.{config_of, IsSaid, Takes};
 ghost use Rattle.abnfread.specs.AbnfReading.{Reads, IsFaultOf};
 ghost use Rattle.abnfread.specs.AbnfSays.{SayAll, SaysKind};
 ghost use Rattle.abnfread.specs.AbnfSlices.{White, First};
 ghost use Rattle.abnfread.specs.AbnfSpelling.{Grammar};
 ghost use Rattle.abnfread.specs.AbnfTable.{IsTableOf, IsCoreTable};
+ghost use Rattle.abnfread.specs.AbnfViews.{definitions_from};
 ghost use Rattle.abnfread.specs.AbnfWords.{Said, Word};
 ghost use Rattle.abnfread.specs.Element.{Definition as Read};
 ghost use Rattle.abnfread.specs.MarkedTokens.{AreTokens, Marked, marked_of};
@@ -14,23 +15,30 @@ ghost use Rattle.lexer.specs.TokenLists.{Next, Tok, tok};
 ghost use Rattle.ruletable.specs.Lines.{line_at};
 ghost use Rattle.ruletable.specs.declared.span.Span.{Span};
 
+use crate::definition::Definition;
 use crate::kind::{AbnfKind, is_repeat};
 use crate::marked::abnf_tokens;
 use crate::marks::MarkedToken;
 use crate::number::NumberFault;
-use crate::reader::{Definition, Reader, Stop};
+use crate::reader::{Reader, Stop};
 use crate::table::{Abnf, table_of};
 use crate::words::said_in;
 use lexer::{MAX_GRAMMAR, MAX_OPEN, have_tokens};
 use ruletable::{LineRule, Memory, ReadFault, line_of};
 use std::alloc::Global;
 
-// Reads the definitions of a text that is not too long.
-fn read_definitions(alloc: Global, text: &[u8]) -> Result<Vec<Definition<'_>>, ReadFault>
-    requires { length text.now ≤ max_grammar }
+/// Reads a grammar in ABNF (RFC 5234, RFC 7405), and returns its definitions as they stand, in order. `=` may define a
+/// name again, and `=/` may add to a name that nothing defines.
+///
+/// # Errors
+/// Those of `read_abnf`.
+pub fn read_definitions(alloc: Global, text: &[u8]) -> Result<Vec<Definition<'_>>, ReadFault>
     ensures found { IfOk result (λ ds. Reads text.now (definitions_from ds.items)) }
     ensures fault { IfErr result (λ f. IsFaultOf text.now f) }
 {
+    if text.len() > MAX_GRAMMAR {
+        return Err(ReadFault::TooLong);
+    }
     let mut reader = Reader::new(alloc);
     for token in abnf_tokens(text) {
         let at = token.token.span.start;
@@ -117,9 +125,6 @@ pub fn read_abnf(alloc: Global, text: &[u8]) -> Result<Abnf, ReadFault>
     ensures core { IfOk result (λ abnf. IsCoreTable abnf.core) }
     ensures fault { IfErr result (λ f. IsFaultOf text.now f) }
 {
-    if text.len() > MAX_GRAMMAR {
-        return Err(ReadFault::TooLong);
-    }
     let definitions = read_definitions(alloc, text)?;
     match table_of(alloc, definitions) {
         Ok(abnf) => Ok(abnf),

@@ -4,14 +4,14 @@ ghost use Rattle.abnfread.specs.AbnfMachine as machine;
 ghost use Rattle.abnfread.specs.AbnfMachine.{apply, enclosed, finish, ended, snoc, head, level as a_level, levels_in};
 ghost use Rattle.abnfread.specs.AbnfMachine.{element_step, fresh_step, read_step, named_step, rule_step, close_step};
 ghost use Rattle.abnfread.specs.AbnfMachine.{end_step, first_step, later_step, step};
-ghost use Rattle.abnfread.specs.AbnfReader.{said_of, definition_from, definitions_from, times_of, bracket_of, level_of};
-ghost use Rattle.abnfread.specs.AbnfReader.{levels_of, head_of, ended_of, parts_of, outer_of, body_config, config_of};
-ghost use Rattle.abnfread.specs.AbnfReader.{Steps, sample, is_there};
+ghost use Rattle.abnfread.specs.AbnfReader.{said_of, times_of, bracket_of, level_of, levels_of, head_of, ended_of};
+ghost use Rattle.abnfread.specs.AbnfReader.{parts_of, outer_of, body_config, config_of, Steps, sample, is_there};
 ghost use Rattle.abnfread.specs.AbnfSpelling.{concatenation as concatenation_of, alternation as alternation_of};
 ghost use Rattle.abnfread.specs.AbnfWords.{word};
 ghost use Rattle.abnfread.specs.Element.{none, Definition as D};
-ghost use Rattle.abnfread.specs.AbnfViews.{element_of, elements_of};
+ghost use Rattle.abnfread.specs.AbnfViews.{element_of, elements_of, definition_from, definitions_from};
 
+use crate::definition::Definition;
 use crate::elem::Elem;
 use crate::words::Said;
 use ruletable::Span;
@@ -60,15 +60,6 @@ pub(crate) enum Times {
 pub(crate) enum Bracket {
     Paren,
     Brack,
-}
-
-/// A definition as it was read: whether it adds alternatives, its name and where that stands, and its body.
-#[derive(Drop)]
-pub(crate) struct Definition<'a> {
-    pub(crate) adds: bool,
-    pub(crate) name: &'a [u8],
-    pub(crate) span: Span,
-    pub(crate) body: Elem,
 }
 
 /// What stands round an open bracket: the alternatives that ended, the parts of the last one, how often the bracket

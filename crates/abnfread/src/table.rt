@@ -2,14 +2,16 @@
 ghost use Rattle.std.specs.Prelude.{◌≡◌, ◌<◌, true, false, length, slice_get, None, Some, IfOk};
 ghost use Rattle.ruletable.specs.Rules.{bodies_of, find_in};
 ghost use Rattle.ruletable.specs.declared.table.NameCase.TheVariants.{Fold};
-ghost use Rattle.abnfread.specs.AbnfReader.{definition_from, definitions_from};
 ghost use Rattle.abnfread.specs.AbnfTable.{alternatives_of as alternatives, with_alternatives, IsTableOf, IsCoreTable};
-ghost use Rattle.abnfread.specs.AbnfTable.{IsFirstBody, IsExtended, IsTaken, IsBegun, TakesDefinition};
-ghost use Rattle.abnfread.specs.AbnfViews.{element_of, elements_of};
+ghost use Rattle.abnfread.specs.AbnfTable.{first_body, IsFirstBody, IsExtended, IsTaken, IsBegun, TakesDefinition};
+ghost use Rattle.abnfread.specs.AbnfViews.{element_of, elements_of, definition_from, definitions_from};
+ghost use Rattle.abnfread.specs.CoreRules.{core_list};
+ghost use Rattle.abnfread.specs.Element.{body_of};
 
 use crate::appendix::{core_body, core_rules};
+use crate::definition::Definition;
 use crate::elem::Elem;
-use crate::reader::{Definition, alternation};
+use crate::reader::alternation;
 use ruletable::{Defined, Memory, NameCase, RuleTable};
 use std::alloc::Global;
 use std::mem;
@@ -77,7 +79,7 @@ fn extend(alloc: Global, rules: &mut RuleTable<Elem>, id: usize, body: Elem) -> 
 
 // Returns the body with which a definition that adds alternatives begins a rule, after that of the core rule which it
 // extends, and whether no core rule has the name.
-fn first_body(
+fn added_body(
     alloc: Global,
     core: &RuleTable<Elem>,
     definition: Definition<'_>,
@@ -95,6 +97,22 @@ fn first_body(
     }
 }
 
+/// Returns the body of the rule that a definition begins: after `=/` the alternatives of the core rule of that name, if
+/// there is one, and then its own.
+///
+/// # Errors
+/// `Memory` if an allocation fails.
+pub fn begun_body(alloc: Global, definition: Definition<'_>) -> Result<Elem, Memory>
+    ensures { IfOk result (λ e. element_of e ≡ first_body (body_of core_list) (definition_from definition.entry)) }
+{
+    if !definition.adds {
+        return Ok(definition.body);
+    }
+    let core = core_rules(alloc)?;
+    let (body, _) = added_body(alloc, &core, definition)?;
+    Ok(body)
+}
+
 // Adds the rule of a definition that adds alternatives, and returns whether it extends what no core rule defines.
 fn begin_rule(
     alloc: Global,
@@ -110,7 +128,7 @@ fn begin_rule(
 {
     let name = definition.name;
     let span = definition.span;
-    let (body, early) = first_body(alloc, core, definition)?;
+    let (body, early) = added_body(alloc, core, definition)?;
     rules.define(name, body, span)?;
     Ok(early)
 }

@@ -49,6 +49,5 @@ pub(crate) fn hints_of(
         letters: settings.options.letters,
         end: line_end(settings.options.nul),
     };
-    let hints = abnf_hints(alloc, &hinted)?;
-    Ok(hints)
+    abnf_hints(alloc, &hinted)
 }

@@ -3,7 +3,6 @@ pub mod EachLemmas
 pub mod JoinRunLemmas
 pub mod JoinedGrammarLemmas
 pub mod JoinedReplyLemmas
-pub mod OwnRuleLemmas
 pub mod OneDefinitionLemmas
 pub mod OneRuleLemmas
 pub mod OwnLinesLemmas
@@ -23,5 +22,4 @@ pub mod LineEndLemmas
 pub mod LinkedTextLemmas
 pub mod LinkedTokenLemmas
 pub mod MovedWordLemmas
-pub mod AddNumberLemmas
 pub mod ListNamesLemmas

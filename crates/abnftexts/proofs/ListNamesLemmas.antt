@@ -1,16 +1,16 @@
 -- The numbers of rules that are listed, and the first of them.
 -- Serves: find_fates, find_order, find_clashes, join_texts
-use Rattle.std.proofs.Common.{◌≡◌, ℕ, suc, zero, ◌+◌, ◌<◌, ◌&&◌, ◌||◌, not, Bool, true, false, cond, List, [], ◌∷◌}
-use Rattle.std.proofs.Common.{◌++◌, length, map, get_or, take, drop, refl, sym, ap, ◌∙◌, arith, if◌then◌else◌, add-one}
+use Rattle.std.proofs.Common.{◌≡◌, ℕ, suc, ◌+◌, ◌&&◌, ◌||◌, not, Bool, true, false, cond, List, [], ◌∷◌}
+use Rattle.std.proofs.Common.{length, map, drop, refl, sym, ap, ◌∙◌, arith, if◌then◌else◌, add-one}
 use Rattle.std.proofs.Common.{inl, inr, Global, Vec}
 use Rattle.std.proofs.lemmas.Bool.{cases_Bool}
 use Rattle.std.proofs.lemmas.List.{length-map}
-use Rattle.std.specs.List.{enumerate_from, filter, find, list_any, prefix_len}
+use Rattle.std.specs.List.{enumerate_from, filter, list_any, prefix_len}
 use Rattle.std.specs.Option.{unwrap_or}
 use Rattle.std.specs.Prelude.{slice_get, IfOk, Result, Ok, Err}
-use Rattle.ruletable.specs.Rules.{Rule, Rules, same_name}
+use Rattle.ruletable.specs.Rules.{Rules, same_name}
 use Rattle.ruletable.specs.declared.table.NameCase.TheVariants.{Fold}
-use Rattle.diagnostics.specs.NumberLists.{list_of, numbers_for, positions_from}
+use Rattle.diagnostics.specs.NumberLists.{numbers_for, positions_from}
 use Rattle.abnftexts.specs.GivenRules.{RuleGiven, first_wanted, text_rule, yields_to}
 use Rattle.abnftexts.specs.JoinedRules.{adding_numbers}
 use Rattle.abnftexts.specs.ListedRules.{has_some, is_listed_for}
@@ -19,23 +19,6 @@ use Rattle.abnftexts.specs.declared.join.by_name.Listed.TheVariants.{Additions, 
 use Rattle.abnftexts.specs.declared.join.given.GivenRule.{GivenRule}
 
 module _ {A : Type 0} (p : A → Bool) where
-  more-first : (t : Bool) (n : ℕ) (a b c : List ℕ) → a ≡ b ++ c → cond t (n ∷ a) a ≡ cond t (n ∷ b) b ++ c
-  more-first true n a b c h = ap (λ (l : List ℕ). n ∷ l) h
-  more-first false n a b c h = h
-
-  -- one element more
-  positions-more : (n : ℕ) (xs : List A) (i m : ℕ) (d : A) → i < length xs → m ≡ n + i
-      → positions_from n p (take (suc i) xs)
-      ≡ positions_from n p (take i xs) ++ (if p (get_or xs i d) then m ∷ [] else [])
-  positions-more n [] i m d lt is = absurd (omega (arith, lt))
-  positions-more n (x ∷ xs) zero m d lt is =
-      let same : n ≡ m = omega (arith, is) in
-      ap (λ (k : ℕ). if p x then k ∷ [] else []) same
-  positions-more n (x ∷ xs) (suc i) m d lt is =
-      more-first (p x) n (positions_from (suc n) p (take (suc i) xs)) (positions_from (suc n) p (take i xs))
-      (if p (get_or xs i d) then m ∷ [] else [])
-      (positions-more (suc n) xs i m d (omega (arith, lt)) (omega (arith, is)))
-
   -- the first position is where nothing before passes
   first-position : (n : ℕ) (xs : List A) → unwrap_or (slice_get (positions_from n p xs) 0) (n + length xs)
       ≡ n + prefix_len (λ x. not (p x)) xs
@@ -113,25 +96,8 @@ module _ {A : Type 0} (p q : A → Bool) where
           rw (fails, next) (omega (arith, rest))
 
 module _ (passes : List ℕ → RuleGiven → Bool) (rules : List GivenRule) where
-  abbrev pub passes_for : List ℕ → GivenRule → Bool
+  abbrev passes_for : List ℕ → GivenRule → Bool
   passes_for name rule = passes name (text_rule rule)
-
-  -- the lists of no rule, and those of one rule more
-  pub lists-none : (lists : Rules (Vec ℕ Global)) → lists.rules ≡ [] → (name : List ℕ)
-      → numbers_for lists name ≡ positions_from 0 (passes_for name) (take 0 rules)
-  lists-none lists none name = ap (λ (rows : List (Rule (Vec ℕ Global))). list_of
-      (find (λ row. same_name lists.names name row.name) rows)) none
-
-  pub lists-more : (old new : Rules (Vec ℕ Global)) (i : ℕ) (x : GivenRule) → i < length rules → x ≡ get_or rules i x
-      → ((name : List ℕ) → numbers_for old name ≡ positions_from 0 (passes_for name) (take i rules))
-      → ((name : List ℕ) → numbers_for new name ≡ numbers_for old name ++ (if passes_for name x then i ∷ [] else []))
-      → (name : List ℕ) → numbers_for new name ≡ positions_from 0 (passes_for name) (take (i + 1) rules)
-  lists-more old new i x lt is so_far more name =
-      more name ∙ ap (λ (l : List ℕ). l ++ (if passes_for name x then i ∷ [] else [])) (so_far name)
-      ∙ ap (λ (y : GivenRule). positions_from 0 (passes_for name) (take i rules)
-      ++ (if passes_for name y then i ∷ [] else [])) is
-      ∙ sym (positions-more (passes_for name) 0 rules i i x lt (omega arith))
-      ∙ ap (λ (k : ℕ). positions_from 0 (passes_for name) (take k rules)) (sym (add-one i))
 
   -- the first number of a list
   pub first-listed : (name numbers : List ℕ) → numbers ≡ positions_from 0 (passes_for name) rules

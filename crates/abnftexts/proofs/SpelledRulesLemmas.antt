@@ -15,7 +15,7 @@ use Rattle.ruletable.specs.declared.fault.ReadFault.TheVariants as faults
 use Rattle.abnfread.specs.AbnfReading.{IsFaultOf, Reads}
 use Rattle.abnfread.specs.AbnfSlices.{Run, none, more, White, blank, comment, is_inside}
 use Rattle.abnfread.specs.Element.{Definition}
-use Rattle.abnfread.proofs.AbnfFaultLemmas.{no-fault, one-reading}
+use Rattle.abnfread.proofs.AbnfFaultLemmas.{long-fault, no-fault, one-reading}
 use Rattle.abnfblocks.specs.TextBlocks.{block_text}
 use Rattle.abnftexts.specs.GivenRules.{RuleGiven, fates_of}
 use Rattle.abnftexts.specs.JoinedRules.{joined_order}
@@ -209,17 +209,7 @@ pub joined-alone : {texts : List NamedText} {j : GrammarJoined} {definitions : L
     × SameUnplaced definitions alone × (map given_by definitions ≡ joined_rules a.gathered)
 joined-alone a h = text-alone (printed-spells (joined-placed a)) (ap (λ (x : GrammarJoined). x.grammar) a.is) h
 
--- the fault of a text that would read, were it not too long
-long-fault : (text : List ℕ) → (length text ≤ MAX_GRAMMAR → ⊥) → (fault : ReadFault) → IsFaultOf text fault
-    → fault ≢ faults.Memory → fault ≡ faults.TooLong
-long-fault text long (faults.Syntax line) h n = absurd (long h.size)
-long-fault text long (faults.Depth line) h n = absurd (long h.size)
-long-fault text long (faults.NumberTooLarge line) h n = absurd (long h.size)
-long-fault text long faults.TooLong h n = refl
-long-fault text long faults.Memory h n = absurd (n refl)
-long-fault text long (faults.CodePredicate line) h n = absurd h
-
 pub joined-long : {texts : List NamedText} {j : GrammarJoined} (fault : ReadFault) → AreTextsJoined texts j
     → j.grammar ≢ [] → IsFaultOf j.grammar fault → fault ≢ faults.Memory → fault ≡ faults.TooLong
 joined-long {j = j} fault a some h n =
-    long-fault j.grammar (λ le. let r = joined-reads a some le in n (no-fault j.grammar r.0 fault r.1 h)) fault h n
+    long-fault j.grammar (λ le. let r = joined-reads a some le in n (no-fault j.grammar r.0 fault r.1 h)) fault h

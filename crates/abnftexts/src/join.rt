@@ -11,7 +11,7 @@ mod only_prose;
 mod order;
 mod same;
 
-pub(crate) use by_name::{Listed, add_number, numbers_by_name, numbers_of};
+pub(crate) use by_name::{Listed, numbers_by_name};
 pub use fate::{Fate, find_fates};
 pub use given::GivenRule;
 pub use linked::linked_reading;

@@ -10,10 +10,11 @@ ghost use Rattle.abnftexts.specs.CodeUses.{ListsMore, is_unknown, name_used, unk
 ghost use Rattle.abnftexts.specs.ListedRules.{has_list};
 ghost use Rattle.abnftexts.specs.UsedNames.{undefined_line, undefined_told};
 
-use crate::join::{GivenRule, Listed, add_number, numbers_by_name, numbers_of};
+use crate::join::{GivenRule, Listed, numbers_by_name};
 use crate::told::push_place;
 use crate::uses::NameUse;
 use abnfread::{Elem, core_rules};
+use diagnostics::{add_number, numbers_of};
 use ruletable::{Memory, RuleTable};
 use std::alloc::Global;
 

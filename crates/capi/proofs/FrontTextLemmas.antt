@@ -1,9 +1,9 @@
 -- The messages that stand once for all windows, and the runs after them.
 -- Serves: peg_windows
-use Rattle.std.proofs.Common.{◌≡◌, ℕ, List, [], ◌++◌, refl, sym, ◌∙◌, ap, append-nil, inr}
-use Rattle.std.specs.Prelude.{Result, Ok, Err}
+use Rattle.std.proofs.Common.{ℕ, List, [], ◌++◌, refl, sym, ap, append-nil, inr}
+use Rattle.std.specs.Prelude.{Result, Err}
 use Rattle.capi.proofs.WindowRunsLemmas.{behind_as, planned_is_behind}
-use Rattle.capi.specs.FrontText.{IsFrontOf, StandsFirst, fault_told, not_told, quieted, told_once}
+use Rattle.capi.specs.FrontText.{IsFrontOf, StandsFirst, not_told, refused_once, told_once}
 use Rattle.capi.specs.WindowRuns.{WindowRun}
 use Rattle.capi.specs.WindowsRun.{IsRunBehind, stops_early}
 use Rattle.memoryrun.specs.PlannedRun.{IsPlannedRun}
@@ -17,8 +17,7 @@ use Rattle.toolrun.specs.Plan.{Behind, IsPlanned, behind_notes, does_of, in_repl
 use Rattle.toolrun.specs.Reply.{Reply}
 use Rattle.toolrun.specs.declared.status.Status.TheVariants as status
 use Rattle.toolrun.specs.declared.stop.Stop.{Stop}
-use Rattle.toolrun.specs.declared.stop.Stop.TheVariants.{Quiet, NoMatch, LongUnit, LongLine, Broken, NoMemory, Refused}
-use Rattle.toolrun.specs.declared.stop.Stop.TheVariants.{Unreadable}
+use Rattle.toolrun.specs.declared.stop.Stop.TheVariants.{Quiet, Refused}
 
 module _ {T : Type 0} (States : Input → List ℕ → Reply → Type 0) (Does : T → Input → Reply → Type 0)
     (first : List ℕ) where
@@ -40,35 +39,15 @@ module _ {T : Type 0} (States : Input → List ℕ → Reply → Type 0) (Does :
           (told_behind first (stopped (Refused fault))) _ p refl refl (append-nil (first ++ fault_text fault))
           (inr (IsBeginning-nil (first ++ fault_text fault), refl)) p.states.1 s
 
-  -- there is no fault
-  behind_notes_alone : (task : Result T Stop) (told : List ℕ) → told ≡ first ++ []
-      → IsPlanned States first Does task → (bytes : List ℕ) (run : WindowRun)
-      → IsPlannedRun (does_of Does task) bytes run.out run.err run.code
-      → IsRunBehind States told bytes run
-  behind_notes_alone task told is plan bytes run p =
-      rw (is ∙ append-nil first)
-      (planned_is_behind States first (does_of Does task) (plan_stated States first Does task plan) bytes run p)
-
-  behind_all : (task : Result T Stop) (told : List ℕ) → told ≡ first ++ fault_told task
-      → IsPlanned States first Does task → (bytes : List ℕ) (run : WindowRun)
-      → IsPlannedRun (does_of Does (quieted task)) bytes run.out run.err run.code
-      → IsRunBehind States told bytes run
-  behind_all (Ok t) = behind_notes_alone (Ok t)
-  behind_all (Err (Quiet code)) = behind_notes_alone (Err (Quiet code))
-  behind_all (Err (NoMatch s)) = behind_notes_alone (Err (NoMatch s))
-  behind_all (Err (LongUnit s limit)) = behind_notes_alone (Err (LongUnit s limit))
-  behind_all (Err (LongLine n limit)) = behind_notes_alone (Err (LongLine n limit))
-  behind_all (Err Broken) = behind_notes_alone (Err Broken)
-  behind_all (Err NoMemory) = behind_notes_alone (Err NoMemory)
-  behind_all (Err (Refused fault)) = λ told is plan bytes run p. rw is (behind_fault fault plan bytes run p)
-  behind_all (Err Unreadable) = behind_notes_alone (Err Unreadable)
-
   -- the run of a window, after the messages that stand once
   pub front_is_behind : (task rest : Result T Stop) (told : List ℕ) → IsFrontOf first task told rest
       → IsPlanned States first Does task → (bytes : List ℕ) (run : WindowRun)
       → IsPlannedRun (does_of Does rest) bytes run.out run.err run.code
       → IsRunBehind States told bytes run
-  front_is_behind task rest told (told_once is) = behind_all task told is
+  front_is_behind task rest told (told_once other is) = λ plan bytes run p.
+      rw is (planned_is_behind States first (does_of Does task) (plan_stated States first Does task plan) bytes run p)
+  front_is_behind task rest told (refused_once fault refused is) = λ plan bytes run p.
+      rw is (behind_fault fault (rw refused at plan) bytes run p)
   front_is_behind task rest told (not_told is) = λ plan bytes run p. stops_early is p
 
   stands_before : (told : List ℕ) (input : Input) (reply : Reply) → Behind States input first reply
@@ -77,31 +56,16 @@ module _ {T : Type 0} (States : Input → List ℕ → Reply → Type 0) (Does :
   stands_before told input reply (behind_notes s) b = (first, reply, s, b)
   stands_before told input reply (in_reply empty s) b = ([], told_behind first reply, s, b)
 
-  stands_alone : (task : Result T Stop) (told : List ℕ) → told ≡ first ++ [] → IsPlanned States first Does task
-      → StandsFirst States told
-  stands_alone task told is plan = λ input.
-      let some = plan_some States first Does task plan input in
-      stands_before told input some.0 (plan_stated States first Does task plan input some.0 some.1)
-      (some.0.err, ap (λ (w : List ℕ). w ++ some.0.err) (sym (is ∙ append-nil first)))
-
-  stands_once : (task : Result T Stop) (told : List ℕ) → told ≡ first ++ fault_told task
-      → IsPlanned States first Does task → StandsFirst States told
-  stands_once (Ok t) told = stands_alone (Ok t) told
-  stands_once (Err (Quiet code)) told = stands_alone (Err (Quiet code)) told
-  stands_once (Err (NoMatch s)) told = stands_alone (Err (NoMatch s)) told
-  stands_once (Err (LongUnit s limit)) told = stands_alone (Err (LongUnit s limit)) told
-  stands_once (Err (LongLine n limit)) told = stands_alone (Err (LongLine n limit)) told
-  stands_once (Err Broken) told = stands_alone (Err Broken) told
-  stands_once (Err NoMemory) told = stands_alone (Err NoMemory) told
-  stands_once (Err (Refused fault)) told = λ is plan input.
-      stands_before told input (stopped (Refused fault)) (plan input)
-      (rw is (IsBeginning-same (first ++ fault_text fault)))
-  stands_once (Err Unreadable) told = stands_alone (Err Unreadable) told
-
   -- the messages that stand once are a prefix of those on each input
   pub front_stands_first : (task rest : Result T Stop) (told : List ℕ) → IsFrontOf first task told rest
       → IsPlanned States first Does task → StandsFirst States told
-  front_stands_first task rest told (told_once is) plan = stands_once task told is plan
+  front_stands_first task rest told (told_once other is) plan = λ input.
+      let some = plan_some States first Does task plan input in
+      stands_before told input some.0 (plan_stated States first Does task plan input some.0 some.1)
+      (some.0.err, ap (λ (w : List ℕ). w ++ some.0.err) (sym is))
+  front_stands_first task rest told (refused_once fault refused is) plan = λ input.
+      stands_before told input (stopped (Refused fault)) ((rw refused at plan) input)
+      (rw is (IsBeginning-same (first ++ fault_text fault)))
   front_stands_first task rest told (not_told is) plan = λ input.
       let some = plan_some States first Does task plan input in
       stands_before told input some.0 (plan_stated States first Does task plan input some.0 some.1)

@@ -1,5 +1,7 @@
 -- What a call that opens a grammar leaves.
-use Rattle.std.specs.Prelude.{◌≡◌, ◌≢◌, ℕ, List, [], ◌++◌, Option, Some, None, IsSome}
+use Rattle.std.proofs.Common.{Global, Vec}
+use Rattle.std.specs.Prelude.{◌≡◌, ◌≢◌, ℕ, Bool, List, [], ◌++◌, Option, Some, None, IsSome, Result, Ok, Err}
+use Rattle.std.specs.Prelude.{if◌then◌else◌}
 use Rattle.capi.specs.Asking.{IsMeant, IsInvalid}
 use Rattle.capi.specs.BufferRun.{Filled, IsLaid, IsUntouched}
 use Rattle.capi.specs.declared.asked.CSettings.{CSettings}
@@ -10,6 +12,16 @@ use Rattle.ruletable.specs.declared.fault.ReadFault.TheVariants.{Memory}
 use Rattle.toolrun.specs.Explained.{Explained}
 use Rattle.toolrun.specs.ToldNotes.{HintedNotes}
 use Rattle.toolrun.specs.declared.settings.Settings.{Settings}
+
+-- what is told in opening a text: nothing where an allocation failed. It serves private helpers alone.
+abbrev pub text_told : {E : Type 0} → Result (Vec ℕ Global) E → List ℕ
+text_told (Ok text) = text.items
+text_told (Err fault) = []
+
+-- the status then, by whether a grammar is open. It serves private helpers alone.
+abbrev pub code_told : {T E : Type 0} → Result T E → Bool → ℕ
+code_told (Ok text) is_open = if is_open then 0 else 2
+code_told (Err fault) is_open = 5
 
 -- The messages on a text that is not read, and the status: its fault, explained if the settings ask for that; or an
 -- allocation failed. HasFault says what is wrong with the text, and Why which lines explain it.

@@ -1,10 +1,12 @@
 //! The messages on a grammar, which stand once before those of its runs.
-ghost use Rattle.std.specs.Prelude.{◌≡◌, ◌++◌, false, IfOk};
-ghost use Rattle.capi.specs.FrontText.{IsFrontOf, fault_told, quieted};
-ghost use Rattle.ruletable.specs.Writing.{Flags, Writes};
+ghost use Rattle.std.specs.Prelude.{◌≡◌, ◌≢◌, ◌++◌, Err, IfOk, MatchOption};
+ghost use Rattle.capi.specs.FrontText.{IsFrontOf};
+ghost use Rattle.ruletable.specs.Faults.{fault_text};
+ghost use Rattle.ruletable.specs.declared.fault.ReadFault.{ReadFault as Fault};
 ghost use Rattle.toolrun.specs.Plan.{first_text};
+ghost use Rattle.toolrun.specs.declared.stop.Stop.TheVariants.{Refused};
 
-use ruletable::{Memory, Sink, SinkOf, WriteFault, write_fault};
+use ruletable::{Memory, ReadFault, SinkOf, write_fault};
 use std::alloc::Global;
 use toolrun::{First, Plan, Status, Stop, write_first};
 
@@ -26,37 +28,25 @@ pub(crate) fn text_of_first(alloc: Global, first: &First) -> Result<Vec<u8>, Mem
     }
 }
 
-/// Writes the fault of a grammar's text, if that is what stops a run.
-fn write_refusal<T, W: Sink>(task: &Result<T, Stop>, w: &mut W) -> Result<(), WriteFault>
-    requires { W.failed w.old ≡ false }
-    ensures bytes { Writes (W.contents w.old) (W.contents w.new) (fault_told task.now) result }
-    ensures flag { Flags (W.failed w.old) (W.failed w.new) result }
-{
-    match task {
-        Err(Stop::Refused(fault)) => write_fault(fault, w),
-        _ => Ok(()),
-    }
-}
-
-/// Returns the messages that stand once: the first messages of a plan, and the fault that stops it. Returns `Memory` if
-/// an allocation fails.
-fn front_text<T>(alloc: Global, first: &First, task: &Result<T, Stop>) -> Result<Vec<u8>, Memory>
-    ensures { IfOk result (λ text. text.items ≡ first_text first.now ++ fault_told task.now) }
+/// Returns the first messages and the fault of a grammar's text after them. Returns `Memory` if an allocation fails.
+fn text_of_refusal(alloc: Global, first: &First, fault: &ReadFault) -> Result<Vec<u8>, Memory>
+    ensures { IfOk result (λ text. text.items ≡ first_text first.now ++ fault_text fault.now) }
 {
     let mut text = SinkOf::new(text_of_first(alloc, first)?);
-    match write_refusal(task, &mut text) {
+    match write_fault(fault, &mut text) {
         Ok(()) => Ok(text.into_inner()),
         Err(_) => Err(Memory),
     }
 }
 
-/// Returns the task that is left after the fault of a grammar's text was reported.
-fn behind_fault<T: Drop>(task: Result<T, Stop>) -> Result<T, Stop>
-    ensures { result ≡ quieted task }
+/// Returns the fault of a grammar's text that stops a run; `None` if no such fault does.
+fn refused_by<T>(task: &Result<T, Stop>) -> Option<ReadFault>
+    ensures { MatchOption result ((fault : Fault) → task.now ≢ Err (Refused fault))
+        (λ fault. task.now ≡ Err (Refused fault)) }
 {
     match task {
-        Err(Stop::Refused(_)) => Err(Stop::Quiet(Status::Refused)),
-        other => other,
+        Err(Stop::Refused(fault)) => Some(*fault),
+        _ => None,
     }
 }
 
@@ -67,13 +57,17 @@ pub fn front_of<G: Drop, S: Drop>(alloc: Global, plan: Plan<G, S>) -> Front<G, S
     ensures { IsFrontOf (first_text plan.first) plan.task result.told.items result.plan.task }
 {
     let Plan { first, task } = plan;
-    match front_text(alloc, &first, &task) {
+    let (told, task) = match refused_by(&task) {
+        Some(fault) => {
+            let told = text_of_refusal(alloc, &first, &fault);
+            (told, Err(Stop::Quiet(Status::Refused)))
+        }
+        None => (text_of_first(alloc, &first), task),
+    };
+    match told {
         Ok(told) => Front {
             told,
-            plan: Plan {
-                first,
-                task: behind_fault(task),
-            },
+            plan: Plan { first, task },
         },
         Err(Memory) => Front {
             told: Vec::new(alloc),

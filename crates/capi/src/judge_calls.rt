@@ -7,10 +7,10 @@ ghost use Rattle.capi.specs.GrammarOpenings.{IsAbnfOpening};
 
 use crate::answer::{CAnswer, judge_line, without_answer};
 use crate::asked::{BAD_SETTINGS, CSettings, settings_of};
-use crate::buffer::lay;
 use crate::judge::{CJudge, put_judge, take_judge};
-use crate::opening::open_into;
+use crate::opening::open_judge;
 use crate::result::{CResult, nothing_done};
+use crate::told::lay_told;
 use abnfrun::AbnfOptions;
 use std::alloc::Global;
 
@@ -40,12 +40,8 @@ pub fn abnf_open(
     let Some(settings) = settings_of::<AbnfOptions>(asked, name) else {
         return nothing_done();
     };
-    let told = open_into(alloc, grammar, &settings, place);
-    CResult {
-        out_len: 0,
-        err_len: lay(told.text.as_slice(), err),
-        status: told.status.code(),
-    }
+    let told = open_judge(alloc, grammar, &settings, place);
+    lay_told(told, place.is_open, err)
 }
 
 /// Judges a line, which may hold any bytes. A line without the byte that ends lines gets the answer of `run_abnf` for

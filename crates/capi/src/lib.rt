@@ -12,7 +12,6 @@ mod judge_box;
 mod judge_calls;
 mod loose;
 mod opening;
-mod peg_opening;
 mod place;
 mod result;
 mod runner;

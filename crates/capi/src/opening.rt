@@ -1,62 +1,61 @@
-//! A grammar in ABNF that is opened for C.
-ghost use Rattle.std.specs.Prelude.{◌≡◌, None, map};
-ghost use Rattle.abnfrun.specs.OpenAbnf.{IsOpened};
-ghost use Rattle.capi.specs.GrammarOpenings.{IsAbnfOpening};
-ghost use Rattle.ruletable.specs.Notes.{said_of};
-ghost use Rattle.toolrun.specs.Status.{code_of};
+//! Opens a grammar for C.
+ghost use Rattle.std.specs.Prelude.{◌≡◌, is_some, None};
+ghost use Rattle.capi.specs.GrammarOpenings.{IsAbnfOpening, IsPegOpening};
+ghost use Rattle.capi.specs.OpenCall.{code_told, text_told};
 
 use crate::judge::{CJudge, put_judge};
-use crate::told::{Told, tell_fault, text_of_notes, told_nothing};
+use crate::place::{CRunner, put_runner};
+use crate::runs::runner_by;
+use crate::told::{text_of_fault, text_of_notes};
 use abnfrun::{AbnfLanguage, AbnfSettings, OpenedAbnf, open_abnf};
+use pegrun::{OpenedPeg, PegLanguage, PegSettings, open_peg};
+use ruletable::Memory;
 use std::alloc::Global;
-use toolrun::Status;
 
-/// Reports the notes on a grammar that was opened, and puts its judge, if there is one, into an empty place.
-fn place_opened(
+/// Opens a grammar in ABNF, and puts its judge, if there is one, into an empty place. Returns what is told of the
+/// grammar, or `Memory` if an allocation fails.
+pub(crate) fn open_judge(
     alloc: Global,
     grammar: &[u8],
     settings: &AbnfSettings<'_>,
-    opened: OpenedAbnf,
     place: &mut CJudge,
-) -> Told
-    requires empty { place.old.judge.held ≡ None }
-    requires opened { IsOpened grammar.now settings.now (map said_of opened.notes.items) opened.judge }
-    ensures { IsAbnfOpening grammar.now settings.now result.text.items place.new.judge.held (code_of result.status) }
+) -> Result<Vec<u8>, Memory>
+    requires { place.old.judge.held ≡ None }
+    ensures { IsAbnfOpening grammar.now settings.now (text_told result) place.new.judge.held
+        (code_told result (is_some place.new.judge.held)) }
 {
-    let OpenedAbnf { notes, judge } = opened;
-    let Ok(text) = text_of_notes::<AbnfLanguage>(alloc, grammar, settings, notes) else {
-        return told_nothing(alloc);
+    let OpenedAbnf { notes, judge } = match open_abnf(alloc, grammar, settings) {
+        Ok(opened) => opened,
+        Err(fault) => return text_of_fault::<AbnfLanguage>(alloc, grammar, settings, fault),
     };
+    let text = text_of_notes::<AbnfLanguage>(alloc, grammar, settings, notes)?;
     let Some(judge) = judge else {
-        return Told {
-            text,
-            status: Status::Refused,
-        };
+        return Ok(text);
     };
-    match Box::new(alloc, judge) {
-        Ok(judge) => {
-            put_judge(judge, place);
-            Told {
-                text,
-                status: Status::Done,
-            }
-        }
-        Err(_) => told_nothing(alloc),
-    }
+    put_judge(Box::new(alloc, judge)?, place);
+    Ok(text)
 }
 
-/// Opens a grammar's text, and puts its judge into an empty place.
-pub(crate) fn open_into(
+/// Opens a grammar of peg(1), and puts its runner, if there is one, into an empty place. Returns what is told of the
+/// grammar, or `Memory` if an allocation fails.
+pub(crate) fn open_runner(
     alloc: Global,
     grammar: &[u8],
-    settings: &AbnfSettings<'_>,
-    place: &mut CJudge,
-) -> Told
-    requires { place.old.judge.held ≡ None }
-    ensures { IsAbnfOpening grammar.now settings.now result.text.items place.new.judge.held (code_of result.status) }
+    settings: &PegSettings<'_>,
+    place: &mut CRunner,
+) -> Result<Vec<u8>, Memory>
+    requires { place.old.runner.held ≡ None }
+    ensures { IsPegOpening grammar.now settings.now (text_told result) place.new.runner.held
+        (code_told result (is_some place.new.runner.held)) }
 {
-    match open_abnf(alloc, grammar, settings) {
-        Ok(opened) => place_opened(alloc, grammar, settings, opened, place),
-        Err(fault) => tell_fault::<AbnfLanguage>(alloc, grammar, settings, fault),
-    }
+    let OpenedPeg { notes, runner } = match open_peg(alloc, grammar, settings) {
+        Ok(opened) => opened,
+        Err(fault) => return text_of_fault::<PegLanguage>(alloc, grammar, settings, fault),
+    };
+    let text = text_of_notes::<PegLanguage>(alloc, grammar, settings, notes)?;
+    let Some(peg) = runner else {
+        return Ok(text);
+    };
+    put_runner(Box::new(alloc, runner_by(peg, settings))?, place);
+    Ok(text)
 }

@@ -6,12 +6,12 @@ ghost use Rattle.capi.specs.GrammarOpenings.{IsPegOpening};
 ghost use Rattle.capi.specs.RunCall.{IsRunCall};
 
 use crate::asked::{CSettings, settings_of};
-use crate::buffer::lay;
 use crate::calls::hand_out;
-use crate::peg_opening::open_runner;
+use crate::opening::open_runner;
 use crate::place::{CRunner, put_runner, take_runner};
 use crate::result::{CResult, nothing_done};
 use crate::runs::run_input;
+use crate::told::lay_told;
 use pegrun::PegOptions;
 use std::alloc::Global;
 
@@ -41,11 +41,7 @@ pub fn peg_open(
         return nothing_done();
     };
     let told = open_runner(alloc, grammar, &settings, place);
-    CResult {
-        out_len: 0,
-        err_len: lay(told.text.as_slice(), err),
-        status: told.status.code(),
-    }
+    lay_told(told, place.is_open, err)
 }
 
 /// Runs the open grammar on an input, as `run_peg` does with the settings of opening. Lays both outputs into the

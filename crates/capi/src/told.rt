@@ -1,74 +1,38 @@
 //! The messages on a grammar that C opens.
-ghost use Rattle.std.specs.Prelude.{◌≡◌, [], map, IfOk};
-ghost use Rattle.capi.specs.OpenCall.{IsFaultTold};
+ghost use Rattle.std.specs.Prelude.{◌≡◌, false, map, IfOk};
+ghost use Rattle.capi.specs.BufferRun.{IsLaid};
+ghost use Rattle.capi.specs.OpenCall.{IsFaultTold, code_told, text_told};
 ghost use Rattle.ruletable.specs.Notes.{said_of};
-ghost use Rattle.toolrun.specs.Explained.{Explained};
-ghost use Rattle.toolrun.specs.Status.{code_of};
 ghost use Rattle.toolrun.specs.ToldNotes.{HintedNotes};
 
+use crate::buffer::lay;
 use crate::front::text_of_first;
+use crate::result::CResult;
 use ruletable::{Memory, Note, ReadFault};
 use std::alloc::Global;
-use toolrun::{First, Language, Settings, Status, Told as AllTold, told_hints};
+use toolrun::{First, Language, Settings, Status, Told, told_hints};
 
-/// The messages on a grammar that C opens, and the status.
-#[derive(Drop)]
-pub(crate) struct Told {
-    pub(crate) text: Vec<u8>,
-    pub(crate) status: Status,
-}
-
-/// Returns no message, and the status of a failed allocation.
-pub(crate) fn told_nothing(alloc: Global) -> Told
-    ensures text { result.text.items ≡ [] }
-    ensures status { result.status ≡ Status.NoMemory }
-{
-    Told {
-        text: Vec::new(alloc),
-        status: Status::NoMemory,
-    }
-}
-
-/// Returns the lines that explain a fault, if the settings ask for them. Returns `Memory` if an allocation fails.
-fn explanation<L: Language>(
+/// Returns the fault of a grammar's text, with the lines that explain it if the settings ask for them. Returns `Memory`
+/// if an allocation fails.
+pub(crate) fn text_of_fault<L: Language>(
     alloc: Global,
     grammar: &[u8],
     settings: &Settings<'_, L::Options>,
     fault: ReadFault,
 ) -> Result<Vec<u8>, Memory>
     requires { L.has_fault grammar.now fault }
-    ensures { IfOk result (λ why. Explained settings.now (L.explains grammar.now fault) why.items) }
-{
-    if !settings.explain {
-        return Ok(Vec::new(alloc));
-    }
-    L::explain_fault(alloc, grammar, fault)
-}
-
-/// Reports the fault of a grammar's text, with the lines that explain it if the settings ask for them.
-pub(crate) fn tell_fault<L: Language>(
-    alloc: Global,
-    grammar: &[u8],
-    settings: &Settings<'_, L::Options>,
-    fault: ReadFault,
-) -> Told
-    requires { L.has_fault grammar.now fault }
-    ensures { IsFaultTold (L.has_fault grammar.now) (L.explains grammar.now) settings.now result.text.items
-        (code_of result.status) }
+    ensures { IsFaultTold (L.has_fault grammar.now) (L.explains grammar.now) settings.now (text_told result)
+        (code_told result false) }
 {
     if fault == ReadFault::Memory {
-        return told_nothing(alloc);
+        return Err(Memory);
     }
-    let Ok(why) = explanation::<L>(alloc, grammar, settings, fault) else {
-        return told_nothing(alloc);
+    let why = if settings.explain {
+        L::explain_fault(alloc, grammar, fault)?
+    } else {
+        Vec::new(alloc)
     };
-    match text_of_first(alloc, &First::Fault { fault, why }) {
-        Ok(text) => Told {
-            text,
-            status: Status::Refused,
-        },
-        Err(Memory) => told_nothing(alloc),
-    }
+    text_of_first(alloc, &First::Fault { fault, why })
 }
 
 /// Returns the notes on a grammar as a run writes them. If the settings ask for that, each is explained, and hints
@@ -86,7 +50,33 @@ pub(crate) fn text_of_notes<L: Language>(
         return text_of_first(alloc, &First::Notes(notes));
     }
     match told_hints::<L>(alloc, grammar, settings, notes.as_slice()) {
-        AllTold::Whole(text) => Ok(text),
-        AllTold::Part(_) => Err(Memory),
+        Told::Whole(text) => Ok(text),
+        Told::Part(_) => Err(Memory),
+    }
+}
+
+/// Lays what is told of a grammar into a buffer, as much of it as there is room for. Returns the result of the call
+/// that opens the grammar; `is_open` says whether it did.
+pub(crate) fn lay_told(told: Result<Vec<u8>, Memory>, is_open: bool, err: &mut [u8]) -> CResult
+    ensures out { result.out_len ≡ 0 }
+    ensures err { IsLaid (text_told told) (record { old = err.old; new = err.new; len = result.err_len }) }
+    ensures status { result.status ≡ code_told told is_open }
+{
+    let Ok(text) = told else {
+        return CResult {
+            out_len: 0,
+            err_len: 0,
+            status: Status::NoMemory.code(),
+        };
+    };
+    let status = if is_open {
+        Status::Done
+    } else {
+        Status::Refused
+    };
+    CResult {
+        out_len: 0,
+        err_len: lay(text.as_slice(), err),
+        status: status.code(),
     }
 }

@@ -1,5 +1,5 @@
 -- What holds of the matches of a program's words: a limit in its range, a grammar, and flags.
--- Serves: Program::follows, Program::options
+-- Serves: Program::follows
 use Rattle.std.proofs.Common.{◌≡◌, ◌∙◌, ◌⊎◌, ◌<◌, ◌≤◌, ◌&&◌, ◌||◌, ap, subst, sym, refl, inl, inr, arith, true≢false, ℕ}
 use Rattle.std.proofs.Common.{zero, suc, Bool, true, false, not, List, [], ◌∷◌, map, length, Option, Some, None}
 use Rattle.std.proofs.Common.{is_some}

@@ -1,5 +1,5 @@
 -- What the words ask for, from what is found and what the getters read of it.
--- Serves: read_words, Program::options
+-- Serves: read_words, Program::follows
 use Rattle.std.proofs.Common.{◌≡◌, ◌∙◌, ap, subst, sym, inl, inr, Bool, List, Option, Some}
 use Rattle.std.specs.Prelude.{codes, option_map}
 use Rattle.std.specs.Borrow.{Bor}

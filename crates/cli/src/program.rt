@@ -2,6 +2,7 @@
 ghost use Rattle.std.specs.Prelude.{◌≡◌, IfOk, ℕ, List, false, map, true};
 ghost use Rattle.clap.specs.Words.{App, Row, app_of, found_of, is_simple, is_simple_and_free, rows_of};
 ghost use Rattle.clap.specs.declared.parser.matches.ArgMatches.{ArgMatches as Matches};
+ghost use Rattle.clap.specs.declared.parser.matches.Found.{Found};
 ghost use Rattle.cli.specs.Asked.{AreWhole};
 ghost use Rattle.cli.specs.Parsing.{IsParsedBy, Parses};
 ghost use Rattle.toolrun.specs.Input.{Input};
@@ -29,6 +30,10 @@ pub trait Program {
     /// What the matches of words ask for in the language alone.
     ghost asks: { List Row → Self.Options → Type 0 };
 
+    /// Which options are read of what is found. It says nothing of a text that the parser of its argument does not
+    /// take.
+    ghost reads: { Found → Self.Options → Type 0 };
+
     /// What is stated for a grammar's text, settings and an input: the notes, and what follows them.
     ghost states: { List ℕ → AllSettings Self.Options → Input → List ℕ → Reply → Type 0 };
 
@@ -36,10 +41,9 @@ pub trait Program {
     fn command<'a>(alloc: Global) -> Result<Command<'a>, AllocError>
         ensures app { (app : App) × is_app app × IfOk result (λ c. app_of c ≡ app) };
 
-    /// Returns what the words ask for in the language alone.
+    /// Returns the options of the language that the words give, and the defaults elsewhere.
     fn options(matches: &ArgMatches<'_>) -> Self::Options
-        requires { IsParsedBy is_app matches.now }
-        ensures { asks (rows_of (found_of matches.now)) result };
+        ensures { reads (found_of matches.now) result };
 
     /// Runs a grammar's text on what a reader gives.
     fn run<I: Source, O: Sink, E: Sink>(
@@ -59,12 +63,14 @@ pub trait Program {
             (code_of result) };
 
     /// Says that the command is a simple one, and no argument has a rule on another: its matches are a function of the
-    /// words, and so is what is wrong with them. Says that words in which nothing is wrong give a limit and a grammar.
-    /// It does nothing.
+    /// words, and so is what is wrong with them. Says that words in which nothing is wrong give a limit and a grammar,
+    /// and that the options that are read of them are those that they ask for. It does nothing.
     fn follows()
         ensures simple { (app : App) → is_app app → is_simple app ≡ true }
         ensures free { (app : App) → is_app app → is_simple_and_free app ≡ true }
-        ensures whole { (m : Matches) → IsParsedBy is_app m → AreWhole (found_of m) };
+        ensures whole { (m : Matches) → IsParsedBy is_app m → AreWhole (found_of m) }
+        ensures asked { (m : Matches) (options : Self.Options) → IsParsedBy is_app m → reads (found_of m) options
+            → asks (rows_of (found_of m)) options };
 }
 
 /// Parses the words of a program's command line, its name first.

@@ -1,8 +1,7 @@
 //! The settings that the words ask for.
 ghost use Rattle.std.specs.Prelude.{◌≡◌, ◌≤◌, MatchResult, [], codes, map, option_map};
-ghost use Rattle.clap.specs.Words.{App, HasKind, fault_of, first_value, found_of, matches_of, one_text, rows_of};
+ghost use Rattle.clap.specs.Words.{App, HasKind, fault_of, first_value, found_of, matches_of, one_text};
 ghost use Rattle.cli.specs.Asked.{Ask, IsFlagOf, IsLimitOf, mode_named};
-ghost use Rattle.cli.specs.Parsing.{IsParsedBy};
 
 use crate::program::{Program, parse};
 use clap::{ArgMatches, Error};
@@ -33,12 +32,11 @@ fn limit_of(matches: &ArgMatches<'_>) -> usize
 
 /// Returns the settings that the words ask for, and the defaults elsewhere.
 pub fn settings_of<'a, P: Program>(matches: &ArgMatches<'a>) -> Settings<'a, P::Options>
-    requires { IsParsedBy P.is_app matches.now }
     ensures mode { result.mode ≡ mode_named (first_value (found_of matches.now) (codes "mode")) }
     ensures limit { IsLimitOf (one_text (found_of matches.now) (codes "limit")) result.limit }
     ensures start { option_map (λ s. s.now) result.start ≡ first_value (found_of matches.now) (codes "start") }
     ensures explain { IsFlagOf (one_text (found_of matches.now) (codes "explain")) result.explain }
-    ensures options { P.asks (rows_of (found_of matches.now)) result.options }
+    ensures options { P.reads (found_of matches.now) result.options }
 {
     Settings {
         mode: mode_of(matches),

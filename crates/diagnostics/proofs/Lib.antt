@@ -12,6 +12,6 @@ pub mod AgainLinesLemmas
 pub mod ExplainedNoteLemmas
 mod MentionOrderLemmas
 mod FirstMentionLemmas
-mod NumberListsLemmas
+pub mod NumberListsLemmas
 mod RisingStartsLemmas
 mod MentionsUnderLemmas

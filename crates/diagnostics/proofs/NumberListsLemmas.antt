@@ -1,5 +1,5 @@
 -- Lists of numbers by name, one number more; and what has the positions of what passes.
--- Serves: places_of, explain_note, mention_lines
+-- Serves: places_of, explain_note, mention_lines, add_number, numbers_of; find_fates, find_order of abnftexts
 use Rattle.std.proofs.Common.{◌≡◌, ℕ, zero, suc, ◌+◌, ◌<◌, Bool, true, false, cond, Option, Some, None, List, [], ◌∷◌}
 use Rattle.std.proofs.Common.{◌++◌, length, map, get_or, take, position, refl, sym, ap, ◌∙◌, arith, append_assoc}
 use Rattle.std.proofs.Common.{append-nil, Vec, Global, nat_lt, if◌then◌else◌, add-one}

@@ -5,8 +5,8 @@ mod noteplaces;
 mod picture;
 
 pub use noteplaces::{
-    Head, Mention, MentionKind, Places, Sign, Signs, explain_note, first_mention, mention_lines,
-    places_of, push_more,
+    Head, Mention, MentionKind, Places, Sign, Signs, add_number, explain_note, first_mention,
+    mention_lines, numbers_of, places_of, push_more,
 };
 pub use picture::{
     Fact, LineAround, line_around, push_cut, push_fact, push_number, push_phrases, push_picture,

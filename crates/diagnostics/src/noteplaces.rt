@@ -19,5 +19,6 @@ pub use laws::first_mention;
 pub use lines::push_more;
 pub use lines_of_kind::mention_lines;
 pub use mentions::{Mention, MentionKind};
+pub use number_lists::{add_number, numbers_of};
 pub use places::Places;
 pub use sign::{Sign, Signs};

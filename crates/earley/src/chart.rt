@@ -73,15 +73,9 @@ impl Chart {
         ensures { IfOk result (λ spots. AreSpotsOf (set_at self.now j) spots.items) }
     {
         match &self.rows {
-            None => {
-                let spots = self.items.spots(j)?;
-                Ok(spots)
-            }
+            None => self.items.spots(j),
             Some(rows) => match rows.sets.get(j) {
-                Some(set) => {
-                    let spots = row_spots(self.alloc, &rows.table.spots, &set.rows)?;
-                    Ok(spots)
-                }
+                Some(set) => row_spots(self.alloc, &rows.table.spots, &set.rows),
                 None => Ok(Vec::new(self.alloc)),
             },
         }

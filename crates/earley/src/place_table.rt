@@ -285,8 +285,7 @@ fn starts_if(
     if !reached {
         return Ok(Some(Vec::new(alloc)));
     }
-    let starts = starts_of(alloc, flat, numbers, root)?;
-    Ok(starts)
+    starts_of(alloc, flat, numbers, root)
 }
 
 // Adds the call of a place, if it calls that root. What the place does is given.

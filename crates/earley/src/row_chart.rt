@@ -144,8 +144,7 @@ fn next_set<L: Letter>(
     let mut set = RowSet::new(alloc, table.spots.len())?;
     begin_rows(alloc, table, line, &filled.sets, &mut set)?;
     fill_rows(alloc, table, filled, &mut set)?;
-    let kept = kept_rows(set)?;
-    Ok(kept)
+    kept_rows(set)
 }
 
 // Returns the sets of a line. `Memory` if an allocation fails.

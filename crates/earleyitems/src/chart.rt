@@ -341,6 +341,5 @@ pub fn judge_within<L: Letter>(
 {
     let (sets, kept) = chart.take_kept();
     let tables = flat.share()?;
-    let told = judge_by(chart, tables, sets, kept, line, most)?;
-    Ok(told)
+    judge_by(chart, tables, sets, kept, line, most)
 }

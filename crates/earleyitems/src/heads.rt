@@ -57,9 +57,10 @@ fn make_room(table: &mut Vec<usize>, head: usize) -> Result<(), Memory>
     if head < table.len() {
         return Ok(());
     }
-    // A table is never longer than 2^63, so the sum is exact where the table could grow.
-    table.resize(head.saturating_add(1), 0)?;
-    let _count = table.len();
+    let Some(count) = head.checked_add(1) else {
+        return Err(Memory);
+    };
+    table.resize(count, 0)?;
     Ok(())
 }
 

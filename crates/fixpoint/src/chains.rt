@@ -87,10 +87,7 @@ impl Chains {
             → IsRoundIfAny (slices_of steps.now) from (option_map (λ v. v.items) chain)) }
     {
         match nearest_before(&self.far, steps, from) {
-            Some(last) => {
-                let chain = self.chain_to(alloc, last.number)?;
-                Ok(chain)
-            }
+            Some(last) => self.chain_to(alloc, last.number),
             None => Ok(None),
         }
     }

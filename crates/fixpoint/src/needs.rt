@@ -229,6 +229,5 @@ pub fn least(alloc: Global, needs: &[Need]) -> Result<Vec<bool>, AllocError>
     ensures marks { IfOk result (λ marks. AreMarksOfThose (demands_of needs.now) marks.items) }
 {
     let order = derive(alloc, needs)?;
-    let marks = marks_of(alloc, needs.len(), &order)?;
-    Ok(marks)
+    marks_of(alloc, needs.len(), &order)
 }

@@ -141,7 +141,6 @@ impl Flat {
         ensures exact { IfOk result (λ tables. AreExact tables.value) }
         ensures view { IfOk result (λ tables. flat_of tables.value ≡ self.now) }
     {
-        let tables = self.tables.clone()?;
-        Ok(tables)
+        Ok(self.tables.clone()?)
     }
 }

@@ -121,6 +121,5 @@ pub(crate) fn find_roots(
 {
     let mut ways = first_ways(alloc, nodes, bodies)?;
     settle_all(alloc, &mut ways)?;
-    let roots = found_roots(alloc, &ways)?;
-    Ok(roots)
+    found_roots(alloc, &ways)
 }

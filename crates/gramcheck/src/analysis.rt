@@ -61,7 +61,6 @@ pub fn left_recursive_rules(alloc: Global, rules: &RuleTable<Expr>) -> Result<Ve
     requires { rules.now.names ≡ NameCase.Exact }
     ensures { IfOk result (λ found. AreMarks (IsLeftRecursive (rules_of rules.now)) (rules_of rules.now) found.items) }
 {
-    let _ = rules.len();
     let cut = cut_grammar(alloc, rules)?;
     let found = analysed(alloc, &cut.nodes, &cut.bodies)?;
     Ok(found.recursive)

@@ -119,7 +119,6 @@ fn judge(
     ensures given { IfOk result (λ j. is_refused (map said_of j.notes.items) ≡ false
         → IsGiven (option_copied start.entry) rules.now) }
 {
-    let _ = rules.len();
     let cut = cut_grammar(alloc, rules)?;
     let found = analysed(alloc, &cut.nodes, &cut.bodies)?;
     let notes = notes(

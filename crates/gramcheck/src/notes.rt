@@ -1,11 +1,10 @@
 //! The notes on a grammar.
-ghost use Rattle.std.specs.Prelude.{◌≡◌, ◌++◌, ℕ, Bool, List, length, map, not, Contains, Option, IfOk};
+ghost use Rattle.std.specs.Prelude.{◌≡◌, ◌++◌, ℕ, Bool, List, length, map, Contains, Option, IfOk};
 ghost use Rattle.std.specs.Prelude.{option_copied, option_to_list};
 ghost use Rattle.std.specs.List.{list_any};
 ghost use Rattle.ruletable.specs.Notes.{Said, said, said_of};
 ghost use Rattle.ruletable.specs.Rules.{names_of};
 ghost use Rattle.rulenames.specs.FirstUses.{news};
-ghost use Rattle.rulenames.specs.IdMarks as id_marks;
 ghost use Rattle.rulenames.specs.IdMarks.{chosen};
 ghost use Rattle.pegread.specs.Pattern.{Rule};
 ghost use Rattle.pegread.specs.PegViews.{rules_of};
@@ -80,27 +79,10 @@ fn note_uses(
         (option_to_list (option_copied start.entry) ++ names_used (rules_of rules.now))))
         ++ map (said NoteKind.Unused) (chosen unused (names_of rules.now)))) }
 {
-    // its contract says that no two rules have one name
-    let _ = rules.len();
     let uses = uses_of(alloc, rules, start)?;
     note_undefined(alloc, &uses.missing, 0, notes)?;
-    note_unused(alloc, rules, &uses.ids, notes)
-}
-
-// Adds a note for each rule with an id that is not in `used`.
-fn note_unused(
-    alloc: Global,
-    rules: &RuleTable<Expr>,
-    used: &[usize],
-    notes: &mut Vec<Note>,
-) -> Result<(), Memory>
-    ensures { IfOk result (λ _. (marks : List Bool)
-        × id_marks.AreMarks (Contains used.now) (length rules.now.rules) marks
-        × (map said_of notes.new.items ≡ map said_of notes.old.items
-        ++ map (said NoteKind.Unused) (chosen (map not marks) (names_of rules.now)))) }
-{
-    let marks = marks_at(alloc, used, rules.len())?;
-    let unused = opposites(alloc, &marks)?;
+    let used = marks_at(alloc, &uses.ids, rules.len())?;
+    let unused = opposites(alloc, &used)?;
     note_marked(alloc, rules, &unused, NoteKind::Unused, notes)
 }
 

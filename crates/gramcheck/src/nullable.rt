@@ -67,8 +67,7 @@ pub(crate) fn nullable(alloc: Global, nodes: &[Node], bodies: &[usize]) -> Resul
         → AreNullMarks rules (shapes_of nodes.now) marks.items) }
 {
     let needs = needs(alloc, nodes, bodies)?;
-    let marks = least(alloc, &needs)?;
-    Ok(marks)
+    Ok(least(alloc, &needs)?)
 }
 
 /// Returns a mark for each rule, set exactly for those whose bodies may take nothing.
@@ -82,6 +81,5 @@ pub fn nullable_rules(alloc: Global, rules: &RuleTable<Expr>) -> Result<Vec<bool
 {
     let cut = cut_grammar(alloc, rules)?;
     let marks = nullable(alloc, &cut.nodes, &cut.bodies)?;
-    let found = body_marks(alloc, &cut.bodies, &marks)?;
-    Ok(found)
+    body_marks(alloc, &cut.bodies, &marks)
 }

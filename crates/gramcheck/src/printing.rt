@@ -58,6 +58,5 @@ pub(crate) fn print_marks(
         → ArePrintMarks rules (shapes_of nodes.now) marks.items) }
 {
     let needs = print_needs(alloc, nodes, bodies)?;
-    let marks = least(alloc, &needs)?;
-    Ok(marks)
+    Ok(least(alloc, &needs)?)
 }

@@ -149,8 +149,7 @@ impl Automaton {
     pub fn new(alloc: Global, flat: &Flat) -> Result<Option<Automaton>, Memory>
         ensures { IfOk result (λ made. IfSome made (λ automaton. automaton ≡ flat.now)) }
     {
-        let made = Automaton::with_room(alloc, flat, ROOM)?;
-        Ok(made)
+        Automaton::with_room(alloc, flat, ROOM)
     }
 
     /// Returns an automaton as `new` does, which fills no more once it keeps so many tops of states, continuations,
@@ -191,14 +190,13 @@ impl Automaton {
         ensures verdict { IfOk result (λ told. IfSome told (IsFlatVerdict self.old (map L.number line.now))) }
     {
         let classes = &self.classes;
-        let told = run(
+        run(
             self.alloc,
             &self.tables,
             &classes.low,
             &classes.samples,
             &mut self.memo,
             line,
-        )?;
-        Ok(told)
+        )
     }
 }

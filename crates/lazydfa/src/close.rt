@@ -121,15 +121,14 @@ fn after(
     if is_last(tables, node, next) {
         return Ok(below);
     }
-    let id = id_of(
+    id_of(
         conts,
         Cont {
             node,
             step: next,
             next: below,
         },
-    )?;
-    Ok(id)
+    )
 }
 
 /// Adds the continuations where what a place calls begins, before what is left to do after it.

@@ -90,10 +90,7 @@ fn lines_of_stop(alloc: Global, stop: Stop) -> Result<Vec<u8>, Memory>
     ensures long { IfErr result (λ fault. IsLong stop) }
 {
     match stop {
-        Stop::LongLine { .. } => {
-            let why = Vec::from_slice(alloc, b"  -l allows at most 16777216\n")?;
-            Ok(why)
-        }
+        Stop::LongLine { .. } => Ok(Vec::from_slice(alloc, b"  -l allows at most 16777216\n")?),
         _ => Ok(Vec::new(alloc)),
     }
 }
@@ -172,7 +169,7 @@ fn answer_lines<W, J: Judge<W>, R: Source, O: Sink>(
             }
             Ok(Step::Stops(stop)) => {
                 // a run that stops has taken as much as the greatest line takes there
-                let _ = feed.fill();
+                feed.fill();
                 return Ok(ending_at(alloc, judge.is_explained(), reached, stop));
             }
             Err(fault) => return Err(fault),
@@ -218,6 +215,6 @@ pub fn run_lines<W, J: Judge<W>, R: Source, O: Sink>(
     };
     let mut feed = Feed::new(ring, reader);
     let ending = answer_lines(alloc, judge, work, form, &mut feed, out);
-    let _reader = feed.into_reader();
+    feed.into_reader();
     ending
 }

@@ -1,9 +1,9 @@
 -- A grammar whose bodies are cut, with the whole as its last node.
--- Serves: lower.
+-- Serves: lower, lower_viable, find_following.
 use Rattle.std.proofs.Common.{◌≡◌, ◌↔◌, ℕ, zero, suc, ◌+◌, ◌<◌, ◌≤◌, Bool, true, List, [], ◌∷◌, ◌++◌, length, take}
 use Rattle.std.proofs.Common.{get_or}
 use Rattle.std.proofs.Common.{Vec, Global, Some, refl, sym, ◌∙◌, ap, subst, arith, length-append}
-use Rattle.std.specs.Prelude.{slice_get}
+use Rattle.std.specs.Prelude.{slice_get, IfOk, Result, Ok, Err}
 use Rattle.std.proofs.lemmas.List.{length-map}
 use Rattle.std.proofs.lemmas.Option.{slice_get-get_or}
 use Rattle.abnfcheck.specs.Derivable.{AreLetters, Derives, RuleDerives}
@@ -27,6 +27,11 @@ use Rattle.flatgrammar.specs.Operands.{AreOrdered}
 use Rattle.flatgrammar.specs.FlatViews.{node_of, nodes_of}
 use Rattle.lowering.proofs.FlatNumbersLemmas.{at_end, nodes_pushed, ordered_push, told_push}
 use Rattle.lowering.proofs.SpellAllLemmas.{still_spells, places_push, spells_below}
+
+-- what two clauses say of one value
+pub ok_both : {T E : Type 0} (r : Result T E) (P Q : T → Type 0) → IfOk r P → IfOk r Q → IfOk r (λ x. P x × Q x)
+ok_both (Ok x) P Q p q = (p, q)
+ok_both (Err e) P Q p q = tt
 
 take_all : {A : Type 0} (xs : List A) (n : ℕ) → n ≡ length xs → take n xs ≡ xs
 take_all [] zero is = refl

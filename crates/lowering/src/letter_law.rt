@@ -10,6 +10,6 @@ pub fn values_are_letters<L: Letter>(line: &[L])
     ensures { AreLetters (has L.ALPHABET) (map L.number line.now) }
 {
     for letter in line {
-        let _value = letter.value();
+        letter.value();
     }
 }

@@ -45,8 +45,7 @@ pub fn lower_rules(
     let bodies = number_bodies(alloc, rules, &marks, limit, &mut numbered)?;
     let members = alone(alloc, bodies[judged])?;
     let whole = add(&mut numbered, Node::Concat(members), marks[judged])?;
-    let flat = Flat::new(alloc, numbered.nodes, numbered.nulls, bodies, whole, limit)?;
-    Ok(flat)
+    Flat::new(alloc, numbered.nodes, numbered.nulls, bodies, whole, limit)
 }
 
 /// Lowers a grammar to numbered nodes, for lines of at most `limit` symbols. The flat grammar derives such a line
@@ -58,8 +57,5 @@ pub fn lower(alloc: Global, grammar: &SoundAbnf, limit: usize) -> Result<Flat, M
         DerivesLine flat x ↔ RuleDerives has (rules_of grammar.now.rules) grammar.now.judged x) }
     ensures places { IfOk result (λ flat. places flat.nodes ≤ sizes limit (bodies (rules_of grammar.now.rules)) + 2) }
 {
-    // The contract of `judged` says that names compare without case.
-    let _judged = grammar.judged();
-    let flat = lower_rules(alloc, grammar, grammar.rules(), limit)?;
-    Ok(flat)
+    lower_rules(alloc, grammar, grammar.rules(), limit)
 }

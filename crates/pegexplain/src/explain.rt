@@ -146,14 +146,8 @@ fn explain_token(alloc: Global, text: &[u8]) -> Result<Vec<u8>, Memory>
 {
     tokens_make_up::<Kind>();
     match deciding_token(text) {
-        Some(Decision::Hopeless(place, token)) => {
-            let why = hopeless_lines(alloc, text, place, token)?;
-            Ok(why)
-        }
-        Some(Decision::TooDeep(token)) => {
-            let why = deep_lines(alloc, text, token)?;
-            Ok(why)
-        }
+        Some(Decision::Hopeless(place, token)) => hopeless_lines(alloc, text, place, token),
+        Some(Decision::TooDeep(token)) => deep_lines(alloc, text, token),
         None => unreachable!(),
     }
 }
@@ -170,8 +164,7 @@ pub fn explain_fault(alloc: Global, text: &[u8], fault: ReadFault) -> Result<Vec
     match fault {
         ReadFault::Memory => Ok(Vec::new(alloc)),
         ReadFault::TooLong => {
-            let why = Vec::from_slice(alloc, b"  a grammar has at most 1048576 bytes\n")?;
-            Ok(why)
+            Ok(Vec::from_slice(alloc, b"  a grammar has at most 1048576 bytes\n")?)
         }
         _ => explain_token(alloc, text),
     }

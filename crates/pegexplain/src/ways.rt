@@ -19,6 +19,5 @@ pub fn left_way(alloc: Global, rows: &[Vec<usize>], id: usize) -> Result<Option<
 {
     let steps = slices(alloc, rows)?;
     let chains = chains_from(alloc, &steps, id)?;
-    let chain = chains.way_back(alloc, &steps, id)?;
-    Ok(chain)
+    Ok(chains.way_back(alloc, &steps, id)?)
 }

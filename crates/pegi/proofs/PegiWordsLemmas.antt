@@ -1,5 +1,5 @@
 -- The command of the program is a simple one, and what is found of its words.
--- Serves: Pegi::follows, Pegi::options
+-- Serves: Pegi::follows
 use Rattle.std.proofs.Common.{◌≡◌, ◌∙◌, ap, refl, Bool, true, arith}
 use Rattle.std.specs.Prelude.{codes}
 use Rattle.clap.specs.Words.{App, found_of, is_simple, is_simple_and_free, one_of, one_text, rows_of}

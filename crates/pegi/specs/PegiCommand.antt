@@ -1,8 +1,9 @@
 -- The command of the program, as a parse reads it, and what its words ask for.
 use Prim.Native.Char.{code}
 use Rattle.std.specs.Prelude.{◌≡◌, List, codes}
-use Rattle.clap.specs.Words.{App, Row, Rule, new_app, one_of, with_rule}
-use Rattle.cli.specs.Asked.{is_flagged}
+use Rattle.clap.specs.Words.{App, Row, Rule, new_app, one_of, one_text, with_rule}
+use Rattle.clap.specs.declared.parser.matches.Found.{Found}
+use Rattle.cli.specs.Asked.{IsFlagOf, is_flagged}
 use Rattle.cli.specs.Command.{AreModes, Names, explain_rule, flag_rule, grammar_rule, with_options}
 use Rattle.pegrun.specs.declared.options.PegOptions.{PegOptions}
 
@@ -18,6 +19,10 @@ pegi_app names = with_rule (with_rule (with_rule (with_options names (new_app (c
 -- this is the command of the program
 abbrev pub IsPegiApp : App → Type 0
 IsPegiApp app = (names : Names) × AreModes names × (app ≡ pegi_app names)
+
+-- these options are read of what is found
+pub record ReadsPegi (f : Found) (options : PegOptions) : Type 0 where
+  pub raw : IsFlagOf (one_text f (codes "raw")) options.raw
 
 -- the matches ask for these options
 pub record AsksPegi (rows : List Row) (options : PegOptions) : Type 0 where

@@ -1,5 +1,5 @@
 //! The command of the program.
-ghost use Rattle.pegi.specs.PegiCommand.{AsksPegi, IsPegiApp};
+ghost use Rattle.pegi.specs.PegiCommand.{AsksPegi, IsPegiApp, ReadsPegi};
 ghost use Rattle.pegrun.specs.Answers.{States};
 
 use clap::{ArgMatches, Command};
@@ -31,6 +31,8 @@ impl Program for Pegi {
     ghost is_app = { IsPegiApp };
 
     ghost asks = { AsksPegi };
+
+    ghost reads = { ReadsPegi };
 
     ghost states = { States };
 

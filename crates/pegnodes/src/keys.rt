@@ -164,8 +164,7 @@ fn singles(
         → AreSingles start (shapes_of nodes.now) bodies singles.items) }
 {
     let needs = single_needs(alloc, nodes, namers, root)?;
-    let marks = least(alloc, &needs)?;
-    Ok(marks)
+    Ok(least(alloc, &needs)?)
 }
 
 // Returns a node's mark, or the other one where it has none.

@@ -63,8 +63,7 @@ pub(crate) fn number(
         Expr::Open => Node::Open,
         Expr::Close => Node::Close,
     };
-    let n = add(nodes, node)?;
-    Ok(n)
+    add(nodes, node)
 }
 
 // Adds the nodes of each of them in turn, and gives their numbers.

@@ -1,7 +1,8 @@
 -- What came of the start rule on the first piece of a window comes of it on the window.
 -- Serves: run_peg (right)
-use Rattle.std.proofs.Common.{◌≡◌, ◌≢◌, ℕ, ◌<◌, Bool, true, Option, List, ◌++◌, length, refl, sym, subst, arith}
-use Rattle.std.proofs.Common.{length-append}
+use Rattle.std.proofs.Common.{◌≡◌, ◌≢◌, ℕ, ◌<◌, Bool, true, Option, List, [], ◌∷◌, ◌++◌, length, refl, sym, ◌∙◌, ap}
+use Rattle.std.proofs.Common.{subst, arith, length-append}
+use Rattle.std.proofs.lemmas.List.{append-nil}
 use Rattle.std.specs.Prelude.{Result, Ok, Err}
 use Rattle.std.specs.Io.KnownBytes.{Appends}
 use Rattle.ruletable.specs.Writing.{AppendsPart, IsBeginning}
@@ -59,3 +60,14 @@ pub attempt_behind : (g : Grammar) (front items : List ℕ) (raw : Bool) (old ne
     IsAttempt g front true raw old new r → r ≢ Ok TooLong → (more : Bool) → IsAttempt g items more raw old new r
 attempt_behind g front items raw old new r (back, is) a other more =
     rw is (attempt_longer g front back raw old new r a other more)
+
+none_behind : (back : List ℕ) → length back ≡ 0 → back ≡ []
+none_behind [] e = refl
+none_behind (b ∷ back) e = absurd (cc e)
+
+-- a first piece as long as all is all
+pub whole_piece : (front items : List ℕ) → IsBeginning front items → length front ≡ length items → front ≡ items
+whole_piece front items (back, is) e =
+    let l = ap length is in
+    let none = none_behind back (omega (arith, l, length-append front back, e)) in
+    sym (is ∙ ap (λ t. front ++ t) none ∙ append-nil front)

@@ -1,12 +1,16 @@
 pub mod AttemptLemmas
+pub mod ByteUnitLemmas
 pub mod CutLemmas
 pub mod FirstsLemmas
 pub mod FollowsLemmas
 pub mod LooksOfStartLemmas
 pub mod MatchCallsLemmas
 pub mod NextUnitLemmas
+pub mod PassedCutLemmas
+pub mod PassedLemmas
 pub mod OneReplyLemmas
 pub mod OpenPegLemmas
+pub mod SameFrontLemmas
 pub mod SomeReplyLemmas
 pub mod StatesLemmas
 pub mod StepLemmas

@@ -35,12 +35,11 @@ IsAttempt g window more raw old new (Err fault) = (k : ℕ) × (events : List Ev
     StartGives g window (Takes k events) looked × WasEnough window more looked
     × AppendsPart old new (text_of raw window events)
 
--- What came of the first piece of a window stands for the window, whatever follows it. Without an answer nothing is
--- printed.
-abbrev pub IsFrontAttempt : Grammar → List ℕ → Bool → Option (List ℕ) → Option (List ℕ)
+-- What came of the first piece of a window stands for the window. Without an answer nothing is printed.
+abbrev pub IsFrontAttempt : Grammar → List ℕ → Bool → Bool → Option (List ℕ) → Option (List ℕ)
     → Option (Result Attempt WriteFault) → Type 0
-IsFrontAttempt g window raw old new None = Keeps old new
-IsFrontAttempt g window raw old new (Some attempted) = (more : Bool) → IsAttempt g window more raw old new attempted
+IsFrontAttempt g window more raw old new None = Keeps old new
+IsFrontAttempt g window more raw old new (Some attempted) = IsAttempt g window more raw old new attempted
 
 -- without an answer the writer has not failed
 abbrev pub FrontFlags : Bool → Bool → Option (Result Attempt WriteFault) → Type 0

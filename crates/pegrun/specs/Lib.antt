@@ -1,8 +1,10 @@
 pub mod Answers
 pub mod Attempts
+pub mod ByteUnits
 pub mod MatchCalls
 pub mod Noted
 pub mod OpenPeg
+pub mod PassedUnits
 pub mod PastUnits
 pub mod PegLanguage
 pub mod PegReply

@@ -1,12 +1,15 @@
 //! Matches a unit by a matcher whose calls are counted.
-ghost use Rattle.std.specs.Prelude.{◌≡◌, ◌+◌, ◌<◌, length, min, true, false};
+ghost use Rattle.std.specs.Prelude.{◌≡◌, ℕ, ◌+◌, ◌<◌, ◌≤◌, IfSome, Some, length, min, slice_get, true, false};
 ghost use Rattle.ruletable.specs.Writing.{Flags};
 ghost use Rattle.pegrun.specs.Attempts.{IsAttempt};
+ghost use Rattle.pegrun.specs.ByteUnits.{AreByteUnits, IsByteUnit, known_text};
 ghost use Rattle.pegrun.specs.MatchCalls.{calls_of, most_calls};
 
+use crate::byte_units::{ByteUnits, Known};
 use gramcheck::SoundPeg;
 use pegmatch::{Matcher, ReplayFault, Unit};
-use ruletable::{Sink, WriteFault};
+use ruletable::{Sink, SinkOf, WriteFault};
+use std::alloc::Global;
 
 /// The result of the start rule at the front of a window.
 #[derive(Clone, Copy, PartialEq, Eq)]
@@ -21,19 +24,25 @@ pub enum Attempt {
     NoMemory,
 }
 
-/// A matcher that counts the matches that it was asked for.
+/// A matcher that counts the matches that it was asked for, and the units that their first byte alone decides, as far
+/// as its matches showed them.
 #[derive(Drop)]
 pub struct CountedMatcher<M> {
     matcher: M,
     calls: u128,
+    pub(crate) units: ByteUnits,
 }
 
 impl<M: Matcher> CountedMatcher<M> {
     /// Returns a matcher that was asked for no match yet.
-    pub fn new(matcher: M) -> CountedMatcher<M>
+    pub fn new(alloc: Global, matcher: M) -> CountedMatcher<M>
         ensures { calls_of result ≡ 0 }
     {
-        CountedMatcher { matcher, calls: 0 }
+        CountedMatcher {
+            matcher,
+            calls: 0,
+            units: ByteUnits::new(alloc),
+        }
     }
 
     /// Matches the start rule once at the front of a window, and prints the text of a success.
@@ -51,6 +60,7 @@ impl<M: Matcher> CountedMatcher<M> {
         ensures answer { IsAttempt peg.now window.now more raw (O.contents out.old) (O.contents out.new) result }
         ensures flag { Flags (O.failed out.old) (O.failed out.new) result }
         ensures once { calls_of self.new ≡ min (calls_of self.old + 1) most_calls }
+        ensures units { self.new.units ≡ self.old.units }
     {
         self.calls = self.calls.saturating_add(1);
         let end = match self.matcher.match_unit(peg, window, more) {
@@ -64,5 +74,33 @@ impl<M: Matcher> CountedMatcher<M> {
             Err(ReplayFault::Memory) => Ok(Attempt::NoMemory),
             Err(ReplayFault::Write) => Err(WriteFault),
         }
+    }
+
+    /// Matches the first two bytes of a window as one that more bytes follow. Returns what that says of the units that
+    /// begin with the first byte.
+    fn ask(&mut self, peg: &SoundPeg, window: &[u8], raw: bool) -> Known
+        requires { 2 ≤ length window.now }
+        ensures known { (b : ℕ) → slice_get window.now 0 ≡ Some b
+            → IfSome (known_text (Some result)) (IsByteUnit peg.now raw b) }
+        ensures units { self.new.units ≡ self.old.units }
+        ensures once { calls_of self.new ≤ calls_of self.old + 1 }
+    {
+        let mut text = SinkOf::new(Vec::new(self.units.alloc));
+        match self.print_unit(peg, &window[..2], true, raw, &mut text) {
+            Ok(Attempt::Printed(1)) => Known::of(text.into_inner()),
+            _ => Known::Other,
+        }
+    }
+
+    /// Finds out whether the first byte of a window alone decides its unit, if that is not known yet.
+    pub(crate) fn learn(&mut self, peg: &SoundPeg, window: &[u8], raw: bool)
+        ensures units { AreByteUnits peg.now raw self.old.units → AreByteUnits peg.now raw self.new.units }
+        ensures once { calls_of self.new ≤ calls_of self.old + 1 }
+    {
+        if window.len() < 2 || !self.units.is_open(window[0]) {
+            return;
+        }
+        let known = self.ask(peg, window, raw);
+        self.units.keep(window[0], known);
     }
 }

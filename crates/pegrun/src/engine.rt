@@ -17,6 +17,7 @@ ghost use Rattle.toolrun.specs.Stream.{passed};
 
 use crate::attempt::CountedMatcher;
 use crate::options::PegSettings;
+use crate::passed::{Passed, pass_known};
 use crate::past::{Past, ending_at};
 use crate::unit::{Step, next_unit};
 use feed::{Feed, Source};
@@ -38,19 +39,19 @@ pub struct Counted<M> {
 
 impl<M: Matcher> Counted<M> {
     /// Returns a matcher that was asked for no match yet, and a search that evaluated no unit yet.
-    pub fn new(matcher: M) -> Counted<M>
+    pub fn new(alloc: Global, matcher: M) -> Counted<M>
         ensures calls { calls_of result.matcher ≡ 0 }
         ensures explained { evaluated_by result.search ≡ 0 }
     {
         Counted {
-            matcher: CountedMatcher::new(matcher),
+            matcher: CountedMatcher::new(alloc, matcher),
             search: FailureSearch::new(),
         }
     }
 }
 
-/// Runs the units of an input in turn, each from where the one before ended, and prints the text of each. If settings
-/// ask for that, it explains how the run ends.
+/// Runs the units of an input in turn, each from where the one before ended, and prints the text of each. After each
+/// match it runs the units that follow whose text is known. If settings ask for that, it explains how the run ends.
 fn cut<M: Matcher, R: Source, O: Sink>(
     alloc: Global,
     counted: &mut Counted<M>,
@@ -79,6 +80,7 @@ fn cut<M: Matcher, R: Source, O: Sink>(
     ensures unasked { settings.now.explain ≡ false → evaluated_by counted.new.search
         ≡ evaluated_by counted.old.search }
 {
+    counted.matcher.units.clear();
     let mut start = 0;
     let mut past = Past::new(alloc);
     loop {
@@ -87,6 +89,11 @@ fn cut<M: Matcher, R: Source, O: Sink>(
                 past.pass(settings.explain, feed, n);
                 feed.skip(n);
                 start += n;
+                match pass_known(&counted.matcher.units, settings, feed, out) {
+                    Ok(Passed::Units(n)) => start += n,
+                    Ok(Passed::Broken) => return Ok(Ending::Plain(Stop::Broken)),
+                    Err(fault) => return Err(fault),
+                }
             }
             Ok(Step::Stops(stop)) => {
                 let search = &mut counted.search;

@@ -2,11 +2,13 @@
 #![tactic(auto)]
 
 mod attempt;
+mod byte_units;
 mod engine;
 mod laws;
 mod open_law;
 mod opened;
 mod options;
+mod passed;
 mod past;
 mod peg_language;
 mod run;

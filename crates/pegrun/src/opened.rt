@@ -96,7 +96,7 @@ pub fn open_peg(
     };
     match PegLanguage::ready(alloc, judged) {
         Ok(grammar) => {
-            let counted = Counted::new(Packrat::new(alloc));
+            let counted = Counted::new(alloc, Packrat::new(alloc));
             Ok(OpenedPeg {
                 notes,
                 runner: Some(PegRunner { grammar, counted }),

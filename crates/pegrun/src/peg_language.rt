@@ -118,7 +118,7 @@ impl Language for PegLanguage {
         reader: &mut R,
         out: &mut O,
     ) -> Result<Ending, WriteFault> {
-        let mut counted = Counted::new(Packrat::new(alloc));
+        let mut counted = Counted::new(alloc, Packrat::new(alloc));
         run_units(alloc, &mut counted, grammar, settings, reader, out)
     }
 

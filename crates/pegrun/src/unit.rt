@@ -8,6 +8,7 @@ ghost use Rattle.pegread.specs.PegViews.{rules_of};
 ghost use Rattle.toolrun.specs.Agrees.{Agrees};
 ghost use Rattle.pegrun.specs.Attempts.{FrontFlags, IsAttempt, IsFrontAttempt, IsStep, IsStepOn, StaysWithin};
 ghost use Rattle.pegrun.specs.Attempts.{step_after, stop_at};
+ghost use Rattle.pegrun.specs.ByteUnits.{AreByteUnits};
 ghost use Rattle.pegrun.specs.MatchCalls.{calls_of};
 ghost use Rattle.toolrun.specs.Input.{Input};
 ghost use Rattle.pegrun.specs.Units.{taken_at};
@@ -57,25 +58,29 @@ fn step_of(
     }
 }
 
-/// Runs the start rule on the first piece of what a feed holds, where that is most of it but not all. Returns no answer
-/// if it does not run the rule, or if the piece is too short for one.
+/// Runs the start rule on the first piece of what a feed holds, where that is most of it. Returns no answer if it does
+/// not run the rule, or if the piece is too short for one.
 #[inline(always)]
 fn attempt_front<M: Matcher, R: Source, O: Sink>(
     matcher: &mut CountedMatcher<M>,
     peg: &SoundPeg,
     feed: &Feed<'_, R>,
+    more: bool,
     raw: bool,
     out: &mut O,
 ) -> Option<Result<Attempt, WriteFault>>
-    requires { O.failed out.old ≡ false }
-    ensures answer { IsFrontAttempt peg.now (bytes_of feed.now) raw (O.contents out.old) (O.contents out.new) result }
+    requires some { more ≡ true → 0 < length (bytes_of feed.now) }
+    requires out_is_fresh { O.failed out.old ≡ false }
+    ensures answer { IsFrontAttempt peg.now (bytes_of feed.now) more raw (O.contents out.old) (O.contents out.new)
+        result }
     ensures flag { FrontFlags (O.failed out.old) (O.failed out.new) result }
     ensures once { calls_of matcher.new ≤ calls_of matcher.old + 1 }
+    ensures units { matcher.new.units ≡ matcher.old.units }
 {
     let front = feed.front();
     let held = feed.len();
     if front.len() == held {
-        return None;
+        return Some(matcher.print_unit(peg, front, more, raw, out));
     }
     if front.len() <= held / 4 * 3 {
         return None;
@@ -103,13 +108,14 @@ fn attempt_all<M: Matcher, R: Source, O: Sink>(
     ensures answer { IsAttempt peg.now (bytes_of feed.old) more raw (O.contents out.old) (O.contents out.new) result }
     ensures flag { Flags (O.failed out.old) (O.failed out.new) result }
     ensures once { calls_of matcher.new ≤ calls_of matcher.old + 1 }
+    ensures units { matcher.new.units ≡ matcher.old.units }
 {
     let window: &[u8] = feed.window();
     matcher.print_unit(peg, window, more, raw, out)
 }
 
 /// Runs the start rule at the front of what a feed holds, and prints the text of a success. It is put in one piece only
-/// where its first piece gives no answer.
+/// where its first piece gives no answer. After a unit of one byte it finds out whether that byte alone decides it.
 #[inline(always)]
 fn attempt_unit<M: Matcher, R: Source, O: Sink>(
     matcher: &mut CountedMatcher<M>,
@@ -125,9 +131,15 @@ fn attempt_unit<M: Matcher, R: Source, O: Sink>(
     ensures answer { IsAttempt peg.now (bytes_of feed.old) more raw (O.contents out.old) (O.contents out.new) result }
     ensures flag { Flags (O.failed out.old) (O.failed out.new) result }
     ensures twice { calls_of matcher.new ≤ calls_of matcher.old + 2 }
+    ensures units { AreByteUnits peg.now raw matcher.old.units → AreByteUnits peg.now raw matcher.new.units }
 {
-    match attempt_front(matcher, peg, feed, raw, out) {
-        Some(attempted) => attempted,
+    match attempt_front(matcher, peg, feed, more, raw, out) {
+        Some(attempted) => {
+            if attempted == Ok(Attempt::Printed(1)) {
+                matcher.learn(peg, feed.front(), raw);
+            }
+            attempted
+        }
         None => attempt_all(matcher, peg, feed, more, raw, out),
     }
 }
@@ -151,6 +163,8 @@ fn unit_at<M: Matcher, R: Source, O: Sink>(
         (O.contents out.new) result }
     ensures flag { Flags (O.failed out.old) (O.failed out.new) result }
     ensures twice { calls_of matcher.new ≤ calls_of matcher.old + 2 }
+    ensures units { AreByteUnits peg.now settings.now.options.raw matcher.old.units
+        → AreByteUnits peg.now settings.now.options.raw matcher.new.units }
 {
     let end = start + feed.len();
     let attempted = attempt_unit(matcher, peg, feed, more, settings.options.raw, out);
@@ -183,6 +197,8 @@ pub fn next_unit<M: Matcher, R: Source, O: Sink>(
     ensures fits { StaysWithin (start + length (bytes_of feed.new)) start result }
     ensures flag { Flags (O.failed out.old) (O.failed out.new) result }
     ensures twice { calls_of matcher.new ≤ calls_of matcher.old + 2 }
+    ensures units { AreByteUnits peg.now settings.now.options.raw matcher.old.units
+        → AreByteUnits peg.now settings.now.options.raw matcher.new.units }
 {
     match feed.fill() {
         Held::Full => unit_at(matcher, peg, feed, true, settings, start, out),

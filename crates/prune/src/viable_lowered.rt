@@ -34,10 +34,7 @@ pub fn lower_viable(
     ensures parts { IfOk result (SpellsProductive (has alphabet) (rules_of grammar.now.rules) grammar.now.judged) }
     ensures places { IfOk result (λ flat. places flat.nodes ≤ sizes limit (bodies (rules_of grammar.now.rules)) + 2) }
 {
-    // The contract of `judged` says that names compare without case.
-    let _judged = grammar.judged();
     let marks = productive(alloc, grammar, alphabet)?;
     let pruned = prune_rules(alloc, alphabet, grammar.rules(), &marks)?;
-    let flat = lower_rules(alloc, grammar, &pruned, limit)?;
-    Ok(flat)
+    lower_rules(alloc, grammar, &pruned, limit)
 }

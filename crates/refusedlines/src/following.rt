@@ -88,8 +88,7 @@ pub fn find_following<L: Letter>(
         AreFollowing (has L.ALPHABET) rules judged (map L.number line.now) f.after f.runs.items f.ends) }
 {
     let after = furthest_place(chart, flat, line)?;
-    let following = find_behind(alloc, chart, flat, &line[..after])?;
-    Ok(following)
+    find_behind(alloc, chart, flat, &line[..after])
 }
 
 /// Returns nothing. Its contract is a law: at most one list of runs has the letters that can follow the first letters

@@ -135,6 +135,5 @@ pub(crate) fn letters_read(
     for spot in spots {
         add_spot(alphabet, flat, *spot, &mut runs)?;
     }
-    let merged = merge_runs(alloc, runs)?;
-    Ok(merged)
+    merge_runs(alloc, runs)
 }

@@ -10,6 +10,6 @@ pub fn holds_line<R: Source>(feed: &mut Feed<'_, R>) -> bool
     ensures grows { Grows R.remaining feed.old feed.new }
     ensures line { IsTrue result ↔ Contains (bytes_of feed.new) 10 }
 {
-    let _held = feed.fill();
+    feed.fill();
     feed.find(b'\n').is_some()
 }

@@ -1,7 +1,6 @@
 //! Lists of the numbers of rules, by name.
-ghost use Rattle.std.specs.Prelude.{◌≡◌, ◌++◌, ◌∷◌, [], ℕ, List, IfOk, OnOk, if◌then◌else◌, slice_get};
+ghost use Rattle.std.specs.Prelude.{◌≡◌, IfOk, OnOk, slice_get};
 ghost use Rattle.std.specs.Option.{unwrap_or};
-ghost use Rattle.ruletable.specs.Rules.{same_name};
 ghost use Rattle.ruletable.specs.declared.table.NameCase.TheVariants.{Fold};
 ghost use Rattle.diagnostics.specs.NumberLists.{numbers_for};
 ghost use Rattle.abnftexts.specs.GivenRules.{text_rule};
@@ -9,11 +8,9 @@ ghost use Rattle.abnftexts.specs.ListedRules.{ListNames, ListsRule, is_listed as
 
 use crate::join::given::GivenRule;
 use crate::join::only_prose::is_only_prose;
-use ruletable::{Memory, NameCase, RuleTable, Span};
+use diagnostics::{add_number, numbers_of};
+use ruletable::{Memory, NameCase, RuleTable};
 use std::alloc::Global;
-
-// A name's position in a text is of no use here.
-const NOWHERE: Span = Span { start: 0, end: 0 };
 
 /// Which rules are listed.
 #[derive(Clone, Copy)]
@@ -37,44 +34,6 @@ fn is_listed(listed: Listed, rule: &GivenRule) -> bool
         Listed::Definitions => !rule.adds,
         Listed::Elements => !rule.adds && !is_only_prose(&rule.body),
         Listed::Additions => rule.adds,
-    }
-}
-
-/// Adds a number to the list of a name.
-///
-/// `Memory` if an allocation fails.
-pub(crate) fn add_number(
-    alloc: Global,
-    lists: &mut RuleTable<Vec<usize>>,
-    name: &[u8],
-    number: usize,
-) -> Result<(), Memory>
-    ensures names { OnOk result (lists.new.names ≡ lists.old.names) }
-    ensures added { OnOk result ((other : List ℕ) → numbers_for lists.new other ≡ numbers_for lists.old other
-        ++ (if same_name lists.old.names other name.now then number ∷ [] else [])) }
-{
-    if let Some(id) = lists.find(name)? {
-        lists.body_mut(id).push(number)?;
-        return Ok(());
-    }
-    let mut list = Vec::new(alloc);
-    list.push(number)?;
-    lists.define(name, list, NOWHERE)?;
-    Ok(())
-}
-
-/// Returns the numbers that are listed for a name.
-///
-/// `Memory` if an allocation fails.
-pub(crate) fn numbers_of<'a>(
-    lists: &'a RuleTable<Vec<usize>>,
-    name: &[u8],
-) -> Result<&'a [usize], Memory>
-    ensures { IfOk result (λ numbers. numbers.now ≡ numbers_for lists.now name.now) }
-{
-    match lists.find(name)? {
-        Some(id) => Ok(lists.body(id).as_slice()),
-        None => Ok(&[]),
     }
 }
 

@@ -4,10 +4,11 @@ ghost use Rattle.abnftexts.specs.GivenRules.{text_rule, first_wanted, first_same
 ghost use Rattle.abnftexts.specs.ListedRules.{ListKeys, ListNames};
 ghost use Rattle.abnftexts.specs.RuleKeys.{rule_key as key_of_rule};
 
-use crate::join::by_name::{Listed, add_number, first_number, numbers_by_name};
+use crate::join::by_name::{Listed, first_number, numbers_by_name};
 use crate::join::given::GivenRule;
 use crate::join::key::rule_key;
 use crate::join::only_prose::is_only_prose;
+use diagnostics::add_number;
 use ruletable::{Memory, NameCase, RuleTable};
 use std::alloc::Global;
 

@@ -4,8 +4,9 @@ ghost use Rattle.abnftexts.specs.GivenRules.{text_rule};
 ghost use Rattle.abnftexts.specs.JoinedRules.{first_definition, printed_at, joined_order, clash_at, clashes_of};
 ghost use Rattle.abnftexts.specs.ListedRules.{ListNames};
 
-use crate::join::by_name::{Listed, first_number, list_rule, numbers_by_name, numbers_of};
+use crate::join::by_name::{Listed, first_number, list_rule, numbers_by_name};
 use crate::join::given::GivenRule;
+use diagnostics::numbers_of;
 use ruletable::{Memory, NameCase, RuleTable};
 use std::alloc::Global;
 

@@ -12,7 +12,7 @@ const NOWHERE: Span = Span { start: 0, end: 0 };
 /// Adds a number to the list of a name.
 ///
 /// `Memory` if an allocation fails.
-pub(crate) fn add_number(
+pub fn add_number(
     alloc: Global,
     lists: &mut RuleTable<Vec<usize>>,
     name: &[u8],
@@ -35,10 +35,7 @@ pub(crate) fn add_number(
 /// Returns the numbers that are listed for a name.
 ///
 /// `Memory` if an allocation fails.
-pub(crate) fn numbers_of<'a>(
-    lists: &'a RuleTable<Vec<usize>>,
-    name: &[u8],
-) -> Result<&'a [usize], Memory>
+pub fn numbers_of<'a>(lists: &'a RuleTable<Vec<usize>>, name: &[u8]) -> Result<&'a [usize], Memory>
     ensures { IfOk result (λ numbers. numbers.now ≡ numbers_for lists.now name.now) }
 {
     match lists.find(name)? {

@@ -39,13 +39,9 @@ fn lines_of_found(
         Some(farthest) => {
             let unit = at.byte + offset;
             let place = at.behind(&seen[..offset + farthest.place]);
-            let why = lines_of_farthest(alloc, peg, &seen[offset..], place, unit, farthest)?;
-            Ok(why)
+            lines_of_farthest(alloc, peg, &seen[offset..], place, unit, farthest)
         }
-        None => {
-            let why = Vec::from_slice(alloc, b"  no comparison failed outside of \"!\"\n")?;
-            Ok(why)
-        }
+        None => Ok(Vec::from_slice(alloc, b"  no comparison failed outside of \"!\"\n")?),
     }
 }
 
@@ -95,8 +91,7 @@ impl FailureSearch {
     {
         farthest_is_within();
         self.evaluated = self.evaluated.saturating_add(1);
-        let found = farthest_failure(alloc, peg, seen)?;
-        Ok(found)
+        farthest_failure(alloc, peg, seen)
     }
 
     /// Returns where the unit before the last one fails farthest, if the last one begins `last` bytes after it; nothing
@@ -157,14 +152,8 @@ impl FailureSearch {
         let before = self.failure_before(alloc, peg, seen, at.byte, last)?;
         let latest = self.failure_in(alloc, peg, &seen[last..], at.byte + last)?;
         match told_unit(byte_of(&before, at.byte), byte_of(&latest, at.byte + last)) {
-            Told::Before => {
-                let why = lines_of_found(alloc, peg, seen, at, 0, &before)?;
-                Ok(why)
-            }
-            Told::Last => {
-                let why = lines_of_found(alloc, peg, seen, at, last, &latest)?;
-                Ok(why)
-            }
+            Told::Before => lines_of_found(alloc, peg, seen, at, 0, &before),
+            Told::Last => lines_of_found(alloc, peg, seen, at, last, &latest),
         }
     }
 }

@@ -35,8 +35,7 @@ pub(crate) fn leaf_at(alloc: Global, peg: &SoundPeg, n: usize) -> Result<Vec<u8>
     requires { n < length peg.now.nodes }
     ensures { IfOk result (λ text. text.items ≡ leaf_text (slice_get (shapes_of peg.now.nodes) n)) }
 {
-    let leaf = leaf_of(alloc, peg.node(n))?;
-    Ok(leaf)
+    leaf_of(alloc, peg.node(n))
 }
 
 /// Returns the name of the rule in whose body the node of that number stands.

@@ -6,9 +6,8 @@ ghost use Rattle.pegexplain.specs.PegNotes.{ArePegPlaces};
 ghost use Rattle.diagnostics.specs.ShownBytes.{cut};
 ghost use Rattle.pegread.specs.Canon.{text_of};
 ghost use Rattle.pegread.specs.Pattern.{Bytes};
-ghost use Rattle.pegread.specs.PegViews.{rules_of};
 ghost use Rattle.pegexplain.specs.CodeHints.{hint_found};
-ghost use Rattle.pegexplain.specs.PegHints.{ArePegHints, hint_line, hint_told, hints_of, hints_told, rule_told};
+ghost use Rattle.pegexplain.specs.PegHints.{ArePegHints, hint_line, hint_told, hints_told, rule_told};
 
 use crate::PegPlaces;
 use crate::hints::hints::{Hint, all_hints};
@@ -133,17 +132,6 @@ fn push_first_hints(
     Ok(())
 }
 
-// The text of the hints on the rules.
-fn hints_text(alloc: Global, places: &PegPlaces) -> Result<Vec<u8>, Memory>
-    ensures { IfOk result (λ text. text.items ≡ hints_told (mention_lines_by places.now.places MentionKind.Literal)
-        (hints_of (rules_of places.now.rules))) }
-{
-    let hints = all_hints(alloc, &places.rules)?;
-    let mut out = Vec::new(alloc);
-    push_first_hints(alloc, &mut out, places, &hints)?;
-    Ok(out)
-}
-
 /// Returns what is reported of the alternatives of a grammar that are never taken, since a literal before them is taken
 /// wherever they would be: of each of the first `MAX_HINTS` its rule and both literals, with the line of the later one,
 /// and how many more there are.
@@ -153,6 +141,8 @@ fn hints_text(alloc: Global, places: &PegPlaces) -> Result<Vec<u8>, Memory>
 pub fn peg_hints(alloc: Global, places: &PegPlaces) -> Result<Vec<u8>, Memory>
     ensures { IfOk result (λ told. (text : List ℕ) → ArePegPlaces text places.now → ArePegHints text told.items) }
 {
-    let told = hints_text(alloc, places)?;
+    let hints = all_hints(alloc, &places.rules)?;
+    let mut told = Vec::new(alloc);
+    push_first_hints(alloc, &mut told, places, &hints)?;
     Ok(told)
 }

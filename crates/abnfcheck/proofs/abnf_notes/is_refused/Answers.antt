@@ -1,6 +1,7 @@
 -- By a mark, by the judged name, or by what is reached.
 use Rattle.std.proofs.Common.{ap, arith, length, refl}
 use Rattle.std.proofs.lemmas.List.{length-map}
+use Rattle.std.proofs.lemmas.Result.{IfOk-weaker}
 use Rattle.abnfread.specs.Element.{Rule}
 use Rattle.abnfcheck.specs.ProseIn.{prose_in}
 use Rattle.abnfcheck.proofs.AbnfNotesLemmas.{refused_again, refused_no_rule, refused_broken, broken_refused}
@@ -24,9 +25,9 @@ returns-then-ids-prose c = λ file rules given again graph prose marks. (
 )
 
 pub returns : goal.returns
-returns c = λ file rules given again graph prose marks.
-    let tells = rw (c.deref.ensures.value, prose) at c.in_ok-broken.ensures in (
+returns c = IfOk-weaker c.reaches_broken.result _ _ (λ _ told file rules given again graph prose marks.
+    let tells = rw (c.deref.ensures.value, prose) at told in (
       (λ is. let b = tells.0 is in refused_broken rules given _ _ _ graph file again _ marks b.0 b.1),
       (λ h. tells.1 (broken_refused rules given _ _ _ graph file again _ marks
           (λ id on. let yes = c.some_set.ensures.1 (id, on) in let no = c.if-some_set.false in cc (yes, no)) h)),
-    )
+    )) c.reaches_broken.ensures

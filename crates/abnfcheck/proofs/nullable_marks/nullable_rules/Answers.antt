@@ -9,15 +9,16 @@ use Rattle.abnfcheck.proofs.nullable_marks.nullable_rules.Goals as goal
 
 pub returns-clause-count : goal.returns-clause-count
 returns-clause-count c =
-    let same = c.len.ensures.len ∙ ap (λ (t : table.Rules Elem). length t.rules) (c.rules-2.ensures
-    ∙ sym c.rules.ensures) ∙ sym (length-map c.rules.result.now.rules rule_of) in
+    let same = c.len.ensures.len ∙ ap (λ (t : table.Rules Elem). length t.rules) (c.rules-2.ensures.rules
+    ∙ sym c.rules.ensures.rules) ∙ sym (length-map c.rules.result.now.rules rule_of) in
     let fits = c.in_ok-marks.ensures.count in
-    rw (c.truncate.ensures.items, sym c.rules.ensures)
+    rw (c.truncate.ensures.items, sym c.rules.ensures.rules)
     (length-take-le c.len.result c.in_ok-marks.marks.items (omega (arith, same, fits)) ∙ same)
 
 pub returns-clause-marks : goal.returns-clause-marks
 returns-clause-marks c =
-    rw (c.truncate.ensures.items, sym c.rules.ensures)
+    rw (c.truncate.ensures.items, sym c.rules.ensures.rules)
     (null_marks (rules_of c.rules.result.now) c.in_ok-marks.marks.items c.len.result
-    (c.len.ensures.len ∙ ap (λ (t : table.Rules Elem). length t.rules) (c.rules-2.ensures ∙ sym c.rules.ensures)
+    (c.len.ensures.len ∙ ap (λ (t : table.Rules Elem). length t.rules) (c.rules-2.ensures.rules
+    ∙ sym c.rules.ensures.rules)
     ∙ sym (length-map c.rules.result.now.rules rule_of)) c.in_ok-marks.ensures.marks)

@@ -8,8 +8,9 @@ use Rattle.abnfcheck.proofs.YieldsLemmas.{productive_marks}
 use Rattle.abnfcheck.proofs.productive_marks.productive.Goals as goal
 
 pub returns : goal.returns
-returns c = rw (c.truncate.ensures.items, sym c.rules.ensures)
+returns c = rw (c.truncate.ensures.items, sym c.rules.ensures.rules)
     (productive_marks c.args.alphabet (rules_of c.rules.result.now) c.in_ok-marks.marks.items c.len.result
-    (c.len.ensures.len ∙ ap (λ (t : table.Rules Elem). length t.rules) (c.rules-2.ensures ∙ sym c.rules.ensures)
+    (c.len.ensures.len ∙ ap (λ (t : table.Rules Elem). length t.rules) (c.rules-2.ensures.rules
+    ∙ sym c.rules.ensures.rules)
     ∙ sym (length-map c.rules.result.now.rules rule_of))
     c.in_ok-marks.ensures.count c.in_ok-marks.ensures.marks)

@@ -17,15 +17,15 @@ least-requires c = subst AreNeedsWithin (sym (lent_needs c)) c.in_ok-needs.ensur
 
 pub returns-clause-marks : goal.returns-clause-marks
 returns-clause-marks c = marks_for c.args.aim (rules_of c.args.rules.now) _ _ c.in_ok-needs.ensures.bodies
-    (subst (λ v. AreMarksOfThose v c.in_ok-marks.marks.items)
+    (subst (λ v. AreMarksOfThose v c.in_ok-least.field-0.items)
     (ap demands_of c.deref-2.ensures.value ∙ c.in_ok-borrowed.ensures ∙ ap owned_demands_of c.deref.ensures.value)
-    c.in_ok-marks.ensures.marks)
+    c.in_ok-least.ensures.marks)
 
 pub returns-clause-count : goal.returns-clause-count
 returns-clause-count c =
     let e = ap length (ap demands_of c.deref-2.ensures.value ∙ c.in_ok-borrowed.ensures
     ∙ ap owned_demands_of c.deref.ensures.value) in
     let l = length-map c.deref-2.result.now demand_of in
-    let n = c.in_ok-marks.ensures.count in
+    let n = c.in_ok-least.ensures.count in
     let f = c.in_ok-needs.ensures.fits in
     omega (arith, e, l, n, f)

@@ -1,6 +1,7 @@
 -- The marks on the names of the rules.
 use Rattle.std.proofs.Common.{◌≡◌, ◌∙◌, ap, length, sym}
 use Rattle.std.proofs.lemmas.List.{length-map}
+use Rattle.std.proofs.lemmas.Result.{MatchResult-weaker}
 use Rattle.fixpoint.specs.Demands.{demands_of}
 use Rattle.fixpoint.specs.StepRows.{rows_of}
 use Rattle.fixpoint.proofs.RowsOfLemmas.{length-demands}
@@ -20,10 +21,10 @@ returns c =
     let prose = c.deref-2.ensures.value ∙ c.in_ok-prose.ensures in
     let count : c.len.result ≡ length rules = c.len.ensures.len
     ∙ sym (length-map c.args.rules.now.rules rule_of) in
-    rw (c.in_ok-sound.ensures, c.deref-4.ensures.value)
+    MatchResult-weaker c.opposites.result c.opposites.ensures (λ sound are. rw (are, c.deref-4.ensures.value)
     (sound_marks rules _ _ (rows_of c.in_ok-ids.ids.rows.items) _ c.in_ok-ids.ensures.graph
     (demands_of c.in_ok-needs.needs.items) c.in_ok-broken.broken.items c.len.result
     (rw (prose, c.deref.ensures.value) at c.in_ok-needs.ensures)
     (rw c.deref-3.ensures.value at c.in_ok-broken.ensures.marks)
     (c.in_ok-broken.ensures.count ∙ ap length c.deref-3.ensures.value ∙ sym (length-demands c.in_ok-needs.needs.items))
-    count)
+    count)) (λ _ _. tt)

@@ -1,3 +1,4 @@
+use Rattle.std.proofs.lemmas.Result.{IfOk-weaker, MatchResult-weaker}
 use Rattle.abnfread.specs.MarkedTokens.{marked_of}
 use Rattle.abnfexplain.proofs.AbnfExplainedLemmas.{start-within, origin-within, hopeless-why, deep-why, large-why}
 use Rattle.abnfexplain.proofs.abnf_explain.explain_token.Goals as goal
@@ -30,23 +31,25 @@ limit_lines-requires-in-Some-TooLarge c =
     start-within c.args.text.now (λ ts are. c.tokens_make_up.ensures.slices c.args.text.now ts are)
     (marked_of c.in-Some-TooLarge.token) _ d
 
-pub returns-in_ok-why-in-Some-Hopeless : goal.returns-in_ok-why-in-Some-Hopeless
-returns-in_ok-why-in-Some-Hopeless c =
+pub returns-in-Some-Hopeless : goal.returns-in-Some-Hopeless
+returns-in-Some-Hopeless c =
     let h = c.in_ok-decision.ensures in
     let d = rw (c.in-Some-Hopeless.is, c.in-Some-Hopeless.field-0-is) at h in
-    let said = c.in_ok-why-in-Some-Hopeless.ensures in
-    hopeless-why c.args.text.now c.requires.within c.in-Some-Hopeless.refused said.0 _ d said.1 said.2
+    MatchResult-weaker c.hopeless_lines.result c.hopeless_lines.ensures (λ why said.
+    hopeless-why c.args.text.now c.requires.within c.in-Some-Hopeless.refused said.0 _ d said.1 said.2)
+    (λ _ _. tt)
 
-pub returns-in_ok-why-in-Some-TooDeep : goal.returns-in_ok-why-in-Some-TooDeep
-returns-in_ok-why-in-Some-TooDeep c =
+pub returns-in-Some-TooDeep : goal.returns-in-Some-TooDeep
+returns-in-Some-TooDeep c =
     let h = c.in_ok-decision.ensures in
     let d = rw (c.in-Some-TooDeep.is, c.in-Some-TooDeep.field-0-is) at h in
-    deep-why c.args.text.now c.requires.within (marked_of c.in-Some-TooDeep.token) _ d
-    c.in_ok-why-in-Some-TooDeep.ensures
+    IfOk-weaker c.limit_lines.result _ _
+    (λ why. deep-why c.args.text.now c.requires.within (marked_of c.in-Some-TooDeep.token) _ d) c.limit_lines.ensures
 
-pub returns-in_ok-why-in-Some-TooLarge : goal.returns-in_ok-why-in-Some-TooLarge
-returns-in_ok-why-in-Some-TooLarge c =
+pub returns-in-Some-TooLarge : goal.returns-in-Some-TooLarge
+returns-in-Some-TooLarge c =
     let h = c.in_ok-decision.ensures in
     let d = rw (c.in-Some-TooLarge.is, c.in-Some-TooLarge.field-0-is) at h in
-    large-why c.args.text.now c.requires.within (marked_of c.in-Some-TooLarge.token) _ d
-    c.in_ok-why-in-Some-TooLarge.ensures
+    IfOk-weaker c.limit_lines-in-Some-TooLarge.result _ _
+    (λ why. large-why c.args.text.now c.requires.within (marked_of c.in-Some-TooLarge.token) _ d)
+    c.limit_lines-in-Some-TooLarge.ensures

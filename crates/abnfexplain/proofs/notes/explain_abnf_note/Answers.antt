@@ -1,4 +1,5 @@
 use Rattle.std.proofs.Common.{option_copied}
+use Rattle.std.proofs.lemmas.Result.{IfOk-weaker}
 use Rattle.diagnostics.proofs.ExplainedNoteLemmas.{places-explain}
 use Rattle.abnfread.specs.AbnfKinds.{ends_list}
 use Rattle.abnfread.specs.AbnfSlices.{White, First}
@@ -9,5 +10,6 @@ use Rattle.abnfexplain.specs.AbnfNoteLines.{sign_of}
 use Rattle.abnfexplain.proofs.notes.explain_abnf_note.Goals as goal
 
 pub returns : goal.returns
-returns c = λ text are. places-explain White First ends_list sign_of Lf Fold text c.args.places.now
-    (option_copied c.args.start) (said_of c.args.note.now) c.in_ok-why.why.items are c.in_ok-why.ensures
+returns c = IfOk-weaker c.explain_note.result _ _ (λ why is text are.
+    places-explain White First ends_list sign_of Lf Fold text c.args.places.now
+    (option_copied c.args.start) (said_of c.args.note.now) why.items are is) c.explain_note.ensures

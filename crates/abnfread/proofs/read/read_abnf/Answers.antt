@@ -1,6 +1,11 @@
-use Rattle.std.proofs.Common.{rules as search_rules}
-use Rattle.abnfread.proofs.AbnfFaultLemmas.{one-reading, no-fault}
+use Rattle.std.proofs.Common.{rules as search_rules, arith}
+use Rattle.abnfread.proofs.AbnfFaultLemmas.{long-fault, one-reading, no-fault}
 use Rattle.abnfread.proofs.read.read_abnf.Goals as goal
+
+pub returns-in_err-definitions-clause-long : goal.returns-in_err-definitions-clause-long
+returns-in_err-definitions-clause-long c = λ long.
+    let h = long-fault c.args.text.now (λ le. omega arith) _ c.in_err-definitions.ensures.fault in
+    search (search_rules, h)
 
 pub returns-in_err-definitions-clause-only : goal.returns-in_err-definitions-clause-only
 returns-in_err-definitions-clause-only c = λ definitions reads.

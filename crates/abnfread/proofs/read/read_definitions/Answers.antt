@@ -27,8 +27,8 @@ returns-then-open_brackets-gt-MAX_OPEN-clause-fault c =
     let there = one-there h (marked_of t) (AreLeft c.next.new.self) c.in-Some.ensures.steps.first
     c.line_in.ensures.tokens in
     let took = c.in-Ok.ensures in
-    too-deep h t.token.kind t.token.slice.now t.token.span t.gap t.first there.0 there.1 c.line_in.result c.requires
-    c.line_in.ensures.line
+    too-deep h t.token.kind t.token.slice.now t.token.span t.gap t.first there.0 there.1 c.line_in.result
+    c.if-text-gt-MAX_GRAMMAR.false c.line_in.ensures.line
     (config_of c.take_token.new.reader) took.0 took.1 took.2 (says-kind took.3) took.3 took.5
     (omega (arith, c.open_brackets.ensures, c.if-open_brackets-gt-MAX_OPEN.true))
 
@@ -50,7 +50,7 @@ returns-in-Err-Hopeless-clause-fault c =
     c.line_in-in-Err-Hopeless.ensures.tokens in
     let stops = rw c.in-Err-Hopeless.field-0-is at c.in-Err-Hopeless.ensures in
     hopeless-there h t.token.kind t.token.slice.now t.token.span t.gap t.first there.0 there.1
-    c.line_in-in-Err-Hopeless.result c.requires c.line_in-in-Err-Hopeless.ensures.line stops
+    c.line_in-in-Err-Hopeless.result c.if-text-gt-MAX_GRAMMAR.false c.line_in-in-Err-Hopeless.ensures.line stops
 
 pub returns-in-Err-TooLarge-clause-fault : goal.returns-in-Err-TooLarge-clause-fault
 returns-in-Err-TooLarge-clause-fault c =
@@ -60,7 +60,7 @@ returns-in-Err-TooLarge-clause-fault c =
     c.line_in-in-Err-TooLarge.ensures.tokens in
     let over = rw c.in-Err-TooLarge.field-0-is at c.in-Err-TooLarge.ensures in
     too-large h t.token.kind t.token.slice.now t.token.span t.gap t.first there.0 there.1
-    c.line_in-in-Err-TooLarge.result c.requires c.line_in-in-Err-TooLarge.ensures.line
+    c.line_in-in-Err-TooLarge.result c.if-text-gt-MAX_GRAMMAR.false c.line_in-in-Err-TooLarge.ensures.line
     over.0 over.1 over.2 over.3 (says-kind over.4) over.4 over.5 over.6
 
 pub unreachable-requires : goal.unreachable-requires
@@ -74,4 +74,4 @@ returns-clause-found c =
     let none = c.in-None.ensures.steps.step in
     let ended = all-done h none in
     let same = c.in-Some-into_definitions.ensures.done ended.0 ended.1 in
-    rw same (all-read h none ended.0 ended.1 c.requires)
+    rw same (all-read h none ended.0 ended.1 c.if-text-gt-MAX_GRAMMAR.false)

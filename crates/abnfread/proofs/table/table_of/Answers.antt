@@ -1,5 +1,5 @@
 use Rattle.std.proofs.Common.{◌≡◌, [], arith}
-use Rattle.abnfread.specs.AbnfReader.{definitions_from}
+use Rattle.abnfread.specs.AbnfViews.{definitions_from}
 use Rattle.abnfread.proofs.FirstBodyLemmas.{length-none}
 use Rattle.abnfread.proofs.JoinedTableLemmas.{goes-first, goes-last, goes-on}
 use Rattle.abnfread.proofs.table.table_of.Goals as goal

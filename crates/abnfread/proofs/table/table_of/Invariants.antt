@@ -1,4 +1,4 @@
-use Rattle.abnfread.specs.AbnfReader.{definitions_from}
+use Rattle.abnfread.specs.AbnfViews.{definitions_from}
 use Rattle.abnfread.specs.AbnfTable.{IsCoreTable}
 use Rattle.abnfread.proofs.JoinedTableLemmas.{Goes}
 use Rattle.abnfread.proofs.table.table_of.Given as goal

@@ -1,5 +1,5 @@
 use Rattle.std.proofs.Common.{sym, ◌∙◌}
-use Rattle.abnfread.specs.AbnfReader.{definition_from}
+use Rattle.abnfread.specs.AbnfViews.{definition_from}
 use Rattle.abnfread.specs.AbnfTable.{grows, extends, begins}
 use Rattle.abnfread.proofs.JoinedTableLemmas.{extended-rules}
 use Rattle.abnfread.proofs.table.take_addition.Goals as goal

@@ -1,9 +1,11 @@
+use Rattle.std.proofs.lemmas.Result.{IfOk-weaker}
 use Rattle.abnfread.specs.AbnfViews.{rules_of}
 use Rattle.abnfrun.proofs.AbnfTextHintsLemmas.{text_hints}
 use Rattle.abnfrun.proofs.hints.hints_of.Goals as goal
 
 pub returns : goal.returns
-returns c = λ text are.
+returns c = IfOk-weaker c.abnf_hints.result _ _ (λ hints told text are.
     text_hints text c.args.settings.now are.definitions (rules_of c.args.places.now.rules) c.args.places.now.count
-    c.in_ok-judged.judged c.line_end.result c.in_ok-hints.hints.items are.reads are.all are.counted
-    c.in_ok-judged.ensures c.line_end.ensures (c.in_ok-hints.ensures text are.places)
+    c.in_ok-judged.judged c.line_end.result hints.items are.reads are.all are.counted
+    c.in_ok-judged.ensures c.line_end.ensures (told text are.places))
+    c.abnf_hints.ensures

@@ -1,4 +1,5 @@
 use Rattle.std.proofs.Common.{arith, subst, Contains}
+use Rattle.std.proofs.lemmas.Result.{IfOk-weaker}
 use Rattle.fixpoint.specs.NumberMarks.{AreMarksOf}
 use Rattle.fixpoint.proofs.LeastLemmas as m
 use Rattle.fixpoint.proofs.RowsOfLemmas as t
@@ -11,5 +12,6 @@ marks_of-requires c = λ k h.
     omega (arith, lt, l)
 
 pub returns-clause-marks : goal.returns-clause-marks
-returns-clause-marks c = m.marks_of_those _ _ c.in_ok-order.ensures _
-    (subst (λ v. AreMarksOf v c.in_ok-marks.marks.items) c.deref.ensures.value c.in_ok-marks.ensures.marks)
+returns-clause-marks c = IfOk-weaker c.marks_of.result _ _
+    (λ marks are. m.marks_of_those _ _ c.in_ok-order.ensures _
+    (subst (λ v. AreMarksOf v marks.items) c.deref.ensures.value are)) c.marks_of.ensures.marks

@@ -1,3 +1,4 @@
+use Rattle.std.proofs.lemmas.Result.{IfOk-weaker}
 use Rattle.flatgrammar.proofs.RootLemmas as o
 use Rattle.flatgrammar.proofs.roots.find_roots.Goals as goal
 
@@ -5,5 +6,6 @@ pub settle_all-requires : goal.settle_all-requires
 settle_all-requires c = rw c.deref_mut.ensures.value (o.firsts_within _ _ _ c.in_ok-ways.ensures c.requires)
 
 pub returns : goal.returns
-returns c = o.roots_found c.in_ok-ways.ensures c.deref_mut.ensures.value c.in_ok-settle_all.ensures.ways
-    c.in_ok-settle_all.ensures.found (c.in_ok-ways.ways.ok.0) c.deref.ensures.value c.in_ok-roots.ensures
+returns c = IfOk-weaker c.found_roots.result _ _ (λ roots are.
+    o.roots_found c.in_ok-ways.ensures c.deref_mut.ensures.value c.in_ok-settle_all.ensures.ways
+    c.in_ok-settle_all.ensures.found (c.in_ok-ways.ways.ok.0) c.deref.ensures.value are) c.found_roots.ensures

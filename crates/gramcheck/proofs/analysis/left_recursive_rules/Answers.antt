@@ -8,4 +8,4 @@ returns c =
     let h = c.in_ok-found.ensures rules (rw (c.deref.ensures.value, c.deref-2.ensures.value)
     c.in_ok-cut.ensures.bodies) in
     let found = rw (c.deref.ensures.value, c.deref-2.ensures.value) at h in
-    marks-recursive rules _ _ _ _ _ _ found (own-ids c.args.rules.now c.requires c.len.ensures.unique)
+    marks-recursive rules _ _ _ _ _ _ found (own-ids c.args.rules.now c.requires c.in_ok-cut.ensures.unique)

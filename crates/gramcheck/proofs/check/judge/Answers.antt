@@ -47,7 +47,7 @@ module _ (c : goal.After-drop-found-4) where
       (map said_of c.in_ok-notes.notes.items)
   notes = c.in_ok-notes.ensures
       (rw c.deref-3.ensures.value (marks-recursive rules _ _ _ _ _ _ found
-      (own-ids c.args.rules.now c.requires c.len.ensures.unique)))
+      (own-ids c.args.rules.now c.requires c.in_ok-cut.ensures.unique)))
       (rw c.deref-4.ensures.value (marks-looping rules _ _ _ _ _ _ found))
 
 pub returns-clause-notes : goal.returns-clause-notes

@@ -18,7 +18,12 @@ returns c =
     let ids = c.in_ok-uses.uses.ids.items in
     let undefined = rw (undefined-names (rules_of t) start ids missing c.in_ok-uses.ensures) at
     c.in_ok-note_undefined.ensures in
-    IfOk-weaker c.note_unused.result _ _ (λ _ noted.
-    let used = rw (c.deref.ensures.value, sym count) at noted.1 in
-    let unused = marks-unused (rules_of t) start ids missing c.in_ok-uses.ensures own noted.0 used in
-    (map not noted.0, unused, rw undefined at noted.2)) c.note_unused.ensures
+    let marks = c.in_ok-used.used.items in
+    let used = rw (c.deref.ensures.value, c.len.ensures.len, sym count) at c.in_ok-used.ensures in
+    let unused = marks-unused (rules_of t) start ids missing c.in_ok-uses.ensures own marks used in
+    IfOk-weaker c.note_marked.result _ _ (λ _ noted. (
+      map not marks,
+      unused,
+      rw (c.deref-3.ensures.value, c.in_ok-unused.ensures, c.deref-2.ensures.value, undefined) at noted,
+    ))
+    c.note_marked.ensures

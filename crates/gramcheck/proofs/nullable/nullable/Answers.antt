@@ -18,4 +18,4 @@ pub returns-clause-marks : goal.returns-clause-marks
 returns-clause-marks c = λ rules are.
     let is = ap demands_of c.deref.ensures.value ∙ c.in_ok-needs.ensures in
     n.null_marks rules _ _ are _ (subst
-    (λ v. AreMarksOfThose v c.in_ok-marks.marks.items) is c.in_ok-marks.ensures.marks)
+    (λ v. AreMarksOfThose v c.in_ok-least.field-0.items) is c.in_ok-least.ensures.marks)

@@ -18,4 +18,4 @@ pub returns : goal.returns
 returns c = λ rules are.
     let is = ap demands_of c.deref.ensures.value ∙ c.in_ok-needs.ensures in
     marks_those_that_print rules _ _ are _ (subst
-    (λ v. AreMarksOfThose v c.in_ok-marks.marks.items) is c.in_ok-marks.ensures.marks)
+    (λ v. AreMarksOfThose v c.in_ok-least.field-0.items) is c.in_ok-least.ensures.marks)

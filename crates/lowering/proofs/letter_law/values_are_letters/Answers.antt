@@ -22,4 +22,4 @@ pub loop-letter-preserved : goal.loop-letter-preserved
 loop-letter-preserved g c =
     next_letter (has g.L.Letter.ALPHABET) g.L.Letter.number c.args.line.now c.loop-letter.letter-index
     c.letter-item.result c.loop-letter-test.true c.letter-item.is c.loop-letter.invariant
-    (subst (λ v. has g.L.Letter.ALPHABET v ≡ true) c.value-value.ensures.number c.value-value.ensures.letter)
+    (subst (λ v. has g.L.Letter.ALPHABET v ≡ true) c.value.ensures.number c.value.ensures.letter)

@@ -1,4 +1,5 @@
 use Rattle.std.proofs.Common.{subst}
+use Rattle.std.proofs.lemmas.Result.{MatchResult-weaker}
 use Rattle.abnfread.specs.AbnfViews.{rules_of}
 use Rattle.lowering.specs.Lowered.{IsLowered}
 use Rattle.lowering.proofs.LoweredLemmas as o
@@ -6,7 +7,9 @@ use Rattle.lowering.proofs.lowered.lower.Goals as goal
 
 pub returns-clause-derives : goal.returns-clause-derives
 returns-clause-derives c =
-    λ has x line letters. o.lowered_tells (rules_of c.args.grammar.now.rules) c.args.grammar.now.judged
-    c.in_ok-flat.flat
-    (subst (λ v. IsLowered (rules_of v) c.args.grammar.now.judged c.in_ok-flat.flat) c.rules.ensures
-    c.in_ok-flat.ensures.lowered) has x (rw c.in_ok-flat.ensures.limit line) letters
+    MatchResult-weaker c.lower_rules.result
+    (o.ok_both c.lower_rules.result _ _ c.lower_rules.ensures.limit c.lower_rules.ensures.lowered)
+    (λ flat made has x line letters.
+    o.lowered_tells (rules_of c.args.grammar.now.rules) c.args.grammar.now.judged flat
+    (subst (λ v. IsLowered (rules_of v) c.args.grammar.now.judged flat) c.rules.ensures.rules made.1)
+    has x (rw made.0 line) letters) (λ _ _. tt)

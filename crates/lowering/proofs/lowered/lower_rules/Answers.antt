@@ -1,5 +1,6 @@
 use Rattle.std.proofs.Common.{sym}
 use Rattle.std.proofs.lemmas.List.{length-map}
+use Rattle.std.proofs.lemmas.Result.{IfOk-weaker, MatchResult-weaker}
 use Rattle.abnfread.specs.AbnfViews.{rule_of, rules_of}
 use Rattle.lowering.proofs.LoweredLemmas as o
 use Rattle.lowering.proofs.NamesTellLemmas.{names_tell, null_alike, null_at, null_rules, judged_there}
@@ -33,17 +34,21 @@ new-requires-clause-within c =
 
 pub returns-clause-lowered : goal.returns-clause-lowered
 returns-clause-lowered c =
+    let made = c.new.ensures in
+    let facts = o.ok_both c.new.result _ _ made.nodes (o.ok_both c.new.result _ _ made.limit
+    (o.ok_both c.new.result _ _ made.bodies made.whole)) in
+    MatchResult-weaker c.new.result facts (λ flat is.
     o.is_lowered (rules_of c.args.rules.now) c.args.limit c.args.grammar.now.judged _ _ _ c.index.result.now _ _ _ _ _ _
     c.in_ok-bodies.ensures (sym (length-map c.args.rules.now.rules rule_of))
-    c.in_ok-whole.ensures.nodes c.in_ok-members.ensures c.in_ok-flat.ensures.nodes c.in_ok-flat.ensures.limit
+    c.in_ok-whole.ensures.nodes c.in_ok-members.ensures is.0 is.1.0
     (rw c.judged-judged.ensures.id at c.index.ensures)
     (judged_there _ _ _ c.requires.alike c.judged-judged.ensures.sound.sound.judged_is_rule)
-    c.in_ok-whole.ensures.number
-    c.in_ok-flat.ensures.bodies c.in_ok-flat.ensures.whole
+    c.in_ok-whole.ensures.number is.1.1.0 is.1.1.1) (λ _ _. tt)
 
 pub returns-clause-places : goal.returns-clause-places
 returns-clause-places c =
+    IfOk-weaker c.new.result _ _ (λ flat nodes.
     o.places_sized (rules_of c.args.rules.now) c.args.limit c.args.grammar.now.judged _ c.in_ok-whole.whole _ 0 _ _
     _ _ _
-    c.in_ok-flat.flat c.in_ok-bodies.ensures (sym (length-map c.args.rules.now.rules rule_of))
-    c.in_ok-whole.ensures.nodes c.in_ok-members.ensures c.in_ok-flat.ensures.nodes
+    flat c.in_ok-bodies.ensures (sym (length-map c.args.rules.now.rules rule_of))
+    c.in_ok-whole.ensures.nodes c.in_ok-members.ensures nodes) c.new.ensures.nodes

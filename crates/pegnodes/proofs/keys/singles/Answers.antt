@@ -14,7 +14,7 @@ least-requires c =
 
 pub returns : goal.returns
 returns c = λ start bodies known m marked.
-    let are = subst (λ v. AreMarksOfThose v c.in_ok-marks.marks.items) (ap demands_of c.deref.ensures.value)
-    c.in_ok-marks.ensures.marks in
+    let are = subst (λ v. AreMarksOfThose v c.in_ok-least.field-0.items) (ap demands_of c.deref.ensures.value)
+    c.in_ok-least.ensures.marks in
     o.comes_single start (shapes_of c.args.nodes.now) bodies (demands_of c.in_ok-needs.needs.items)
     (c.in_ok-needs.ensures.justified start bodies known) ((are m).0 marked)

@@ -1,12 +1,21 @@
 -- One more unit, or the end.
-use Rattle.std.proofs.Common.{[], ◌++◌, ◌≤◌, ◌∙◌, length, take, refl, ap, rules, arith}
+use Rattle.std.proofs.Common.{◌≡◌, false, [], ◌++◌, ◌+◌, ◌≤◌, ◌∙◌, length, take, refl, ap, rules, arith}
 use Rattle.std.proofs.Common.{length-append, length-drop}
+use Rattle.std.specs.Io.KnownBytes.{Consumes}
+use Rattle.feed.specs.Feed.{bytes_of, reader_of}
 use Rattle.ruletable.proofs.AppendsLemmas.{Appends-same}
 use Rattle.feed.proofs.GrowsLemmas.{Consumes-same}
 use Rattle.pegrun.specs.Units.{none}
 use Rattle.toolrun.proofs.AgreesLemmas.{agrees_earlier, seen_more, slides-bytes, slides-len}
 use Rattle.pegrun.proofs.CutLemmas.{one_more_unit, stops_at_place, fails_there, unit_kept}
 use Rattle.pegrun.proofs.FollowsLemmas.{follows_front, front_is_first}
+use Rattle.matchfailure.specs.NoMatches.{unit_before}
+use Rattle.pegread.specs.PegViews.{rules_of}
+use Rattle.pegrun.specs.MatchCalls.{calls_of}
+use Rattle.pegrun.specs.PastUnits.{Follows}
+use Rattle.pegrun.specs.StopsExplained.{UnitBefore}
+use Rattle.pegrun.proofs.PassedCutLemmas.{consumed_now, cut_at_fault, cut_at_write_fault, none_more}
+use Rattle.pegrun.proofs.PassedCutLemmas.{not_asked, not_broken, written_on}
 use Rattle.pegrun.proofs.engine.cut.Goals as goal
 
 pub loop-n-init : goal.loop-n-init
@@ -16,6 +25,7 @@ loop-n-init g c = record {
   told = c.requires.told;
   loan = refl;
   flag = refl;
+  units = c.clear.ensures c.args.peg.now c.args.settings.now.options.raw;
   searched = refl;
   written = (
     [],
@@ -52,6 +62,48 @@ pass-requires-clause-stands g c = λ asked.
       ),
     )
 
+-- the position after units of one byte
+pub overflow_add-start-in-Ok-Units : goal.overflow_add-start-in-Ok-Units
+overflow_add-start-in-Ok-Units g c =
+    let so_far = c.loop-n.invariant.written in
+    let grew = c.in-Ok-Takes.ensures.grows in
+    let same = c.pass.ensures.same in
+    let items = c.next_unit.new.feed.ring.items in
+    let n = c.in-Ok-Takes.n in
+    let fits = (rw c.in-Ok-Takes.field-0-is at c.in-Ok-Takes.ensures.fits) in
+    let le : n ≤ length items = omega (arith, fits.1) in
+    let first = so_far.0 ++ take n items in
+    let here : length first ≡ c.loop-n.start + n = slides-len so_far.0 items n c.loop-n.start so_far.1 le in
+    let seen : Consumes (g.R.Source.remaining (reader_of c.args.feed.now))
+    (g.R.Source.remaining (reader_of c.skip.new.self)) (first ++ bytes_of c.skip.new.self) =
+    rw (c.skip.ensures.reader, same.reader, c.skip.ensures.bytes, same.bytes, slides-bytes so_far.0 items n)
+    (seen_more _ _ _ grew so_far.0 _ so_far.3) in
+    let known = c.in-Ok-Takes.ensures.units c.loop-n.invariant.units in
+    let p = (rw c.in-Ok-Units.field-0-is at c.in-Ok-Units.ensures.passed) in
+    let p_count = p.count in
+    let kept = ap length c.skip.ensures.bytes in
+    let more = ap length grew.bytes in
+    let here_len = ap length same.bytes in
+    let now = ap length p.bytes in
+    omega (
+      arith,
+      kept,
+      here_len,
+      length-drop n c.pass.new.feed.ring.items,
+      c.skip.ensures.allowance,
+      same.allowance,
+      grew.allowance,
+      more,
+      length-append c.loop-n.feed.ring.items grew.more,
+      c.loop-n.invariant.within,
+      le,
+      now,
+      length-append c.skip.new.self.ring.items p.more,
+      length-append p.gone (bytes_of c.pass_known.new.feed),
+      p.allowance,
+      p_count,
+    )
+
 pub loop-n-preserved : goal.loop-n-preserved
 loop-n-preserved g c =
     let so_far = c.loop-n.invariant.written in
@@ -61,15 +113,26 @@ loop-n-preserved g c =
     let n = c.in-Ok-Takes.n in
     let fits = (rw c.in-Ok-Takes.field-0-is at c.in-Ok-Takes.ensures.fits) in
     let le : n ≤ length items = omega (arith, fits.1) in
+    let first = so_far.0 ++ take n items in
+    let here : length first ≡ c.loop-n.start + n = slides-len so_far.0 items n c.loop-n.start so_far.1 le in
+    let seen : Consumes (g.R.Source.remaining (reader_of c.args.feed.now))
+    (g.R.Source.remaining (reader_of c.skip.new.self)) (first ++ bytes_of c.skip.new.self) =
+    rw (c.skip.ensures.reader, same.reader, c.skip.ensures.bytes, same.bytes, slides-bytes so_far.0 items n)
+    (seen_more _ _ _ grew so_far.0 _ so_far.3) in
+    let known = c.in-Ok-Takes.ensures.units c.loop-n.invariant.units in
+    let p = (rw c.in-Ok-Units.field-0-is at c.in-Ok-Units.ensures.passed) in
+    let m = c.in-Ok-Units.n in
+    let p_count = p.count in
     record {
-      capacity = c.skip.ensures.capacity ∙ same.capacity ∙ grew.capacity ∙ c.loop-n.invariant.capacity;
+      capacity = p.capacity ∙ c.skip.ensures.capacity ∙ same.capacity ∙ grew.capacity ∙ c.loop-n.invariant.capacity;
       within = let kept = ap length c.skip.ensures.bytes in
           let more = ap length grew.bytes in
-          let here = ap length same.bytes in
+          let here_len = ap length same.bytes in
+          let now = ap length p.bytes in
           omega (
             arith,
             kept,
-            here,
+            here_len,
             length-drop n c.pass.new.feed.ring.items,
             c.skip.ensures.allowance,
             same.allowance,
@@ -78,42 +141,182 @@ loop-n-preserved g c =
             length-append c.loop-n.feed.ring.items grew.more,
             c.loop-n.invariant.within,
             le,
+            now,
+            length-append c.skip.new.self.ring.items p.more,
+            length-append p.gone (bytes_of c.pass_known.new.feed),
+            p.allowance,
+            p_count,
           );
-      told = rw (
-        c.skip.ensures.reader,
-        c.skip.ensures.allowance,
-        c.skip.ensures.flow,
-        same.reader,
-        same.allowance,
-        same.flow,
-      ) c.in-Ok-Takes.ensures.told;
-      loan = c.skip.ensures.loan ∙ same.loan ∙ c.in-Ok-Takes.ensures.loan ∙ c.loop-n.invariant.loan;
+      told = c.in-Ok-Units.ensures.told;
+      loan = c.in-Ok-Units.ensures.loan ∙ c.skip.ensures.loan ∙ same.loan ∙ c.in-Ok-Takes.ensures.loan
+          ∙ c.loop-n.invariant.loan;
       flag = search rules;
+      units = known;
       searched = c.loop-n.invariant.searched;
-      written = (
-        so_far.0 ++ take n items,
-        slides-len so_far.0 items n c.loop-n.start so_far.1 le,
-        λ asked. c.pass.ensures.follows asked so_far.0 (so_far.2 asked),
-        rw (c.skip.ensures.reader, same.reader, c.skip.ensures.bytes, same.bytes, slides-bytes so_far.0 items n)
-            (seen_more _ _ _ grew so_far.0 _ so_far.3),
-        λ input b.
-            let a = rw (c.skip.ensures.bytes, same.bytes, slides-bytes so_far.0 items n, c.skip.ensures.flow, same.flow)
-            at b in
-            let front = so_far.4 input (agrees_earlier _ _ _ grew so_far.0 input a) in
-            let step = c.in-Ok-Takes.ensures.follows so_far.0 input so_far.1 a in
-            let is = (rw c.in-Ok-Takes.field-0-is at step.0) in
-            let longer = one_more_unit _ _ _ input _ _ _ c.loop-n.start front.0 0 front.1 front.2 n is in (
-              longer.0,
-              longer.1,
-              longer.2,
-              λ asked kept. unit_kept _ _ _ input _ _ _ c.loop-n.start front.0 0 front.1 front.2 n is
-                  c.pass.new.self so_far.0 items so_far.1 c.loop-n.past.next (let f = so_far.2 asked in f.next)
-                  (c.pass.ensures.at asked)
-                  (c.pass.ensures.bytes asked kept) le,
-              omega (arith, front.4, c.in-Ok-Takes.ensures.twice, longer.3),
-            ),
-      );
+      written = written_on g.R.Source.remaining c.args.peg.now c.args.settings.now
+          (g.R.Source.remaining (reader_of c.args.feed.now)) (g.O.Sink.contents c.args.out.now)
+          (calls_of c.args.counted.now.matcher) (Follows c.pass.new.self)
+          (λ input at. c.pass.new.self.lost ≡ false → UnitBefore (rules_of c.args.peg.now.rules) c.args.peg.now.start
+          c.args.settings.now input at
+          (unit_before c.pass.new.self.at.byte (length c.pass.new.self.bytes.items)))
+          c.next_unit.new.matcher.units known c.skip.new.self c.pass_known.new.feed (c.loop-n.start + n)
+          (calls_of c.next_unit.new.matcher) m (g.O.Sink.contents c.next_unit.new.out)
+          (g.O.Sink.contents c.pass_known.new.out) p
+          (λ asked. none_more m _ c.in-Ok-Units.field-0-is (c.in-Ok-Units.ensures.unasked asked)) (
+            first,
+            here,
+            λ asked. c.pass.ensures.follows asked so_far.0 (so_far.2 asked),
+            seen,
+            λ input b.
+                let a = rw (
+                  c.skip.ensures.bytes,
+                  same.bytes,
+                  slides-bytes so_far.0 items n,
+                  c.skip.ensures.flow,
+                  same.flow,
+                ) at b in
+                let front = so_far.4 input (agrees_earlier _ _ _ grew so_far.0 input a) in
+                let step = c.in-Ok-Takes.ensures.follows so_far.0 input so_far.1 a in
+                let is = (rw c.in-Ok-Takes.field-0-is at step.0) in
+                let longer = one_more_unit _ _ _ input _ _ _ c.loop-n.start front.0 0 front.1 front.2 n is in (
+                  longer.0,
+                  longer.1,
+                  longer.2,
+                  λ asked kept. unit_kept _ _ _ input _ _ _ c.loop-n.start front.0 0 front.1 front.2 n is
+                      c.pass.new.self so_far.0 items so_far.1 c.loop-n.past.next (let f = so_far.2 asked in f.next)
+                      (c.pass.ensures.at asked) (c.pass.ensures.bytes asked kept) le,
+                  omega (arith, front.4, c.in-Ok-Takes.ensures.twice, longer.3),
+                ),
+          );
     }
+
+-- the fault of the reader came while units were passed
+pub returns-in-Ok-Broken-clause-units : goal.returns-in-Ok-Broken-clause-units
+returns-in-Ok-Broken-clause-units g c =
+    let so_far = c.loop-n.invariant.written in
+    let grew = c.in-Ok-Takes.ensures.grows in
+    let same = c.pass.ensures.same in
+    let items = c.next_unit.new.feed.ring.items in
+    let n = c.in-Ok-Takes.n in
+    let fits = (rw c.in-Ok-Takes.field-0-is at c.in-Ok-Takes.ensures.fits) in
+    let le : n ≤ length items = omega (arith, fits.1) in
+    let first = so_far.0 ++ take n items in
+    let here : length first ≡ c.loop-n.start + n = slides-len so_far.0 items n c.loop-n.start so_far.1 le in
+    let seen : Consumes (g.R.Source.remaining (reader_of c.args.feed.now))
+    (g.R.Source.remaining (reader_of c.skip.new.self)) (first ++ bytes_of c.skip.new.self) =
+    rw (c.skip.ensures.reader, same.reader, c.skip.ensures.bytes, same.bytes, slides-bytes so_far.0 items n)
+    (seen_more _ _ _ grew so_far.0 _ so_far.3) in
+    let known = c.in-Ok-Takes.ensures.units c.loop-n.invariant.units in
+    let p = (rw c.in-Ok-Broken.field-0-is at c.in-Ok-Broken.ensures.passed) in (
+      first ++ (bytes_of c.skip.new.self ++ p.more),
+      consumed_now _ _ _ _ _ _ _ _ p first _ seen,
+      let kept = ap length c.skip.ensures.bytes in
+          let more = ap length grew.bytes in
+          let here_len = ap length same.bytes in
+          let now = ap length p.bytes in
+          omega (
+            arith,
+            kept,
+            here_len,
+            length-drop n c.pass.new.feed.ring.items,
+            c.skip.ensures.allowance,
+            same.allowance,
+            grew.allowance,
+            more,
+            length-append c.loop-n.feed.ring.items grew.more,
+            c.loop-n.invariant.within,
+            le,
+            now,
+            length-append c.skip.new.self.ring.items p.more,
+            length-append p.gone (bytes_of c.pass_known.new.feed),
+            p.allowance,
+            length-append first (bytes_of c.skip.new.self ++ p.more),
+            here,
+          ),
+      λ input there.
+          let a = rw (c.skip.ensures.bytes, same.bytes, slides-bytes so_far.0 items n, c.skip.ensures.flow, same.flow)
+          at (p.earlier first input there) in
+          let front = so_far.4 input (agrees_earlier _ _ _ grew so_far.0 input a) in
+          let step = c.in-Ok-Takes.ensures.follows so_far.0 input so_far.1 a in
+          let is = (rw c.in-Ok-Takes.field-0-is at step.0) in
+          let longer = one_more_unit _ _ _ input _ _ _ c.loop-n.start front.0 0 front.1 front.2 n is in
+          let follow = p.follows c.args.peg.now first input known there in (
+            cut_at_fault _ _ _ input _ _ _ (c.loop-n.start + n) longer.0 _ longer.1 longer.2 _
+                here (not_asked c.args.settings.now.explain (λ asked.
+                not_broken _ c.in-Ok-Broken.field-0-is (c.in-Ok-Broken.ensures.unasked asked)))
+                follow,
+            record {
+              place = c.loop-n.start + n;
+              within = omega (arith, length-append first (bytes_of c.skip.new.self ++ p.more), here);
+              text = longer.0;
+              units = longer.1;
+              few = omega (arith, front.4, c.in-Ok-Takes.ensures.twice, longer.3);
+            },
+          ),
+    )
+
+-- the writer failed while units were passed
+pub returns-in-Err-pass_known-clause-units : goal.returns-in-Err-pass_known-clause-units
+returns-in-Err-pass_known-clause-units g c =
+    let so_far = c.loop-n.invariant.written in
+    let grew = c.in-Ok-Takes.ensures.grows in
+    let same = c.pass.ensures.same in
+    let items = c.next_unit.new.feed.ring.items in
+    let n = c.in-Ok-Takes.n in
+    let fits = (rw c.in-Ok-Takes.field-0-is at c.in-Ok-Takes.ensures.fits) in
+    let le : n ≤ length items = omega (arith, fits.1) in
+    let first = so_far.0 ++ take n items in
+    let here : length first ≡ c.loop-n.start + n = slides-len so_far.0 items n c.loop-n.start so_far.1 le in
+    let seen : Consumes (g.R.Source.remaining (reader_of c.args.feed.now))
+    (g.R.Source.remaining (reader_of c.skip.new.self)) (first ++ bytes_of c.skip.new.self) =
+    rw (c.skip.ensures.reader, same.reader, c.skip.ensures.bytes, same.bytes, slides-bytes so_far.0 items n)
+    (seen_more _ _ _ grew so_far.0 _ so_far.3) in
+    let known = c.in-Ok-Takes.ensures.units c.loop-n.invariant.units in
+    let p = c.in-Err-pass_known.ensures.passed in (
+      first ++ (bytes_of c.skip.new.self ++ p.more),
+      consumed_now _ _ _ _ _ _ _ _ p first _ seen,
+      let kept = ap length c.skip.ensures.bytes in
+          let more = ap length grew.bytes in
+          let here_len = ap length same.bytes in
+          let now = ap length p.bytes in
+          omega (
+            arith,
+            kept,
+            here_len,
+            length-drop n c.pass.new.feed.ring.items,
+            c.skip.ensures.allowance,
+            same.allowance,
+            grew.allowance,
+            more,
+            length-append c.loop-n.feed.ring.items grew.more,
+            c.loop-n.invariant.within,
+            le,
+            now,
+            length-append c.skip.new.self.ring.items p.more,
+            length-append p.gone (bytes_of c.pass_known.new.feed),
+            p.allowance,
+            length-append first (bytes_of c.skip.new.self ++ p.more),
+            here,
+          ),
+      λ input there.
+          let a = rw (c.skip.ensures.bytes, same.bytes, slides-bytes so_far.0 items n, c.skip.ensures.flow, same.flow)
+          at (p.earlier first input there) in
+          let front = so_far.4 input (agrees_earlier _ _ _ grew so_far.0 input a) in
+          let step = c.in-Ok-Takes.ensures.follows so_far.0 input so_far.1 a in
+          let is = (rw c.in-Ok-Takes.field-0-is at step.0) in
+          let longer = one_more_unit _ _ _ input _ _ _ c.loop-n.start front.0 0 front.1 front.2 n is in
+          let follow = p.follows c.args.peg.now first input known there in (
+            cut_at_write_fault _ _ _ input _ _ _ (c.loop-n.start + n) longer.0 _ longer.1 longer.2 _
+                here c.in-Err-pass_known.fault follow,
+            record {
+              place = c.loop-n.start + n;
+              within = omega (arith, length-append first (bytes_of c.skip.new.self ++ p.more), here);
+              text = longer.0;
+              units = longer.1;
+              few = omega (arith, front.4, c.in-Ok-Takes.ensures.twice, longer.3);
+            },
+          ),
+    )
 
 pub ending_at-requires : goal.ending_at-requires
 ending_at-requires g c = record {

@@ -9,6 +9,7 @@ use Rattle.matchfailure.specs.NoMatches.{unit_before}
 use Rattle.pegread.specs.PegViews.{rules_of}
 use Rattle.toolrun.specs.Agrees.{Agrees}
 use Rattle.toolrun.specs.Input.{Input}
+use Rattle.pegrun.specs.ByteUnits.{AreByteUnits}
 use Rattle.pegrun.specs.PastUnits.{Follows}
 use Rattle.pegrun.specs.StopsExplained.{UnitBefore}
 use Rattle.pegrun.specs.MatchCalls.{calls_of}
@@ -22,6 +23,7 @@ invariant-loop-n g l = record {
   told : IsTrueOfReader g.R.Source.remaining g.R.Source.failed g.R.Source.ended l.feed;
   loan : SameLoan l.fn.feed l.feed;
   flag : g.O.Sink.failed l.out ≡ g.O.Sink.failed l.fn.out;
+  units : AreByteUnits l.peg l.settings.options.raw l.counted.matcher.units;
   searched : evaluated_by l.counted.search ≡ evaluated_by l.fn.counted.search;
   written : (before : List ℕ) × (length before ≡ l.start) ×
       (l.settings.explain ≡ true → Follows l.past before) ×

@@ -1,5 +1,8 @@
--- The first piece was enough.
+-- What is known of units before and after a match.
+use Rattle.std.proofs.Common.{subst, sym}
+use Rattle.pegrun.specs.ByteUnits.{AreByteUnits}
 use Rattle.pegrun.proofs.unit.attempt_unit.Goals as goal
 
-pub returns-in-Some-clause-answer : goal.returns-in-Some-clause-answer
-returns-in-Some-clause-answer g c = c.in-Some.ensures.answer c.args.more
+pub returns-then-eq-clause-units : goal.returns-then-eq-clause-units
+returns-then-eq-clause-units g c = λ are.
+    c.learn.ensures.units (subst (AreByteUnits c.args.peg.now c.args.raw) (sym c.in-Some.ensures.units) are)

@@ -1,3 +1,4 @@
+use Rattle.std.proofs.lemmas.Result.{IfOk-weaker}
 use Rattle.refusedlines.proofs.ReadLettersLemmas.{merged_read, spots_read_more}
 use Rattle.refusedlines.proofs.read_letters.letters_read.Goals as goal
 
@@ -9,5 +10,6 @@ loop-spot-preserved c = record {
 }
 
 pub returns-clause-letters : goal.returns-clause-letters
-returns-clause-letters c = merged_read c.args.alphabet c.args.flat.now c.args.spots.now c.loop-spot.spot-index _ _
-    c.loop-spot-test.false c.loop-spot.invariant.letters c.in_ok-merged.ensures.same
+returns-clause-letters c = IfOk-weaker c.merge_runs.result _ _ (λ merged same.
+    merged_read c.args.alphabet c.args.flat.now c.args.spots.now c.loop-spot.spot-index _ _
+    c.loop-spot-test.false c.loop-spot.invariant.letters same) c.merge_runs.ensures.same

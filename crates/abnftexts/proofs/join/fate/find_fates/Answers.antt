@@ -7,7 +7,7 @@ use Rattle.abnftexts.specs.GivenRules.{text_rule}
 use Rattle.abnftexts.specs.ListedRules.{has_key}
 use Rattle.abnftexts.specs.RuleKeys.{rule_key}
 use Rattle.abnftexts.proofs.FatesLemmas.{fates-more}
-use Rattle.abnftexts.proofs.ListNamesLemmas.{lists-more, lists-none}
+use Rattle.diagnostics.proofs.NumberListsLemmas.{lists-more, lists-none}
 use Rattle.abnftexts.proofs.join.fate.find_fates.Goals as goal
 
 pub loop-number-init : goal.loop-number-init
@@ -15,7 +15,7 @@ loop-number-init c = record {
   fates = search rules;
   listed = (
     c.new-keys.ensures.names,
-    lists-none has_key c.args.rules.now c.new-keys.result c.new-keys.ensures.rules,
+    lists-none (λ key r. has_key key (text_rule r)) c.args.rules.now c.new-keys.result c.new-keys.ensures.rules,
   );
 }
 
@@ -31,7 +31,7 @@ loop-number-preserved c =
           c.loop-number.invariant.fates);
       listed = (
         c.in_ok-add_number.ensures.names ∙ so_far.0,
-        lists-more has_key c.args.rules.now old c.add_number.new.lists c.loop-number.number
+        lists-more (λ key r. has_key key (text_rule r)) c.args.rules.now old c.add_number.new.lists c.loop-number.number
             c.index-rules-number.result c.loop-number-test.true c.index-rules-number.is so_far.1
             (λ other. c.in_ok-add_number.ensures.added other
             ∙ ap (λ (same : Bool). numbers_for old other ++ (if same then c.loop-number.number ∷ [] else []))

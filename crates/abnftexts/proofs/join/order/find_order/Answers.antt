@@ -5,7 +5,7 @@ use Rattle.abnftexts.specs.JoinedRules.{printed_at}
 use Rattle.abnftexts.specs.ListedRules.{is_listed_for}
 use Rattle.abnftexts.specs.declared.join.by_name.Listed.TheVariants.{Additions}
 use Rattle.abnftexts.proofs.JoinedLemmas.{one-more}
-use Rattle.abnftexts.proofs.ListNamesLemmas.{lists-more, lists-none}
+use Rattle.diagnostics.proofs.NumberListsLemmas.{lists-more, lists-none}
 use Rattle.abnftexts.proofs.join.order.find_order.Goals as goal
 
 pub loop-number-init : goal.loop-number-init
@@ -13,7 +13,8 @@ loop-number-init c = record {
   order = search rules;
   listed = (
     c.new-added.ensures.names,
-    lists-none (is_listed_for Additions) c.args.rules.now c.new-added.result c.new-added.ensures.rules,
+    lists-none (λ name r. is_listed_for Additions name (text_rule r)) c.args.rules.now c.new-added.result
+        c.new-added.ensures.rules,
   );
 }
 
@@ -25,8 +26,9 @@ loop-number-preserved c = record {
       c.loop-number.invariant.order;
   listed = (
     c.in_ok-list_rule.ensures.0,
-    lists-more (is_listed_for Additions) c.args.rules.now c.loop-number.added c.list_rule.new.lists
-        c.loop-number.number c.index-rules-number.result c.loop-number-test.true c.index-rules-number.is
+    lists-more (λ name r. is_listed_for Additions name (text_rule r)) c.args.rules.now
+        c.loop-number.added c.list_rule.new.lists c.loop-number.number c.index-rules-number.result
+        c.loop-number-test.true c.index-rules-number.is
         c.loop-number.invariant.listed.1 c.in_ok-list_rule.ensures.1,
   );
 }

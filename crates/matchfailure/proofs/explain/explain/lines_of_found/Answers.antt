@@ -1,4 +1,5 @@
 use Rattle.std.proofs.Common.{◌+◌, ◌∙◌, ap, List, ℕ}
+use Rattle.std.proofs.lemmas.Result.{IfOk-weaker}
 use Rattle.pegnodes.specs.Nodes.{shapes_of}
 use Rattle.pegread.specs.PegViews.{rules_of}
 use Rattle.matchfailure.specs.NoMatchLines.{failure_lines}
@@ -6,13 +7,13 @@ use Rattle.matchfailure.specs.declared.explain.place.TextPlace.{TextPlace}
 use Rattle.matchfailure.proofs.FoundLinesLemmas.{slice-from, told-of-input}
 use Rattle.matchfailure.proofs.explain.explain.lines_of_found.Goals as goal
 
-pub returns-in_ok-why-in-Some : goal.returns-in_ok-why-in-Some
-returns-in_ok-why-in-Some c front is =
+pub returns-in-Some : goal.returns-in-Some
+returns-in-Some c =
     let lines = λ (w : List ℕ) (p : TextPlace). failure_lines (rules_of c.args.peg.now.rules)
     (shapes_of c.args.peg.now.nodes) w p (c.args.at.byte + c.args.offset) c.in-Some.farthest.place
     c.in-Some.farthest.expected.items in
-    rw c.in-Some.is (c.in_ok-why-in-Some.ensures
+    IfOk-weaker c.lines_of_farthest.result _ _ (λ why told front is. rw c.in-Some.is (told
     ∙ ap (λ (w : List ℕ). lines w c.behind-place.result) (slice-from c.args.seen.now c.args.offset)
     ∙ told-of-input lines front c.args.seen.now c.args.at c.behind-place.result c.args.offset
     c.in-Some.farthest.place is
-    (c.behind-place.ensures front is))
+    (c.behind-place.ensures front is))) c.lines_of_farthest.ensures

@@ -1,4 +1,5 @@
 use Rattle.std.proofs.lemmas.List.{length-map}
+use Rattle.std.proofs.lemmas.Result.{IfOk-weaker}
 use Rattle.matchfailure.specs.Farthest.{IsFarthest}
 use Rattle.pegnodes.specs.Nodes.{shape_of, shapes_of}
 use Rattle.pegread.specs.PegViews.{rules_of}
@@ -8,8 +9,9 @@ use Rattle.matchfailure.proofs.explain.explain.FailureSearch.failure_in.Goals as
 pub returns-clause-fitting : goal.returns-clause-fitting
 returns-clause-fitting c =
     let law = c.farthest_is_within.ensures in
-    found-fits c.in_ok-found.found _ _ _ c.args.unit _
+    IfOk-weaker c.farthest_failure.result _ _ (λ found is. found-fits found _ _ _ c.args.unit _
     (λ f vs. IsFarthest (rules_of c.args.peg.now.rules) (shapes_of c.args.peg.now.nodes) c.args.peg.now.bodies
     c.args.seen.now c.args.peg.now.start f vs) (λ f vs far. law.place _ _ _ _ _ _ f vs c.requires.sound far)
     (λ f vs far. law.expected _ _ _ _ _ _ f vs c.requires.sound far)
-    (length-map c.args.peg.now.nodes shape_of) c.requires.fits c.in_ok-found.ensures
+    (length-map c.args.peg.now.nodes shape_of) c.requires.fits is)
+    c.farthest_failure.ensures

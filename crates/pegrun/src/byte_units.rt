@@ -1,0 +1,135 @@
+//! The units that their first byte alone decides.
+ghost use Rattle.std.specs.Prelude.{◌≡◌, ℕ, ◌≤◌, Bool, Some, IfSome, OnOk, false, length, option_map};
+ghost use Rattle.std.specs.List.{prefix_len};
+ghost use Rattle.ruletable.specs.Writing.{Flags, Writes};
+ghost use Rattle.gramcheck.specs.Grammar.{Grammar};
+ghost use Rattle.pegrun.specs.ByteUnits.{AreByteUnits, IsByteUnit, SameTexts, is_known, known_text, text_by};
+ghost use Rattle.pegrun.specs.ByteUnits.{texts_of};
+
+use ruletable::{Sink, WriteFault, write_whole};
+use std::alloc::{AllocError, Global};
+
+/// The most bytes of a text that is kept.
+const MOST_TEXT: usize = 64;
+
+/// What is known of the units that begin with a byte.
+#[derive(Drop)]
+pub(crate) enum Known {
+    /// Nothing yet.
+    Open,
+    /// More than that byte decides them, or their text is too long to be kept.
+    Other,
+    /// Each takes that byte alone, whatever follows it, and prints this text.
+    Prints(Vec<u8>),
+}
+
+impl Known {
+    /// Returns what is kept of a text.
+    pub(crate) fn of(text: Vec<u8>) -> Known
+        ensures { IfSome (known_text (Some result)) (λ kept. kept ≡ text.items) }
+    {
+        if text.len() > MOST_TEXT {
+            return Known::Other;
+        }
+        Known::Prints(text)
+    }
+}
+
+/// The texts of the units that their first byte alone decides, as far as they are known.
+#[derive(Drop)]
+pub struct ByteUnits {
+    pub(crate) alloc: Global,
+    /// What is known, by the byte. It is empty while nothing is known.
+    known: Vec<Known>,
+}
+
+impl ByteUnits {
+    /// Returns a table in which nothing is known. It takes no memory.
+    pub(crate) fn new(alloc: Global) -> ByteUnits
+        ensures { (g : Grammar) (raw : Bool) → AreByteUnits g raw result }
+    {
+        ByteUnits {
+            alloc,
+            known: Vec::new(alloc),
+        }
+    }
+
+    /// Forgets all texts.
+    pub(crate) fn clear(&mut self)
+        ensures { (g : Grammar) (raw : Bool) → AreByteUnits g raw self.new }
+    {
+        self.known.clear();
+    }
+
+    /// Tells whether nothing is known of the units that begin with a byte.
+    pub(crate) fn is_open(&self, byte: u8) -> bool {
+        matches!(self.known.get(byte as usize), Some(Known::Open) | None)
+    }
+
+    /// Returns the text of the unit that begins with a byte, if the byte alone decides it.
+    #[inline(always)]
+    fn text(&self, byte: u8) -> Option<&[u8]>
+        ensures { option_map (λ t. t.now) result ≡ text_by self.now byte }
+    {
+        match self.known.get(byte as usize) {
+            Some(Known::Prints(text)) => Some(text.as_slice()),
+            _ => None,
+        }
+    }
+
+    /// Makes room for all bytes. `AllocError` if an allocation fails.
+    fn make_room(&mut self) -> Result<(), AllocError>
+        ensures same { SameTexts self.old self.new }
+        ensures room { OnOk result (256 ≤ length self.new.known.items) }
+    {
+        while self.known.len() < 256 {
+            self.known.push(Known::Open)?;
+        }
+        Ok(())
+    }
+
+    /// Keeps what is known of the units that begin with a byte, unless an allocation fails.
+    pub(crate) fn keep(&mut self, byte: u8, known: Known)
+        ensures { (g : Grammar) (raw : Bool) → AreByteUnits g raw self.old
+            → IfSome (known_text (Some known)) (IsByteUnit g raw byte) → AreByteUnits g raw self.new }
+    {
+        if self.make_room().is_ok() {
+            self.known[byte as usize] = known;
+        }
+    }
+
+    /// Returns how many bytes at the front are units whose text is known.
+    pub(crate) fn count(&self, bytes: &[u8]) -> usize
+        ensures count { result ≡ prefix_len (is_known self.now) bytes.now }
+        ensures within { result ≤ length bytes.now }
+    {
+        let mut count = 0;
+        let mut rest = bytes;
+        while let Some((first, tail)) = rest.split_first() {
+            if self.text(*first).is_none() {
+                break;
+            }
+            rest = tail;
+            count += 1;
+        }
+        count
+    }
+
+    /// Writes the texts of bytes, one after another, and nothing for a byte whose text is not known. `WriteFault` if
+    /// the writer fails; then a prefix is written.
+    pub(crate) fn write<O: Sink>(&self, bytes: &[u8], out: &mut O) -> Result<(), WriteFault>
+        requires { O.failed out.old ≡ false }
+        ensures bytes { Writes (O.contents out.old) (O.contents out.new) (texts_of self.now bytes.now) result }
+        ensures flag { Flags (O.failed out.old) (O.failed out.new) result }
+    {
+        for byte in bytes {
+            if let Some(text) = self.text(*byte) {
+                match write_whole(out, text) {
+                    Ok(()) => {}
+                    Err(fault) => return Err(fault),
+                }
+            }
+        }
+        Ok(())
+    }
+}
