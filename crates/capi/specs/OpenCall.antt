@@ -13,12 +13,12 @@ use Rattle.toolrun.specs.Explained.{Explained}
 use Rattle.toolrun.specs.ToldNotes.{HintedNotes}
 use Rattle.toolrun.specs.declared.settings.Settings.{Settings}
 
--- what is told in opening a text: nothing where an allocation failed. It serves private helpers alone.
+-- The diagnostics that opening a grammar gives: no text if an allocation failed. Private functions alone cite it.
 abbrev pub text_told : {E : Type 0} → Result (Vec ℕ Global) E → List ℕ
 text_told (Ok text) = text.items
 text_told (Err fault) = []
 
--- the status then, by whether a grammar is open. It serves private helpers alone.
+-- The exit status of opening, by whether the grammar is open. Private functions alone cite it.
 abbrev pub code_told : {T E : Type 0} → Result T E → Bool → ℕ
 code_told (Ok text) is_open = if is_open then 0 else 2
 code_told (Err fault) is_open = 5

@@ -12,8 +12,8 @@ use pegrun::{OpenedPeg, PegLanguage, PegSettings, open_peg};
 use ruletable::Memory;
 use std::alloc::Global;
 
-/// Opens a grammar in ABNF, and puts its judge, if there is one, into an empty place. Returns what is told of the
-/// grammar, or `Memory` if an allocation fails.
+/// Opens a grammar in ABNF, and returns the diagnostics on it. Stores its judge in an empty `CJudge`, unless a
+/// diagnostic rejects the grammar. Returns `Memory` if an allocation fails.
 pub(crate) fn open_judge(
     alloc: Global,
     grammar: &[u8],
@@ -36,8 +36,8 @@ pub(crate) fn open_judge(
     Ok(text)
 }
 
-/// Opens a grammar of peg(1), and puts its runner, if there is one, into an empty place. Returns what is told of the
-/// grammar, or `Memory` if an allocation fails.
+/// Opens a grammar of peg(1), and returns the diagnostics on it. Stores its runner in an empty `CRunner`, unless a
+/// diagnostic rejects the grammar. Returns `Memory` if an allocation fails.
 pub(crate) fn open_runner(
     alloc: Global,
     grammar: &[u8],

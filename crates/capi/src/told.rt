@@ -55,8 +55,8 @@ pub(crate) fn text_of_notes<L: Language>(
     }
 }
 
-/// Lays what is told of a grammar into a buffer, as much of it as there is room for. Returns the result of the call
-/// that opens the grammar; `is_open` says whether it did.
+/// Copies the diagnostics on a grammar into a buffer, cut to the length of the buffer. Returns the result of the call
+/// that opens the grammar. `is_open` says whether the call opened it.
 pub(crate) fn lay_told(told: Result<Vec<u8>, Memory>, is_open: bool, err: &mut [u8]) -> CResult
     ensures out { result.out_len ≡ 0 }
     ensures err { IsLaid (text_told told) (record { old = err.old; new = err.new; len = result.err_len }) }
