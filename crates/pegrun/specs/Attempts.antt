@@ -35,7 +35,7 @@ IsAttempt g window more raw old new (Err fault) = (k : ℕ) × (events : List Ev
     StartGives g window (Takes k events) looked × WasEnough window more looked
     × AppendsPart old new (text_of raw window events)
 
--- What came of the first piece of a window stands for the window. Without an answer nothing is printed.
+-- The result on the first piece of a window is that of the window. Without a result nothing is printed.
 abbrev pub IsFrontAttempt : Grammar → List ℕ → Bool → Bool → Option (List ℕ) → Option (List ℕ)
     → Option (Result Attempt WriteFault) → Type 0
 IsFrontAttempt g window more raw old new None = Keeps old new

@@ -1,4 +1,4 @@
--- The units that their first byte alone decides.
+-- Units whose result depends on their first byte alone.
 use Rattle.std.specs.Prelude.{◌≡◌, ℕ, ◌≤◌, Bool, List, [], ◌∷◌, Option, Some, None, slice_get, is_some}
 use Rattle.std.specs.Prelude.{unwrap_or}
 use Rattle.std.specs.List.{flat_map}
@@ -10,34 +10,34 @@ use Rattle.pegrun.specs.declared.byte_units.ByteUnits.{ByteUnits}
 use Rattle.pegrun.specs.declared.byte_units.Known.{Known}
 use Rattle.pegrun.specs.declared.byte_units.Known.TheVariants.{Open, Other, Prints}
 
--- Whatever follows that byte, the start rule takes it, compares no other byte, and prints this text.
+-- On each input that begins with that byte, the start rule takes that byte, compares no other, and prints this text.
 abbrev pub IsByteUnit : Grammar → Bool → ℕ → List ℕ → Type 0
 IsByteUnit g raw b text = (rest : List ℕ) → (events : List Event) × (looked : ℕ)
     × StartGives g (b ∷ rest) (Takes 1 events) looked × (looked ≤ 1) × (text ≡ text_of raw (b ∷ rest) events)
 
--- the text, if there is one
+-- the text of an entry, if it has one
 abbrev pub known_text : Option Known → Option (List ℕ)
 known_text None = None
 known_text (Some Open) = None
 known_text (Some Other) = None
 known_text (Some (Prints text)) = Some text.items
 
--- the text of the unit that begins with that byte, if the byte alone decides it
+-- the text that the table has for a byte
 abbrev pub text_by : ByteUnits → ℕ → Option (List ℕ)
 text_by units b = known_text (slice_get units.known.items b)
 
--- each text that is known is that of such a unit
+-- each text of the table is that of a unit whose result depends on that byte alone
 abbrev pub AreByteUnits : Grammar → Bool → ByteUnits → Type 0
 AreByteUnits g raw units = (b : ℕ) (text : List ℕ) → text_by units b ≡ Some text → IsByteUnit g raw b text
 
--- whether the text is known
+-- whether the table has a text for a byte
 abbrev pub is_known : ByteUnits → ℕ → Bool
 is_known units b = is_some (text_by units b)
 
--- the texts of these bytes, one after another
+-- the texts of these bytes, concatenated
 abbrev pub texts_of : ByteUnits → List ℕ → List ℕ
 texts_of units bytes = flat_map (λ b. unwrap_or (text_by units b) []) bytes
 
--- both know the same texts
+-- both tables have the same texts
 abbrev pub SameTexts : ByteUnits → ByteUnits → Type 0
 SameTexts old new = (b : ℕ) → text_by new b ≡ text_by old b

@@ -1,4 +1,4 @@
--- What it comes to to run units that their first byte alone decides.
+-- The result of printing units of one byte from the table.
 use Rattle.std.specs.Prelude.{◌≡◌, ℕ, ◌+◌, ◌-◌, ◌++◌, List, [], length, Option, Result, Ok, Err}
 use Rattle.std.specs.Io.KnownBytes.{Appends, Consumes}
 use Rattle.ruletable.specs.Writing.{AppendsPart}
@@ -20,14 +20,14 @@ use Rattle.pegrun.specs.declared.byte_units.ByteUnits.{ByteUnits}
 use Rattle.pegrun.specs.declared.passed.Passed.{Passed}
 use Rattle.pegrun.specs.declared.passed.Passed.TheVariants.{Broken, Units as Passes}
 
--- n units of one byte from s on, with this text
+-- n units of one byte from position s on print this text
 abbrev pub GoesOn : List Rule → ℕ → PegSettings → Input → ℕ → ℕ → List ℕ → Type 0
 GoesOn rules start settings input s n text = (before : List ℕ) (units : Units rules start settings input s before)
     → (later : Units rules start settings input (s + n) (before ++ text))
     × (unit_count rules start settings input later ≡ unit_count rules start settings input units + n)
 
--- After so many bytes were taken: units from s on and their text; with them a fault of the reader; or a prefix of their
--- text, if the writer fails.
+-- After this many bytes were read: the units from s on and their text; or those before a fault of the reader; or a
+-- prefix of their text, if the writer fails.
 abbrev pub HasComeTo : List Rule → ℕ → PegSettings → Input → ℕ → ℕ → Option (List ℕ) → Option (List ℕ)
     → Result Passed WriteFault → Type 0
 HasComeTo rules start settings input s taken old new (Ok (Passes n)) = (text : List ℕ)
@@ -39,22 +39,22 @@ HasComeTo rules start settings input s taken old new (Err fault) = (n : ℕ) × 
     × GoesOn rules start settings input s n text × IsUnit rules start settings input (s + n) 1 last
     × AppendsPart old new (text ++ last) × (taken ≡ taken_at settings input (s + n))
 
--- How many of so many units of one byte may be run, the last of which begins so many bytes before the end of what is
--- held: all, or at a fault those that limit + 1 bytes follow, their own with them.
+-- How many of `count` units of one byte may be run, if `held` bytes are left from the start of the last one on. After a
+-- fault of the reader a unit needs limit + 1 bytes from its start on.
 abbrev pub can_run : Held → ℕ → ℕ → ℕ → ℕ
 can_run Full count held limit = count
 can_run End count held limit = count
 can_run Fault count held limit = (count - 1 + held) - limit
 
--- as many bytes are let go as units were run
+-- one byte is dropped for each unit
 abbrev pub IsGone : List ℕ → Result Passed WriteFault → Type 0
 IsGone gone (Ok (Passes n)) = length gone ≡ n
 IsGone gone _ = Unit {0}
 
--- A feed gave its first bytes to units, and read on.
+-- A feed dropped its first bytes, and read more.
 pub record HasPassed {R : Type 0} (remaining : R → Option (List ℕ)) (units : ByteUnits) (settings : PegSettings)
     (old new : Feed R) (was is : Option (List ℕ)) (result : Result Passed WriteFault) : Type 0 where
-  -- what was let go, and what was read
+  -- the bytes dropped, and the bytes read
   pub gone : List ℕ
   pub more : List ℕ
   pub bytes : bytes_of old ++ more ≡ gone ++ bytes_of new
@@ -62,7 +62,7 @@ pub record HasPassed {R : Type 0} (remaining : R → Option (List ℕ)) (units :
   pub allowance : allowance_of new + length more ≡ allowance_of old
   pub capacity : capacity_of new ≡ capacity_of old
   pub count : IsGone gone result
-  -- of each input that agrees with what is seen now
+  -- for each input that agrees with the bytes read
   pub earlier : (before : List ℕ) (input : Input) → Agrees (before ++ (bytes_of old ++ more)) (flow_of new) input
       → Agrees (before ++ bytes_of old) (flow_of old) input
   pub follows : (g : Grammar) (before : List ℕ) (input : Input) → AreByteUnits g settings.options.raw units

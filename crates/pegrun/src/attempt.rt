@@ -24,8 +24,7 @@ pub enum Attempt {
     NoMemory,
 }
 
-/// A matcher that counts the matches that it was asked for, and the units that their first byte alone decides, as far
-/// as its matches showed them.
+/// A matcher with the count of its matches, and with the table of units of one byte.
 #[derive(Drop)]
 pub struct CountedMatcher<M> {
     matcher: M,
@@ -76,8 +75,7 @@ impl<M: Matcher> CountedMatcher<M> {
         }
     }
 
-    /// Matches the first two bytes of a window as one that more bytes follow. Returns what that says of the units that
-    /// begin with the first byte.
+    /// Matches the first two bytes of a window, with more bytes to come. Returns the table entry for the first byte.
     fn ask(&mut self, peg: &SoundPeg, window: &[u8], raw: bool) -> Known
         requires { 2 ≤ length window.now }
         ensures known { (b : ℕ) → slice_get window.now 0 ≡ Some b
@@ -92,7 +90,7 @@ impl<M: Matcher> CountedMatcher<M> {
         }
     }
 
-    /// Finds out whether the first byte of a window alone decides its unit, if that is not known yet.
+    /// Adds the table entry for the first byte of a window, if the table has none.
     pub(crate) fn learn(&mut self, peg: &SoundPeg, window: &[u8], raw: bool)
         ensures units { AreByteUnits peg.now raw self.old.units → AreByteUnits peg.now raw self.new.units }
         ensures once { calls_of self.new ≤ calls_of self.old + 1 }

@@ -1,4 +1,4 @@
-//! The units that their first byte alone decides.
+//! A table of the units whose result depends on their first byte alone.
 ghost use Rattle.std.specs.Prelude.{◌≡◌, ℕ, ◌≤◌, Bool, Some, IfSome, OnOk, false, length, option_map};
 ghost use Rattle.std.specs.List.{prefix_len};
 ghost use Rattle.ruletable.specs.Writing.{Flags, Writes};
@@ -9,22 +9,22 @@ ghost use Rattle.pegrun.specs.ByteUnits.{texts_of};
 use ruletable::{Sink, WriteFault, write_whole};
 use std::alloc::{AllocError, Global};
 
-/// The most bytes of a text that is kept.
+/// The greatest length of a stored text, in bytes.
 const MOST_TEXT: usize = 64;
 
-/// What is known of the units that begin with a byte.
+/// A table entry, for the units that begin with one byte.
 #[derive(Drop)]
 pub(crate) enum Known {
-    /// Nothing yet.
+    /// No such unit of one byte was matched yet.
     Open,
-    /// More than that byte decides them, or their text is too long to be kept.
+    /// The result depends on later bytes, or the text is too long to be stored.
     Other,
-    /// Each takes that byte alone, whatever follows it, and prints this text.
+    /// Each such unit takes one byte and prints this text, whatever follows.
     Prints(Vec<u8>),
 }
 
 impl Known {
-    /// Returns what is kept of a text.
+    /// Returns the entry for a text: `Other` if the text is too long.
     pub(crate) fn of(text: Vec<u8>) -> Known
         ensures { IfSome (known_text (Some result)) (λ kept. kept ≡ text.items) }
     {
@@ -35,16 +35,16 @@ impl Known {
     }
 }
 
-/// The texts of the units that their first byte alone decides, as far as they are known.
+/// The texts of units of one byte, by that byte. An entry is added after such a unit is matched.
 #[derive(Drop)]
 pub struct ByteUnits {
     pub(crate) alloc: Global,
-    /// What is known, by the byte. It is empty while nothing is known.
+    /// The entries, by byte. The vector is empty until the first entry is added.
     known: Vec<Known>,
 }
 
 impl ByteUnits {
-    /// Returns a table in which nothing is known. It takes no memory.
+    /// Returns an empty table. It allocates nothing.
     pub(crate) fn new(alloc: Global) -> ByteUnits
         ensures { (g : Grammar) (raw : Bool) → AreByteUnits g raw result }
     {
@@ -54,19 +54,19 @@ impl ByteUnits {
         }
     }
 
-    /// Forgets all texts.
+    /// Removes all entries.
     pub(crate) fn clear(&mut self)
         ensures { (g : Grammar) (raw : Bool) → AreByteUnits g raw self.new }
     {
         self.known.clear();
     }
 
-    /// Tells whether nothing is known of the units that begin with a byte.
+    /// Returns whether the table has no entry for a byte.
     pub(crate) fn is_open(&self, byte: u8) -> bool {
         matches!(self.known.get(byte as usize), Some(Known::Open) | None)
     }
 
-    /// Returns the text of the unit that begins with a byte, if the byte alone decides it.
+    /// Returns the text for a byte, if the table has one.
     #[inline(always)]
     fn text(&self, byte: u8) -> Option<&[u8]>
         ensures { option_map (λ t. t.now) result ≡ text_by self.now byte }
@@ -77,7 +77,7 @@ impl ByteUnits {
         }
     }
 
-    /// Makes room for all bytes. `AllocError` if an allocation fails.
+    /// Extends the table to all 256 bytes. `AllocError` if an allocation fails.
     fn make_room(&mut self) -> Result<(), AllocError>
         ensures same { SameTexts self.old self.new }
         ensures room { OnOk result (256 ≤ length self.new.known.items) }
@@ -88,7 +88,7 @@ impl ByteUnits {
         Ok(())
     }
 
-    /// Keeps what is known of the units that begin with a byte, unless an allocation fails.
+    /// Stores the entry for a byte. If an allocation fails, it stores no text.
     pub(crate) fn keep(&mut self, byte: u8, known: Known)
         ensures { (g : Grammar) (raw : Bool) → AreByteUnits g raw self.old
             → IfSome (known_text (Some known)) (IsByteUnit g raw byte) → AreByteUnits g raw self.new }
@@ -98,7 +98,7 @@ impl ByteUnits {
         }
     }
 
-    /// Returns how many bytes at the front are units whose text is known.
+    /// Returns the length of the longest prefix of which each byte has a text.
     pub(crate) fn count(&self, bytes: &[u8]) -> usize
         ensures count { result ≡ prefix_len (is_known self.now) bytes.now }
         ensures within { result ≤ length bytes.now }
@@ -115,8 +115,8 @@ impl ByteUnits {
         count
     }
 
-    /// Writes the texts of bytes, one after another, and nothing for a byte whose text is not known. `WriteFault` if
-    /// the writer fails; then a prefix is written.
+    /// Writes the texts of these bytes in order, and nothing for a byte without a text. `WriteFault` if the writer
+    /// fails; then a prefix is written.
     pub(crate) fn write<O: Sink>(&self, bytes: &[u8], out: &mut O) -> Result<(), WriteFault>
         requires { O.failed out.old ≡ false }
         ensures bytes { Writes (O.contents out.old) (O.contents out.new) (texts_of self.now bytes.now) result }

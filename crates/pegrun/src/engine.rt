@@ -50,8 +50,8 @@ impl<M: Matcher> Counted<M> {
     }
 }
 
-/// Runs the units of an input in turn, each from where the one before ended, and prints the text of each. After each
-/// match it runs the units that follow whose text is known. If settings ask for that, it explains how the run ends.
+/// Runs the units of an input in order, each from the end of the one before, and prints their texts. After each match
+/// it prints the units that follow from the table. If the settings ask for that, it explains how the run ends.
 fn cut<M: Matcher, R: Source, O: Sink>(
     alloc: Global,
     counted: &mut Counted<M>,

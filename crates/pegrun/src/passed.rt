@@ -1,4 +1,4 @@
-//! Runs units that their first byte alone decides, many at a time.
+//! Prints units of one byte from the table, many at a time.
 ghost use Rattle.std.specs.Prelude.{◌≡◌, ◌+◌, ◌<◌, ◌^◌, IfSome, Ok, false, length, true};
 ghost use Rattle.std.specs.List.{prefix_len};
 ghost use Rattle.ruletable.specs.Writing.{Flags, IsBeginning};
@@ -11,21 +11,20 @@ use crate::options::PegSettings;
 use feed::{Feed, Held, Source};
 use ruletable::{Sink, WriteFault};
 
-/// The most units that are run at a time.
+/// The greatest number of units that one call prints.
 const MOST_UNITS: usize = 4096;
 
-/// How far a run came.
+/// The result of printing units from the table.
 #[derive(Clone, Copy)]
 pub(crate) enum Passed {
-    /// So many units were run.
+    /// This many units were printed.
     Units(usize),
-    /// Units were run up to where the fault of the reader leaves too few bytes. The feed holds the bytes of a later
-    /// position.
+    /// The reader failed. The units with enough bytes were printed. The feed has dropped bytes of later units too.
     Broken,
 }
 
-/// Returns how many of `count` units at the front of what was held may be run, the last of which begins `held` bytes
-/// before the end of what is held now.
+/// Returns how many of `count` units of one byte may be run, if `held` bytes are left from the start of the last one
+/// on. After a fault of the reader a unit needs `limit` + 1 bytes from its start on.
 fn runnable(why: Held, count: usize, held: usize, limit: usize) -> usize
     requires some { 0 < count }
     requires fits { count + held < 2 ^ 64 }
@@ -37,8 +36,8 @@ fn runnable(why: Held, count: usize, held: usize, limit: usize) -> usize
     }
 }
 
-/// Returns the bytes of the units at the front of what a feed holds whose text is known: as many as lie in one piece,
-/// and at most 4096. Returns none if there are none, or if an allocation fails.
+/// Returns the longest prefix of a feed's first piece of which each byte has a text, at most 4096 bytes. Returns none
+/// if that is empty, or if an allocation fails.
 fn known_front<R: Source>(units: &ByteUnits, feed: &Feed<'_, R>) -> Option<Vec<u8>>
     ensures some { IfSome result (λ bytes. 0 < length bytes.items) }
     ensures first { IfSome result (λ bytes. IsBeginning bytes.items (bytes_of feed.now)) }
@@ -56,8 +55,8 @@ fn known_front<R: Source>(units: &ByteUnits, feed: &Feed<'_, R>) -> Option<Vec<u
     }
 }
 
-/// Runs the units at the front of what a feed holds whose text is known, many at a time. Each takes one byte, so as
-/// many bytes are read as are let go. If explanations are asked for it runs none.
+/// Prints the units at the front of a feed from the table. It reads as many bytes as it drops. If explanations are
+/// asked for, it prints none.
 pub(crate) fn pass_known<R: Source, O: Sink>(
     units: &ByteUnits,
     settings: &PegSettings<'_>,

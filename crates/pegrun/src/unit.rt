@@ -58,8 +58,8 @@ fn step_of(
     }
 }
 
-/// Runs the start rule on the first piece of what a feed holds, where that is most of it. Returns no answer if it does
-/// not run the rule, or if the piece is too short for one.
+/// Runs the start rule on the first piece of a feed, if that has most of the bytes. Returns none if it does not run the
+/// rule, or if the piece is too short for a result.
 #[inline(always)]
 fn attempt_front<M: Matcher, R: Source, O: Sink>(
     matcher: &mut CountedMatcher<M>,
@@ -115,7 +115,7 @@ fn attempt_all<M: Matcher, R: Source, O: Sink>(
 }
 
 /// Runs the start rule at the front of what a feed holds, and prints the text of a success. It is put in one piece only
-/// where its first piece gives no answer. After a unit of one byte it finds out whether that byte alone decides it.
+/// where its first piece gives no answer. After a unit of one byte it adds the table entry.
 #[inline(always)]
 fn attempt_unit<M: Matcher, R: Source, O: Sink>(
     matcher: &mut CountedMatcher<M>,
