@@ -4,12 +4,13 @@
 usage: prove.py NAME..
 
 It runs `rt ci` in a copy that has these crates alone, without their edits. `rt ci` loads the statements of a library,
-not its proofs. It keeps on this machine what it passed: a later run takes that, and so does the gate. A program comes
-into bin/ as soon as it is built.
+not its proofs. In some kits it keeps on the machine what it passed: a later run takes that, and so does the gate. A
+program comes into bin/ as soon as it is built.
 
 The longest chain of crates decides how long that takes. `rt ci` divides the processors among the crates that can be
-proved at a time. So where there are four processors and 12 GB of memory, a second run proves the crates of that chain
-alone, and each of them gets several processors. The first run has a lower priority, and takes what the second proved.
+proved at a time. So where there are four processors and 12 GB of memory, and `rt ci` keeps what it passed, a second run
+proves the crates of that chain alone, and each of them gets several processors. The first run has a lower priority, and
+takes what the second proved.
 
 A line says which crate begins, which is proved, in how many seconds, and how many are left. bin/proof_seconds.txt lists
 the seconds of wall clock of each crate that this checkout proved. If a crate is not proved, the script shows what `rt`
@@ -33,6 +34,7 @@ import time
 sys.path.insert(0, str(pathlib.Path(__file__).resolve().parents[1]))  # scripts/, for what groups share
 from build.library import make_archive
 from crates import below, in_order, is_static, lines_of, uses
+from kit import keeps_work
 
 TOP = pathlib.Path(__file__).resolve().parents[2]
 RT = os.environ.get("RT", "rt").split()
@@ -95,9 +97,10 @@ def early_crates(named, needed):
 
 
 def has_room():
-    """Tells whether the machine has processors and memory for two runs at a time."""
+    """Tells whether there are processors and memory for two runs at a time, and one takes what the other proved."""
     pages = os.sysconf("SC_AVPHYS_PAGES") * os.sysconf("SC_PAGE_SIZE")
-    return not os.environ.get("JOBS") and len(os.sched_getaffinity(0)) >= PROCESSORS and pages >= MEMORY
+    has_processors = not os.environ.get("JOBS") and len(os.sched_getaffinity(0)) >= PROCESSORS
+    return has_processors and pages >= MEMORY and keeps_work(RT)
 
 
 class Run:

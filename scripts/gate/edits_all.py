@@ -4,9 +4,10 @@
 usage: edits_all.py [--anew] [NAME ..]
 
 The names are those of crates; with none, each crate that has an edit. The script copies crates/, crates.txt and HANDLES
-into a temporary folder, puts the edits of both folders beside each other there, and runs `rt ci NAME ..`. That takes
-what the gate proved on this machine, and the edits that it tried, if nothing has changed since; it proves and tries the
-rest. With `--anew` it proves and tries all. RT names the command, `rt` if not set.
+into a temporary folder, puts the edits of both folders beside each other there, and runs `rt ci`. Given names, the
+copy has these crates and those that they use. Where `rt ci` keeps what it passed, it takes what the gate proved on this
+machine, and the edits that it tried, if nothing has changed since; with `--anew` it proves and tries all. RT names the
+command, `rt` if not set.
 
 The status is 0 if the prover refuses each edit, and that of `rt ci` if not. An edit that cannot be applied or compiled
 fails too, with status 1. The status is 2 where a name is no crate's, or the crate has no edit.
@@ -19,7 +20,8 @@ import sys
 import tempfile
 
 sys.path.insert(0, str(pathlib.Path(__file__).resolve().parents[1]))  # scripts/, for what groups share
-from crates import in_order
+from crates import below, in_order, lines_of
+from kit import keeps_work
 
 TOP = pathlib.Path(__file__).resolve().parents[2]
 RT = os.environ.get("RT", "rt").split()
@@ -33,10 +35,13 @@ def edits_of(crate):
 
 
 def make_tree(to, crates):
-    """Copies the crates, without what a build leaves, and puts the edits of these into their folders."""
-    shutil.copytree(TOP / "crates", to / "crates", ignore=shutil.ignore_patterns("out", "must-fail", "__pycache__"))
-    for name in ("crates.txt", "HANDLES"):
-        shutil.copy(TOP / name, to / name)
+    """Copies these crates and those below, without what a build leaves, and puts the edits of these into their folders."""
+    needed = {*crates, *(it for crate in crates for it in below(TOP, crate))}
+    leave_out = shutil.ignore_patterns("out", "must-fail", "__pycache__")
+    for crate in needed:
+        shutil.copytree(TOP / "crates" / crate, to / "crates" / crate, ignore=leave_out)
+    (to / "crates.txt").write_text("".join(f"{it}\n" for it in lines_of(TOP, needed)))
+    shutil.copy(TOP / "HANDLES", to)
     for crate in crates:
         folder = to / "crates" / crate / "must-fail"
         folder.mkdir()
@@ -66,7 +71,7 @@ def main(words):
     crates = names or having
     with tempfile.TemporaryDirectory(prefix="edits-all-") as room:
         make_tree(pathlib.Path(room), crates)
-        status = ci([*["--anew"] * ("--anew" in words), *crates], room)
+        status = ci(["--anew"] * ("--anew" in words and keeps_work(RT)), room)
     print("edits_all.py:", "an edit was not refused, or not tried: see above" if status else "each edit was refused")
     return status
 

@@ -4,7 +4,7 @@
 usage: gate_cost.py [WORD ..]
 
 The words are those of another command of `rt`, as `must-fail feed`; with none it is `ci`. It runs in a copy of what git
-tracks, in a temporary folder. `ci` and `must-fail` run with `--anew`, since `rt` else takes what an earlier run on this
+tracks, in a temporary folder. `ci` and `must-fail` run with `--anew`, where `rt` else takes what an earlier run on this
 machine passed. So the figures of `ci` are those of a gate from nothing, and `must-fail` tries each edit; but it takes
 the crates below from another checkout, if one has proved them. With the word `--kept` it takes what passed, so that a
 gate can be measured in parts, as by `ci --kept NAME ..` and then `ci --kept`. RT names the command, `rt` if not set.
@@ -28,6 +28,7 @@ import time
 
 sys.path.insert(0, str(pathlib.Path(__file__).resolve().parents[1]))  # scripts/, for what groups share
 from crates import in_order
+from kit import keeps_work
 
 TOP = pathlib.Path(__file__).resolve().parents[2]
 RT = os.environ.get("RT", "rt").split()
@@ -92,9 +93,8 @@ def run_and_read(words, folder):
 def command_of(words):
     """Returns the words of the command, which takes nothing from earlier runs unless it is to."""
     name, *others = words or ["ci"]
-    if "--kept" in others:
-        return [name, *(it for it in others if it != "--kept")]
-    return [name, "--anew", *(it for it in others if it != "--anew")] if name in FROM_NOTHING else [name, *others]
+    anew = ["--anew"] * (name in FROM_NOTHING and "--kept" not in others and keeps_work(RT))
+    return [name, *anew, *(it for it in others if it not in ("--anew", "--kept"))]
 
 
 def main(words):
