@@ -1,10 +1,10 @@
 #!/usr/bin/env python3
-"""The gate: the rules of names, the names in the documents, the form of the edits that must fail, the pages of the
-libraries and the completions; if these are green `rt ci`; if that is green too the programs as users run them: those
-that `rt ci` built are put into bin/, and run on the folders of examples/, the examples of the manual pages and the rows
-of gate/runs/, on random cases against slow answers, by item sets alone, on grammars of a megabyte and lines of 16 MB
-that are made to cost much, and with memory, writes, reads and stack refused; then what shells complete, what is packed,
-and the library for C, which is made over what `rt ci` proved, are tested.
+"""The gate: the rules of names, the names in the documents and their style, the form of the edits that must fail, the
+pages of the libraries and the completions; if these are green `rt ci`; if that is green too the programs as users run
+them: those that `rt ci` built are put into bin/, and run on the folders of examples/, the examples of the manual pages
+and the rows of gate/runs/, on random cases against slow answers, by item sets alone, on grammars of a megabyte and
+lines of 16 MB that are made to cost much, and with memory, writes, reads and stack refused; then what shells complete,
+what is packed, and the library for C, which is made over what `rt ci` proved, are tested.
 
 usage: gate.py
 
@@ -23,8 +23,9 @@ from build.library import lacking
 PROGRAMS = ("pegi", "abnfi", "abnfx")
 # What is looked at before anything is proved, and what the programs are run by.
 BEFORE = (
-    ("gate/names.py",), ("gate/doc_names.py",), ("gate/edit_index.py", "-q"), ("docs/pages.py", "--check"),
-    ("gate/calls.py",), ("docs/private_definitions.py", "--check"), ("build/completions.py", "--check"),
+    ("gate/names.py",), ("gate/doc_names.py",), ("gate/style.py",), ("gate/edit_index.py", "-q"),
+    ("docs/pages.py", "--check"), ("gate/calls.py",), ("docs/private_definitions.py", "--check"),
+    ("build/completions.py", "--check"),
 )
 BEHIND = (
     ("docs/run_examples.sh",), ("docs/man_examples.py",), ("gate/run_rows.py",),

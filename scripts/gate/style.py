@@ -1,0 +1,254 @@
+#!/usr/bin/env python3
+"""Lists what breaks the style of documents, one line each, and fails where something does: words of the old dialect,
+long sentences, numbers that differ from the constants that they name, and crates that crates.txt does not have.
+
+Words are looked for in README, CONTRIBUTING, docs/ and man/, and in the doc comments of crates/*/src/, but only in the
+files of CHECKED. Sentences are counted in README and man/, if CHECKED has them. Numbers and crates are looked for in
+all documents. Code marks, fenced code and examples of manual pages are no words.
+
+usage: style.py [-a]
+
+With -a the words of all files are looked for, whatever CHECKED says.
+"""
+import collections
+import fnmatch
+import pathlib
+import re
+import sys
+
+sys.path.insert(0, str(pathlib.Path(__file__).resolve().parents[1]))  # scripts/, for what groups share
+from crates import in_order
+
+TOP = pathlib.Path(__file__).resolve().parents[2]
+# The crates whose doc comments are clean, and those whose pages are.
+SOURCES = """
+    abnfblocks abnfexplain abnfread abnfrun abnftexts abnfx capi diagnostics earley earleyitems fanquber fanquber_c
+    letterclasses lexer linejudge lowering matchfailure memo packrat pegi pegmatch pegread pegrun refusedlines rulenames
+    tests_peg toolrun
+    """.split()
+PAGES = """
+    abnfblocks abnfexplain abnfhints abnfprint abnfread abnfrun bitrows capi cli diagnostics earley earleyitems fanquber
+    fanquber_c fixpoint lazydfa letterclasses letters lexer linejudge lowering memoryrun pegexplain pegmatch pegread
+    prune refusedlines rulenames
+    """.split()
+# The files whose words are clean. A file that is rewritten joins them.
+CHECKED = (
+    "CONTRIBUTING.md", "docs/DECISIONS.md", "docs/DEFINITIONS.md", "docs/EMBEDDING.md", "docs/GLOSSARY.md",
+    "docs/LARGE_INPUTS.md", "docs/RELIABILITY.md", "man/fanquber.3",
+    *(f"docs/crates/{it}.md" for it in PAGES), *(f"crates/{it}/src/*" for it in SOURCES),
+)
+# The words of the old dialect, each with the field's word.
+WORDS = (
+    (r"behind", "after"),
+    (r"refus(?:e|es|ed|al|als|ing)", "reject; an allocation fails"),
+    (r"tells?|telling|told", "report, print, say"),
+    (r"viable\s+beginnings?|(?:a|longest)\s+beginning\s+of", "prefix"),
+    (r"want\s+of(?:\s+memory)?|memory\s+(?:is|was|be)\s+wanting", "an allocation fails"),
+    (r"by\s+name\s+alone", "named errors"),
+    (r"com(?:e|es|ing)\s+back\s+to\s+(?:it|them)sel(?:f|ves)", "cycle"),
+    (r"(?:lists?\s+of|the)\s+letters\s+of\s+the\s+alphabet|lists?\s+of\s+letters", "symbols"),
+    (r"spots?", "task"),
+    (r"deeds?", "actions"),
+    (r"hops?", "cached transition"),
+    (r"turns\s+(?:that|of|over)", "iterations"),
+    (r"made\s+good", "retried"),
+)
+# What is agreed to be otherwise: a file, and the word as it stands there.
+AGREED = {
+    ("docs/GLOSSARY.md", "told"), ("docs/GLOSSARY.md", "refuse"), ("docs/GLOSSARY.md", "comes back to itself"),
+}
+LONGEST_SENTENCE = 35
+# A number that documents name: the file of its constant, how that stands there, and how documents say it.
+Limit = collections.namedtuple("Limit", "name file constant phrases")
+NUMBER = r"\b(\d{1,3}(?:,\d{3})+|\d+)"
+LIMITS = (
+    Limit("MAX_GRAMMAR", "crates/lexer/src/limits.rt", r"MAX_GRAMMAR: usize = ([\d_]+)", (
+        rf"[Gg]rammars?\s+(?:has|have|of)\s+(?:at\s+most|more\s+than)\s+{NUMBER}\s+bytes",
+        rf"joined\s+grammar\s+(?:has\s+more\s+than|at\s+most)\s+{NUMBER}",
+        rf"grammar\s+too\s+long\n(?:More\s+than)\s+{NUMBER}\s+bytes",
+        rf"within\s+its\s+limits:\s+{NUMBER}\s+bytes",
+    )),
+    Limit("MAX_OPEN", "crates/lexer/src/limits.rt", r"MAX_OPEN: usize = ([\d_]+)", (
+        rf"(?:[Aa]t\s+most|[Mm]ore\s+than|and|bytes,)\s+{NUMBER}\s+(?:open\s+|nested\s+)?(?:brackets|parentheses)",
+        rf"brackets,\s+of\s+which\s+at\s+most\s+{NUMBER}\s+are\s+open",
+    )),
+    Limit("MAX_LIMIT", "crates/toolrun/src/settings.rt", r"MAX_LIMIT: usize = ([\d_]+)", (
+        rf"number\s+from\s+1\s+to\s+{NUMBER}", rf"may\s+have,\s+to\s+{NUMBER}", rf"the\s+limit\s+\(1\s+to\s+{NUMBER}\)",
+        rf"(?:looks\s+at|a\s+line)\s+no\s+more\s+than\s+{NUMBER}\s+bytes",
+        rf"FANQUBER_MAX_LIMIT(?:\\fR)?\s+\({NUMBER}\)",
+    )),
+    Limit("DEFAULT_LIMIT", "crates/toolrun/src/settings.rt", r"DEFAULT_LIMIT: usize = ([\d_]+)", (
+        rf"number\s+from\s+1\s+to\s+[\d,]+\.\s+The\s+default\s+is\s+{NUMBER}",
+        rf"may\s+have,\s+to\s+[\d,]+ \| {NUMBER}",
+        rf"FANQUBER_MAX_LIMIT(?:\\fR)?\s+\([\d,]+\);\s+{NUMBER}\s+in",
+    )),
+    Limit("MAX_TEXT", "crates/abnfx/src/texts.rt", r"MAX_TEXT: usize = ([\d_]+)", (
+        rf"[Tt]exts?\s+(?:has|have|is)\s+(?:at\s+most|longer\s+than)\s+{NUMBER}\s+bytes",
+        rf"IB TEXT \" longer than {NUMBER} bytes", rf"(?:each\s+)?of\s+at\s+most\s+{NUMBER}\s+bytes",
+    )),
+    Limit("MAX_TOLD", "crates/linejudge/src/reached.rt", r"MAX_TOLD: usize = ([\d_]+)", (
+        rf"first\s+{NUMBER}\s+(?:(?:refused|rejected)\s+)?lines",
+    )),
+)
+# What a message or a status is called in documents, by the name of the status.
+STATUSES = (
+    ("NoMatch", r"no\s+match|nothing\s+matches|some\s+line\s+is"),
+    ("Overlong", r"longer\s+than|too\s+long(?!,)"),
+    ("Fault", r"read\s+error|write\s+error|cannot\s+(?:be\s+)?read"),
+    ("NoMemory", r"out\s+of\s+memory"),
+)
+CODES = re.compile(r"Status::(\w+) => (\d)")
+FENCED = re.compile(r"^```.*?^```", re.S | re.M)
+MARKED = re.compile(r"`[^`]*`")
+# Examples of a manual page, and words that it shows as they are typed or printed.
+EXAMPLE = re.compile(r"^\.nf\n.*?^\.fi$", re.S | re.M)
+TYPED = re.compile(r"^\.(?:B|BR|BI|RB) .*$|\\fB.*?\\fR", re.M)
+DOC = re.compile(r"^ *//[/!]")
+# A crate in code marks: by a path, or in the first cell of a row of the table of crates.
+PATH = re.compile(r"`(?:crates/)?([a-z]\w*)/(?:src|specs|proofs|must-fail)/")
+ROW = re.compile(r"^\| (`\w+`(?:, `\w+`)*) \|", re.M)
+
+
+def blanked(pattern, text):
+    """Returns the text with spaces in place of what matches; its lines stay."""
+    return pattern.sub(lambda found: re.sub(r"[^\n]", " ", found.group()), text)
+
+
+def comments(text):
+    """Returns the doc comments of a source, with empty lines in place of its code."""
+    lines = (DOC.sub(lambda found: " " * len(found.group()), it) if DOC.match(it) else "" for it in text.split("\n"))
+    return re.sub(r"```.*?```", lambda found: re.sub(r"[^\n]", " ", found.group()), "\n".join(lines), flags=re.S)
+
+
+def prose(path, text):
+    """Returns the words of a file as a reader meets them: without code marks, fenced code and examples."""
+    if path.startswith("crates/"):
+        return blanked(MARKED, comments(text))
+    if path.startswith("man/"):
+        return blanked(TYPED, blanked(EXAMPLE, text))
+    return blanked(MARKED, blanked(FENCED, text))
+
+
+def line_of(text, at):
+    return text.count("\n", 0, at) + 1
+
+
+def old_words(path, text):
+    """Yields each word of the old dialect, with its line."""
+    words = prose(path, text)
+    for pattern, new in WORDS:
+        for found in re.finditer(rf"\b(?:{pattern})\b", words, re.I):
+            old = " ".join(found.group().split())
+            if (path, old) not in AGREED:
+                yield line_of(words, found.start()), f"'{old}': the field says {new}"
+
+
+def paragraphs(path, text):
+    """Yields each paragraph, list item, cell of a table or tag of a manual page, with its first line."""
+    text = blanked(EXAMPLE if path.startswith("man/") else FENCED, text)
+    ends = r"^\.(?:PP|TP|IP|SH|SS|TH|nf|fi|RS|RE)\b.*$" if path.startswith("man/") else r"^#.*$|^(?=- |\d\. )|\|"
+    at = 0
+    for part in re.split(rf"({ends}|\n\n)", text, flags=re.M):
+        if part and not re.fullmatch(rf"{ends}|\n\n", part):
+            yield line_of(text, at + len(part) - len(part.lstrip())), part
+        at += len(part)
+
+
+def long_sentences(path, text):
+    """Yields each sentence of more words than a reader keeps in mind, with its line."""
+    for line, part in paragraphs(path, text):
+        shown = re.sub(r"^\.(?:[BIR]+|\\\") ", "", part, flags=re.M) if path.startswith("man/") else part
+        for sentence in re.split(r"(?<=[.:?])\s+(?=[A-Z`*\\])", " ".join(shown.split())):
+            count = len([it for it in sentence.split() if re.search(r"\w", it)])
+            if count > LONGEST_SENTENCE:
+                yield line, f"a sentence of {count} words: {' '.join(sentence.split()[:6])} .."
+
+
+def constants():
+    """Yields each limit with its value in the code."""
+    for limit in LIMITS:
+        found = re.search(limit.constant, (TOP / limit.file).read_text())
+        if not found:
+            sys.exit(f"style.py: {limit.file} has no {limit.name}")
+        yield limit, int(found.group(1).replace("_", ""))
+
+
+def other_numbers(text, values):
+    """Yields each number of a document that differs from the constant that it names, with its line."""
+    for limit, value in values:
+        for phrase in limit.phrases:
+            for found in re.finditer(phrase, text):
+                if int(found.group(1).replace(",", "")) != value:
+                    yield line_of(text, found.start(1)), f"{found.group(1)}, but {limit.name} is {value}"
+
+
+def statuses():
+    """Returns the number of each status, as the code has it."""
+    return {name: int(number) for name, number in CODES.findall((TOP / "crates/toolrun/src/status.rt").read_text())}
+
+
+def named_statuses(path, text):
+    """Yields each status that a document gives to a message or explains in a list: where, its number, and the words."""
+    for found in re.finditer(r"`([^`\n]+)`[,)]? (?:and )?status\s+(\d)", text):
+        yield found.start(), found.group(2), found.group(1)
+    if path == "README.md":
+        yield from ((it.start(), *it.groups()) for it in re.finditer(r"(?<=[.s]) (\d): ([^.]*)\.", text))
+    section = re.search(r"^\.SH EXIT STATUS\n.*?(?=^\.SH )", text, re.S | re.M)
+    for found in re.finditer(r"^\.B (\d)\n(.*?)(?=^\.TP|\Z)", section.group() if section else "", re.S | re.M):
+        yield section.start() + found.start(), *found.groups()
+
+
+def other_statuses(path, text, codes):
+    """Yields each number of a status that the code gives to another one, with its line."""
+    for at, number, words in named_statuses(path, text):
+        for name, pattern in STATUSES:
+            if re.search(pattern, words, re.I) and codes[name] != int(number):
+                yield line_of(text, at), f"status {number}, but that of '{name}' is {codes[name]}"
+    for found in re.finditer(r"FANQUBER_([A-Z_]+)\W+\((\d)\)", text):
+        name = "".join(it.capitalize() for it in found.group(1).split("_"))
+        if codes.get(name, int(found.group(2))) != int(found.group(2)):
+            yield line_of(text, found.start()), f"{found.group(2)}, but status '{name}' is {codes[name]}"
+
+
+def other_crates(path, text, crates):
+    """Yields each crate that a document names and crates.txt does not have, with its line."""
+    named = [(found.start(), found.group(1)) for found in PATH.finditer(text)]
+    if path == "docs/ARCHITECTURE.md":
+        table = text.partition("\n## Crates\n")[2].partition("\n## ")[0]
+        first = text.find(table)
+        named += [(first + found.start(), name) for found in ROW.finditer(table)
+                  for name in re.findall(r"\w+", found.group(1))]
+    for at, name in named:
+        if name not in crates:
+            yield line_of(text, at), f"crates.txt has no crate {name}"
+
+
+def files(top):
+    """Returns the documents, and the sources whose doc comments are looked at."""
+    documents = [top / "README.md", top / "CONTRIBUTING.md", *top.glob("docs/**/*.md"), *top.glob("man/*")]
+    return sorted(documents), sorted(top.glob("crates/*/src/**/*.rt"))
+
+
+def main(*words):
+    documents, sources = files(TOP)
+    values, codes, crates = list(constants()), statuses(), set(in_order(TOP))
+    wrong = 0
+    for file in [*documents, *sources]:
+        path, text = str(file.relative_to(TOP)), file.read_text()
+        found = []
+        if "-a" in words or any(fnmatch.fnmatch(path, it) for it in CHECKED):
+            found += old_words(path, text)
+            if path == "README.md" or path.startswith("man/"):
+                found += long_sentences(path, text)
+        if file in documents:
+            found += other_numbers(text, values)
+            found += other_statuses(path, text, codes)
+            found += other_crates(path, text, crates)
+        for line, what in sorted(set(found)):
+            print(f"{path}:{line}: {what}")
+            wrong = 1
+    return wrong
+
+
+if __name__ == "__main__":
+    sys.exit(main(*sys.argv[1:]))
