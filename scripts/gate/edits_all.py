@@ -35,7 +35,7 @@ def edits_of(crate):
 
 
 def make_tree(to, crates):
-    """Copies these crates and those below, without what a build leaves, and puts the edits of these into their folders."""
+    """Copies these crates and those below, without what a build leaves, and puts their edits into their folders."""
     needed = {*crates, *(it for crate in crates for it in below(TOP, crate))}
     leave_out = shutil.ignore_patterns("out", "must-fail", "__pycache__")
     for crate in needed:
