@@ -3,5 +3,5 @@ use Rattle.packrat.proofs.DoneLemmas.{empty_as}
 use Rattle.packrat.proofs.packrat.Packrat.reset.Goals as goal
 
 pub returns : goal.returns
-returns c = empty_as c.clear.new.self.stored c.clear-3.new.self c.clear-2.new.self
+returns c = empty_as c.clear.new.self.stored c.clear-3.new.self c.clear-2.new.self c.args.self.now.matches
     (ap (λ v. v.stored) c.clear.ensures) c.clear-3.ensures
