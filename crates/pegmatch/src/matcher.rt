@@ -32,17 +32,16 @@ pub enum ReplayFault {
     Write,
 }
 
-/// What runs a grammar's start rule at the front of a window. It counts its matches, so a caller cannot match without
-/// counting.
+/// What runs a grammar's start rule at the front of a window. It counts its matches, so no caller matches uncounted.
 pub trait Matcher {
-    /// The matches that it was asked for since it was made, at most 340,282,366,920,938,463,463,374,607,431,768,211,455.
+    /// How many matches it was asked for since it was made. The count stops at `most_matches`.
     ghost matches: { Self → ℕ };
 
     /// The events that it holds of its last success, for a grammar and a window.
     ghost holds: { Self → Grammar → List ℕ → List Event → Type 0 };
 
-    /// Returns what the start rule gives at the front of the window (Ford 2004, section 3.3), and counts one match, also
-    /// with an error.
+    /// Returns what the start rule gives at the front of the window (Ford 2004, section 3.3). It counts one match, with
+    /// an error too.
     ///
     /// Without `more` the window is the whole rest of the input, and the answer is never `Need`. With `more` the window
     /// isn't empty, and `Need` says that its last byte was compared; any other answer holds for every rest that begins
