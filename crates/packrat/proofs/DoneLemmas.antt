@@ -332,6 +332,7 @@ held_rise g x Holding h =
     Rise-upper 0 h.1 (length x) h.0 r.0 r.1
 
 -- where nothing is stored, nothing is held by the head 0
-pub empty_as : (stored : List Stored) (frames : List Frame) (links : List Link) → stored ≡ [] → frames ≡ []
-    → record { stored = stored; frames = frames; begun = 0; kept = kept_at links 0 } ≡ empty
-empty_as stored frames links a b = let none = none_kept links in cc (a, b, none)
+pub empty_as : (stored : List Stored) (frames : List Frame) (links : List Link) (matches : ℕ) → stored ≡ []
+    → frames ≡ [] → record { stored = stored; frames = frames; begun = 0; kept = kept_at links 0; matches = matches }
+    ≡ empty matches
+empty_as stored frames links matches a b = let none = none_kept links in cc (a, b, none)

@@ -25,16 +25,18 @@ use Rattle.pegmatch.specs.VisitedCells.{AreVisitedCells}
 use Rattle.packrat.specs.declared.frames.Frame.{Frame}
 use Rattle.pegnodes.specs.KeyLists.{Marks}
 
--- the stored keys with their outcomes and the frames, each with the last one first; how many pairs were begun; and the
--- events of the last success
+-- the stored keys with their outcomes and the frames, each with the last one first; how many pairs were begun; the
+-- events of the last success; and how many matches it was asked for since it was made
 pub record Contents : Type 0 where
   pub stored : List Stored
   pub frames : List Frame
   pub begun : ℕ
   pub kept : List Kept
+  pub matches : ℕ
 
-abbrev pub empty : Contents
-empty = record { stored = []; frames = []; begun = 0; kept = [] }
+-- nothing is stored after so many matches
+abbrev pub empty : ℕ → Contents
+empty matches = record { stored = []; frames = []; begun = 0; kept = []; matches = matches }
 
 -- It holds these events, for a grammar.
 abbrev pub Holds : Contents → Grammar → List ℕ → List Event → Type 0

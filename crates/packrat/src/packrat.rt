@@ -1,11 +1,11 @@
 //! The packrat matcher.
-ghost use Rattle.std.specs.Prelude.{◌≡◌, ℕ, ◌+◌, ◌*◌, ◌<◌, ◌≤◌, true, false, List, length, IfOk, OnErr, Err};
+ghost use Rattle.std.specs.Prelude.{◌≡◌, ℕ, ◌+◌, ◌*◌, ◌<◌, ◌≤◌, true, false, List, length, min, IfOk, OnErr, Err};
 ghost use Rattle.std.specs.Prelude.{IfSome, IfNone};
 ghost use Rattle.memo.specs.KeyLog.{spots_of};
 ghost use Rattle.memo.specs.Parts.{IsIn};
 ghost use Rattle.memo.specs.declared.key_log.Given.{Given};
 ghost use Rattle.gramcheck.specs.Outcome.{Event, Outcome};
-ghost use Rattle.pegmatch.specs.Answers.{StartGives, IsAnswer, HoldsSuccess, Replays};
+ghost use Rattle.pegmatch.specs.Answers.{StartGives, IsAnswer, HoldsSuccess, Replays, most_matches};
 ghost use Rattle.pegmatch.specs.Text.{text_of};
 ghost use Rattle.pegmatch.specs.declared.matcher.ReplayFault.{ReplayFault};
 ghost use Rattle.packrat.specs.Done.{empty, Holds, IsOutcome, head_of, unit_of_match};
@@ -28,12 +28,15 @@ const MOST: usize = 4_294_967_295;
 /// nodes or more.
 ///
 /// It is seen as the keys that are stored, the frames of what is under way, each with the last one first, how many
-/// evaluations were begun, and the events of the last success. It recurses nowhere: its depth is that of its frames.
+/// evaluations were begun, the events of the last success, and how many matches it was asked for since it was made. It
+/// recurses nowhere: its depth is that of its frames.
 #[derive(Drop)]
 pub struct Packrat {
     machine: Machine,
     // that of the events of the last success
     head: usize,
+    // how many matches it was asked for
+    matches: u128,
 }
 
 impl Model for Packrat {
@@ -47,6 +50,7 @@ impl Model for Packrat {
       frames = m.machine.frames;
       begun = m.machine.begun;
       kept = kept_at m.machine.events m.head;
+      matches = m.matches;
     } };
 
     ghost invariant = { λ m. IsHead m.machine.events m.head };
@@ -76,9 +80,9 @@ fn head_given(given: Option<Given>) -> usize
 }
 
 impl Packrat {
-    /// Returns a matcher that has stored nothing; it takes no memory.
+    /// Returns a matcher that has stored nothing, and that was asked for no match; it takes no memory.
     pub fn new(alloc: Global) -> Packrat
-        ensures { result ≡ empty }
+        ensures { result ≡ empty 0 }
     {
         Packrat {
             machine: Machine {
@@ -88,6 +92,7 @@ impl Packrat {
                 begun: 0,
             },
             head: 0,
+            matches: 0,
         }
     }
 
@@ -121,9 +126,9 @@ impl Packrat {
         }
     }
 
-    /// Empties it, and takes no memory.
+    /// Empties it, and takes no memory. It keeps the count of matches.
     pub fn reset(&mut self)
-        ensures { self.new ≡ empty }
+        ensures { self.new ≡ empty self.old.matches }
     {
         self.machine.log.clear();
         self.machine.events.clear();
@@ -134,6 +139,8 @@ impl Packrat {
 }
 
 impl Matcher for Packrat {
+    ghost matches = { λ d. d.matches };
+
     ghost holds = { λ d g x events. Holds d g x events };
 
     /// Returns what the start rule gives at the front of the window. If it is not `Need`,
@@ -145,8 +152,9 @@ impl Matcher for Packrat {
     /// with the window. At `Need` no frame is left, and stored are reached keys with their outcomes. The pairs that
     /// were begun are visited ones before the window's end, each begun once. A failure and `Need` leave no events.
     ///
-    /// However it ends, it has begun at most as many pairs as there are nodes at the places up to where the start rule
-    /// looks. With `more` they are also at most as many as there are nodes at the window's bytes.
+    /// However it ends, it has counted one match, and has begun at most as many pairs as there are nodes at the places
+    /// up to where the start rule looks. With `more` they are also at most as many as there are nodes at the window's
+    /// bytes.
     ///
     /// # Errors
     /// `Memory` if an allocation fails, or if a count does not fit in 32 bits; nothing is stored.
@@ -157,8 +165,10 @@ impl Matcher for Packrat {
         ensures bounded { IfOk result (λ unit. ((o : Outcome) (k : ℕ) → StartGives peg.now window.now o k →
             self.new.begun ≤ length peg.now.nodes * (k + 1))
             × (more ≡ true → self.new.begun ≤ length peg.now.nodes * length window.now)) }
-        ensures empty { OnErr result (self.new ≡ empty) }
+        ensures empty { OnErr result (self.new ≡ empty self.new.matches) }
+        ensures once { self.new.matches ≡ min (self.old.matches + 1) most_matches }
     {
+        self.matches = self.matches.saturating_add(1);
         let root = peg.body_node(peg.start());
         if peg.nodes() >= MOST || window.len() >= MOST {
             self.reset();
@@ -183,7 +193,7 @@ impl Matcher for Packrat {
     }
 
     /// Writes what the actions of its last success print, in order. It must hold a success for this grammar and window,
-    /// and holds it afterwards, unless it returns `Memory`.
+    /// and holds it afterwards, unless it returns `Memory`. It keeps the count of matches.
     ///
     /// # Errors
     /// - `Memory` if an allocation fails; nothing was written, and nothing is stored.
@@ -201,7 +211,7 @@ impl Matcher for Packrat {
             Replays (W.contents out.old) (W.contents out.new) (W.failed out.old) (W.failed out.new)
             (text_of raw window.now events) result }
         ensures kept { (result ≡ Err ReplayFault.Memory → ⊥) → self.new ≡ self.old }
-        ensures empty { result ≡ Err ReplayFault.Memory → self.new ≡ empty }
+        ensures empty { result ≡ Err ReplayFault.Memory → self.new ≡ empty self.old.matches }
     {
         let replayed = self.machine.events.replay(peg, window, raw, self.head, out);
         if replayed == Err(ReplayFault::Memory) {

@@ -29,6 +29,10 @@ IsAnswer g window more Holds (Failed begun) =
 IsAnswer g window more Holds Need =
     (more ≡ true) × ((o : Outcome) × StartGives g window o (length window))
 
+-- The count of a matcher's matches stops at the greatest number of 128 bits. A run asks for fewer.
+abbrev pub most_matches : ℕ
+most_matches = 340282366920938463463374607431768211455
+
 -- the matcher holds the events of a success for this grammar and window
 abbrev pub HoldsSuccess : Grammar → List ℕ → (List Event → Type 0) → Type 0
 HoldsSuccess g window Holds = (events : List Event) × (end looked : ℕ) × StartGives g window (Takes end events) looked

@@ -1,8 +1,8 @@
 //! What a matcher owes.
-ghost use Rattle.std.specs.Prelude.{◌≡◌, ℕ, ◌<◌, List, length, true, IfOk, false};
+ghost use Rattle.std.specs.Prelude.{◌≡◌, ℕ, ◌+◌, ◌<◌, List, length, min, true, IfOk, false};
 ghost use Rattle.gramcheck.specs.Grammar.{Grammar};
 ghost use Rattle.gramcheck.specs.Outcome.{Event};
-ghost use Rattle.pegmatch.specs.Answers.{IsAnswer, HoldsSuccess, Replays};
+ghost use Rattle.pegmatch.specs.Answers.{IsAnswer, HoldsSuccess, Replays, most_matches};
 ghost use Rattle.pegmatch.specs.Text.{text_of};
 
 use gramcheck::SoundPeg;
@@ -32,12 +32,16 @@ pub enum ReplayFault {
     Write,
 }
 
-/// What runs a grammar's start rule at the front of a window.
+/// What runs a grammar's start rule at the front of a window. It counts its matches, so no caller matches uncounted.
 pub trait Matcher {
+    /// How many matches it was asked for since it was made. The count stops at `most_matches`.
+    ghost matches: { Self → ℕ };
+
     /// The events that it holds of its last success, for a grammar and a window.
     ghost holds: { Self → Grammar → List ℕ → List Event → Type 0 };
 
-    /// Returns what the start rule gives at the front of the window (Ford 2004, section 3.3).
+    /// Returns what the start rule gives at the front of the window (Ford 2004, section 3.3). It counts one match, with
+    /// an error too.
     ///
     /// Without `more` the window is the whole rest of the input, and the answer is never `Need`. With `more` the window
     /// isn't empty, and `Need` says that its last byte was compared; any other answer holds for every rest that begins
@@ -47,9 +51,11 @@ pub trait Matcher {
     /// `Memory` if an allocation fails.
     fn match_unit(&mut self, peg: &SoundPeg, window: &[u8], more: bool) -> Result<Unit, Memory>
         requires { more ≡ true → 0 < length window.now }
-        ensures { IfOk result (IsAnswer peg.now window.now more (holds self.new peg.now window.now)) };
+        ensures answer { IfOk result (IsAnswer peg.now window.now more (holds self.new peg.now window.now)) }
+        ensures once { matches self.new ≡ min (matches self.old + 1) most_matches };
 
     /// Writes what the actions of its last success print, in order. It must hold a success for this grammar and window.
+    /// It matches nothing.
     ///
     /// # Errors
     /// - `Memory` if an allocation fails; nothing was written.
@@ -63,7 +69,8 @@ pub trait Matcher {
     ) -> Result<(), ReplayFault>
         requires success { HoldsSuccess peg.now window.now (holds self.old peg.now window.now) }
         requires out_is_fresh { W.failed out.old ≡ false }
-        ensures { (events : List Event) → holds self.old peg.now window.now events →
+        ensures text { (events : List Event) → holds self.old peg.now window.now events →
             Replays (W.contents out.old) (W.contents out.new) (W.failed out.old) (W.failed out.new)
-            (text_of raw window.now events) result };
+            (text_of raw window.now events) result }
+        ensures unmatched { matches self.new ≡ matches self.old };
 }

@@ -6,13 +6,9 @@ use Rattle.pegrun.specs.Units.{Units, unit_count}
 use Rattle.pegrun.specs.PegSettings.{PegSettings}
 use Rattle.pegrun.specs.declared.attempt.CountedMatcher.{CountedMatcher}
 
--- the matches that it was asked for since it was made
-abbrev pub calls_of : {M : Type 0} → CountedMatcher M → ℕ
-calls_of m = m.calls
-
--- The count stops at the greatest number of 128 bits. A run asks for fewer.
-abbrev pub most_calls : ℕ
-most_calls = 340282366920938463463374607431768211455
+-- the matches that its matcher was asked for since that was made, by the matcher's own count
+abbrev pub calls_of : {M : Type 0} → (M → ℕ) → CountedMatcher M → ℕ
+calls_of matches m = matches m.matcher
 
 -- A run that took so many bytes asked for at most two matches for each unit in them, and for at most two where it
 -- stopped.

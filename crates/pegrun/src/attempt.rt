@@ -1,9 +1,10 @@
-//! Matches a unit by a matcher whose calls are counted.
+//! Matches a unit by a matcher that counts its matches.
 ghost use Rattle.std.specs.Prelude.{◌≡◌, ℕ, ◌+◌, ◌<◌, ◌≤◌, IfSome, Some, length, min, slice_get, true, false};
 ghost use Rattle.ruletable.specs.Writing.{Flags};
 ghost use Rattle.pegrun.specs.Attempts.{IsAttempt};
 ghost use Rattle.pegrun.specs.ByteUnits.{AreByteUnits, IsByteUnit, known_text};
-ghost use Rattle.pegrun.specs.MatchCalls.{calls_of, most_calls};
+ghost use Rattle.pegmatch.specs.Answers.{most_matches};
+ghost use Rattle.pegrun.specs.MatchCalls.{calls_of};
 
 use crate::byte_units::{ByteUnits, Known};
 use gramcheck::SoundPeg;
@@ -24,22 +25,20 @@ pub enum Attempt {
     NoMemory,
 }
 
-/// A matcher with the count of its matches, and with the table of units of one byte.
+/// A matcher, which counts its matches, with the table of units of one byte.
 #[derive(Drop)]
 pub struct CountedMatcher<M> {
     matcher: M,
-    calls: u128,
     pub(crate) units: ByteUnits,
 }
 
 impl<M: Matcher> CountedMatcher<M> {
-    /// Returns a matcher that was asked for no match yet.
+    /// Returns a matcher with an empty table. It was asked for as many matches as before.
     pub fn new(alloc: Global, matcher: M) -> CountedMatcher<M>
-        ensures { calls_of result ≡ 0 }
+        ensures { calls_of M.matches result ≡ M.matches matcher }
     {
         CountedMatcher {
             matcher,
-            calls: 0,
             units: ByteUnits::new(alloc),
         }
     }
@@ -58,10 +57,9 @@ impl<M: Matcher> CountedMatcher<M> {
         requires out_is_fresh { O.failed out.old ≡ false }
         ensures answer { IsAttempt peg.now window.now more raw (O.contents out.old) (O.contents out.new) result }
         ensures flag { Flags (O.failed out.old) (O.failed out.new) result }
-        ensures once { calls_of self.new ≡ min (calls_of self.old + 1) most_calls }
+        ensures once { calls_of M.matches self.new ≡ min (calls_of M.matches self.old + 1) most_matches }
         ensures units { self.new.units ≡ self.old.units }
     {
-        self.calls = self.calls.saturating_add(1);
         let end = match self.matcher.match_unit(peg, window, more) {
             Ok(Unit::Took { end, .. }) => end,
             Ok(Unit::Failed { .. }) => return Ok(Attempt::Failed),
@@ -81,7 +79,7 @@ impl<M: Matcher> CountedMatcher<M> {
         ensures known { (b : ℕ) → slice_get window.now 0 ≡ Some b
             → IfSome (known_text (Some result)) (IsByteUnit peg.now raw b) }
         ensures units { self.new.units ≡ self.old.units }
-        ensures once { calls_of self.new ≤ calls_of self.old + 1 }
+        ensures once { calls_of M.matches self.new ≤ calls_of M.matches self.old + 1 }
     {
         let mut text = SinkOf::new(Vec::new(self.units.alloc));
         match self.print_unit(peg, &window[..2], true, raw, &mut text) {
@@ -93,7 +91,7 @@ impl<M: Matcher> CountedMatcher<M> {
     /// Adds the table entry for the first byte of a window, if the table has none.
     pub(crate) fn learn(&mut self, peg: &SoundPeg, window: &[u8], raw: bool)
         ensures units { AreByteUnits peg.now raw self.old.units → AreByteUnits peg.now raw self.new.units }
-        ensures once { calls_of self.new ≤ calls_of self.old + 1 }
+        ensures once { calls_of M.matches self.new ≤ calls_of M.matches self.old + 1 }
     {
         if window.len() < 2 || !self.units.is_open(window[0]) {
             return;

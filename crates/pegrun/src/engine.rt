@@ -38,9 +38,9 @@ pub struct Counted<M> {
 }
 
 impl<M: Matcher> Counted<M> {
-    /// Returns a matcher that was asked for no match yet, and a search that evaluated no unit yet.
+    /// Returns a matcher that was asked for as many matches as before, and a search that evaluated no unit yet.
     pub fn new(alloc: Global, matcher: M) -> Counted<M>
-        ensures calls { calls_of result.matcher ≡ 0 }
+        ensures calls { calls_of M.matches result.matcher ≡ M.matches matcher }
         ensures explained { evaluated_by result.search ≡ 0 }
     {
         Counted {
@@ -74,7 +74,8 @@ fn cut<M: Matcher, R: Source, O: Sink>(
         ((input : Input) → Agrees seen (flow_of feed.new) input → IsCut (rules_of peg.now.rules) peg.now.start
         settings.now input (length seen)
         (O.contents out.old) (O.contents out.new) result × HasFewCalls (rules_of peg.now.rules) peg.now.start
-        settings.now input (length seen) (calls_of counted.old.matcher) (calls_of counted.new.matcher)) }
+        settings.now input (length seen) (calls_of M.matches counted.old.matcher) (calls_of M.matches
+        counted.new.matcher)) }
     ensures flag { Flags (O.failed out.old) (O.failed out.new) result }
     ensures explained { evaluated_by counted.new.search ≤ evaluated_by counted.old.search + 2 }
     ensures unasked { settings.now.explain ≡ false → evaluated_by counted.new.search
@@ -121,7 +122,7 @@ pub fn run_units<M: Matcher, R: Source, O: Sink>(
     ensures calls { IfSome (R.remaining reader.old) (λ given. (taken : List ℕ) ×
         Consumes (R.remaining reader.old) (R.remaining reader.new) taken × HasFewCalls (rules_of peg.now.rules)
         peg.now.start settings.now (input_from given taken (R.failed reader.new)) (length taken)
-        (calls_of counted.old.matcher) (calls_of counted.new.matcher)) }
+        (calls_of M.matches counted.old.matcher) (calls_of M.matches counted.new.matcher)) }
     ensures explained { evaluated_by counted.new.search ≤ evaluated_by counted.old.search + 2 }
     ensures unasked { settings.now.explain ≡ false → evaluated_by counted.new.search
         ≡ evaluated_by counted.old.search }

@@ -74,7 +74,7 @@ fn attempt_front<M: Matcher, R: Source, O: Sink>(
     ensures answer { IsFrontAttempt peg.now (bytes_of feed.now) more raw (O.contents out.old) (O.contents out.new)
         result }
     ensures flag { FrontFlags (O.failed out.old) (O.failed out.new) result }
-    ensures once { calls_of matcher.new ≤ calls_of matcher.old + 1 }
+    ensures once { calls_of M.matches matcher.new ≤ calls_of M.matches matcher.old + 1 }
     ensures units { matcher.new.units ≡ matcher.old.units }
 {
     let front = feed.front();
@@ -107,7 +107,7 @@ fn attempt_all<M: Matcher, R: Source, O: Sink>(
     ensures same { SameFeed feed.old feed.new }
     ensures answer { IsAttempt peg.now (bytes_of feed.old) more raw (O.contents out.old) (O.contents out.new) result }
     ensures flag { Flags (O.failed out.old) (O.failed out.new) result }
-    ensures once { calls_of matcher.new ≤ calls_of matcher.old + 1 }
+    ensures once { calls_of M.matches matcher.new ≤ calls_of M.matches matcher.old + 1 }
     ensures units { matcher.new.units ≡ matcher.old.units }
 {
     let window: &[u8] = feed.window();
@@ -130,7 +130,7 @@ fn attempt_unit<M: Matcher, R: Source, O: Sink>(
     ensures same { SameFeed feed.old feed.new }
     ensures answer { IsAttempt peg.now (bytes_of feed.old) more raw (O.contents out.old) (O.contents out.new) result }
     ensures flag { Flags (O.failed out.old) (O.failed out.new) result }
-    ensures twice { calls_of matcher.new ≤ calls_of matcher.old + 2 }
+    ensures twice { calls_of M.matches matcher.new ≤ calls_of M.matches matcher.old + 2 }
     ensures units { AreByteUnits peg.now raw matcher.old.units → AreByteUnits peg.now raw matcher.new.units }
 {
     match attempt_front(matcher, peg, feed, more, raw, out) {
@@ -162,7 +162,7 @@ fn unit_at<M: Matcher, R: Source, O: Sink>(
     ensures follows { IsStepOn peg.now (bytes_of feed.old) more settings.now start (O.contents out.old)
         (O.contents out.new) result }
     ensures flag { Flags (O.failed out.old) (O.failed out.new) result }
-    ensures twice { calls_of matcher.new ≤ calls_of matcher.old + 2 }
+    ensures twice { calls_of M.matches matcher.new ≤ calls_of M.matches matcher.old + 2 }
     ensures units { AreByteUnits peg.now settings.now.options.raw matcher.old.units
         → AreByteUnits peg.now settings.now.options.raw matcher.new.units }
 {
@@ -196,7 +196,7 @@ pub fn next_unit<M: Matcher, R: Source, O: Sink>(
         (length (before ++ bytes_of feed.new) ≡ taken_at settings.now input start) }
     ensures fits { StaysWithin (start + length (bytes_of feed.new)) start result }
     ensures flag { Flags (O.failed out.old) (O.failed out.new) result }
-    ensures twice { calls_of matcher.new ≤ calls_of matcher.old + 2 }
+    ensures twice { calls_of M.matches matcher.new ≤ calls_of M.matches matcher.old + 2 }
     ensures units { AreByteUnits peg.now settings.now.options.raw matcher.old.units
         → AreByteUnits peg.now settings.now.options.raw matcher.new.units }
 {

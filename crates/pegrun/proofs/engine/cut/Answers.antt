@@ -155,12 +155,12 @@ loop-n-preserved g c =
       searched = c.loop-n.invariant.searched;
       written = written_on g.R.Source.remaining c.args.peg.now c.args.settings.now
           (g.R.Source.remaining (reader_of c.args.feed.now)) (g.O.Sink.contents c.args.out.now)
-          (calls_of c.args.counted.now.matcher) (Follows c.pass.new.self)
+          (calls_of g.M.Matcher.matches c.args.counted.now.matcher) (Follows c.pass.new.self)
           (λ input at. c.pass.new.self.lost ≡ false → UnitBefore (rules_of c.args.peg.now.rules) c.args.peg.now.start
           c.args.settings.now input at
           (unit_before c.pass.new.self.at.byte (length c.pass.new.self.bytes.items)))
           c.next_unit.new.matcher.units known c.skip.new.self c.pass_known.new.feed (c.loop-n.start + n)
-          (calls_of c.next_unit.new.matcher) m (g.O.Sink.contents c.next_unit.new.out)
+          (calls_of g.M.Matcher.matches c.next_unit.new.matcher) m (g.O.Sink.contents c.next_unit.new.out)
           (g.O.Sink.contents c.pass_known.new.out) p
           (λ asked. none_more m _ c.in-Ok-Units.field-0-is (c.in-Ok-Units.ensures.unasked asked)) (
             first,

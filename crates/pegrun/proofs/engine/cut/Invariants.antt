@@ -34,7 +34,7 @@ invariant-loop-n g l = record {
       Appends (g.O.Sink.contents l.fn.out) (g.O.Sink.contents l.out) text ×
       (l.settings.explain ≡ true → l.past.lost ≡ false → UnitBefore (rules_of l.peg.rules) l.peg.start l.settings input
       l.start (unit_before l.past.at.byte (length l.past.bytes.items))) ×
-      (calls_of l.counted.matcher ≤ calls_of l.fn.counted.matcher
+      (calls_of g.M.Matcher.matches l.counted.matcher ≤ calls_of g.M.Matcher.matches l.fn.counted.matcher
       + 2 * unit_count (rules_of l.peg.rules) l.peg.start l.settings input units));
 }
 

@@ -16,6 +16,7 @@ returns-in-Ok-clause-answer c =
       frames = c.evaluate-matched.new.self.frames;
       begun = c.evaluate-matched.new.self.begun;
       kept = kept_at c.evaluate-matched.new.self.events c.head_given-self-inside.result;
+      matches = c.saturating_add-self-inside.result;
     }) c.in-Ok.given c.evaluate-matched.new.self.events
     (ap (kept_at c.evaluate-matched.new.self.events) c.head_given-self-inside.ensures) matched)
 
@@ -32,6 +33,7 @@ returns-in-Ok-clause-outcome c =
       frames = c.evaluate-matched.new.self.frames;
       begun = c.evaluate-matched.new.self.begun;
       kept = kept_at c.evaluate-matched.new.self.events c.head_given-self-inside.result;
+      matches = c.saturating_add-self-inside.result;
     }) c.in-Ok.given c.evaluate-matched.new.self.events
     (ap (kept_at c.evaluate-matched.new.self.events) c.head_given-self-inside.ensures) matched)
 
@@ -47,5 +49,6 @@ returns-in-Ok-clause-bounded c =
       frames = c.evaluate-matched.new.self.frames;
       begun = c.evaluate-matched.new.self.begun;
       kept = kept_at c.evaluate-matched.new.self.events c.head_given-self-inside.result;
+      matches = c.saturating_add-self-inside.result;
     }) c.in-Ok.given c.evaluate-matched.new.self.events
     (ap (kept_at c.evaluate-matched.new.self.events) c.head_given-self-inside.ensures) matched c.requires.some
