@@ -9,6 +9,7 @@ pub mod Onward
 pub mod Turned
 pub mod TurnsLeft
 pub mod Stands
+pub mod Once
 pub mod Done
 pub mod EventLog
 pub mod WaitingHeads

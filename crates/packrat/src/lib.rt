@@ -8,6 +8,7 @@ mod frames;
 mod keys;
 mod laws;
 mod machine;
+mod once;
 mod onward;
 mod packrat;
 mod turns;
