@@ -193,8 +193,9 @@ def is_as_stated(run, ended):
 
 
 def may_go_on(run, number):
-    """Tells whether a run may go on without that growth. Earley's sets answer where the automaton has no memory, notes
-    are written by pieces where there is none for their lines, and a unit that is kept may not be asked for."""
+    """Tells whether a run may go on without that growth. Earley's sets answer where the automaton has no memory, the
+    window joins a line in two pieces where there is none for its copy, notes are written by pieces where there is none
+    for their lines, and a unit that is kept may not be asked for."""
     has_automaton = run.program == "abnfi" and "-m" not in run.words and run.name not in NO_AUTOMATON
     has_notes = bool(run.told) and "-x" not in run.words and run.program != "abnfx"
     explains = run.program == "pegi" and "-x" in run.words and run.status == 0

@@ -1,5 +1,5 @@
 //! A window that slides over a reader.
-ghost use Rattle.std.specs.Prelude.{◌≡◌, ℕ, List, ◌+◌, ◌<◌, ◌≤◌, [], ◌++◌, length, drop, false, IfOk};
+ghost use Rattle.std.specs.Prelude.{◌≡◌, ℕ, List, ◌+◌, ◌<◌, ◌≤◌, [], ◌++◌, length, take, drop, false, IfOk, OnOk};
 ghost use Rattle.std.specs.Borrow.{sem};
 ghost use Rattle.std.specs.List.{refill};
 ghost use Rattle.circular_buffer.specs.Buffer.{buffer};
@@ -187,6 +187,20 @@ impl<'a, R: Source> Feed<'a, R> {
                 None => None,
             },
         }
+    }
+
+    /// Puts the first `n` bytes into `out`, in place of what that holds. They are copied piece by piece, and nothing is
+    /// moved. `Memory` if an allocation fails.
+    pub fn copy_front(&self, n: usize, out: &mut Vec<u8>) -> Result<(), Memory>
+        requires { n ≤ length (bytes_of self.now) }
+        ensures { OnOk result (out.new.items ≡ take n (bytes_of self.now)) }
+    {
+        let (front, back) = self.ring.as_slices();
+        let first = n.min(front.len());
+        out.clear();
+        out.extend_from_slice(&front[..first])?;
+        out.extend_from_slice(&back[..n - first])?;
+        Ok(())
     }
 
     /// Returns all that is held, in one piece. Where it lay in two, it is moved, which costs the length of the window.

@@ -1,3 +1,4 @@
+pub mod GoesOnLemmas
 pub mod LineRunLemmas
 pub mod LineStepLemmas
 pub mod LinesLemmas

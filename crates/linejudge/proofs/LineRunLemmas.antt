@@ -5,7 +5,7 @@ use Rattle.std.proofs.Common.{◌∙◌, subst, arith, inl, inr, ◌⊎◌}
 use Rattle.std.specs.Prelude.{Result, Ok, Err}
 use Rattle.std.proofs.lemmas.List.{append-nil}
 use Rattle.std.specs.Io.KnownBytes.{Appends, Consumes}
-use Rattle.ruletable.specs.Writing.{Flags}
+use Rattle.ruletable.specs.Writing.{AppendsPart, Flags}
 use Rattle.ruletable.specs.declared.sink.WriteFault.{WriteFault}
 use Rattle.ruletable.proofs.AppendsLemmas.{Appends-join, Appends-kept, AppendsPart-join, IsBeginning-nil}
 use Rattle.ruletable.proofs.AppendsLemmas.{IsBeginning-same}
@@ -28,12 +28,12 @@ use Rattle.linejudge.specs.InputLines.{LinesEnd, Lines, answer_text, at_front, b
 use Rattle.linejudge.specs.InputLines.{taken_at}
 use Rattle.linejudge.specs.LineRefusals.{LinesStates, MayLack, Refusals, Tells, WhyStopped, count_untold}
 use Rattle.linejudge.specs.LineRefusals.{IsLong, is_told, none_told, one_told, stop_lines}
-use Rattle.linejudge.specs.LineSteps.{IsStep, IsToldEnding}
+use Rattle.linejudge.specs.LineSteps.{GoesOn, IsStep, IsToldEnding}
 use Rattle.linejudge.specs.declared.answers.Answer.{Answer}
 use Rattle.linejudge.specs.declared.line.LineForm.{LineForm}
 use Rattle.linejudge.specs.declared.line_loop.Step.TheVariants.{Answers, Stops}
 use Rattle.linejudge.specs.declared.reached.At.{At}
-use Rattle.linejudge.proofs.LinesLemmas.{lines_go_on, goes_behind}
+use Rattle.linejudge.proofs.LinesLemmas.{lines_go_on, goes_further}
 
 module _ (Told : List ℕ → Answer → Type 0) (asked : Bool) (Refusal : List ℕ → ℕ → List ℕ → Type 0) (form : LineForm)
     (input : Input) where
@@ -71,6 +71,18 @@ module _ (Told : List ℕ → Answer → Type 0) (asked : Bool) (Refusal : List 
       subst (λ t. Refusals Told asked Refusal form input (behind at n said) t) (sym adds.added)
           (one_told at told line n said adds.text refusals stands says adds.is),
       Appends-join old mid new text (answer_text said) wrote writes,
+    )
+
+    -- a batch of lines
+    pub more_lines : (next : At) (new : Option (List ℕ)) (added : List ℕ)
+        → GoesOn Told asked Refusal form input at next added → Appends mid new added →
+        (longer : List ℕ) × Lines Told form input next longer
+        × Refusals Told asked Refusal form input next told × Appends old new longer
+    more_lines next new added goes writes = (
+      text ++ added,
+      goes.lines text lines,
+      goes.refusals told refusals,
+      Appends-join old mid new text added wrote writes,
     )
 
     -- the explanations there, where it is asked
@@ -138,28 +150,38 @@ module _ (Told : List ℕ → Answer → Type 0) (asked : Bool) (Refusal : List 
           (told_so is)),
     )
 
-    pub fails_there : ((line : List ℕ) → (said : Answer) × Told line said) → (new : Option (List ℕ)) (more : List ℕ)
-        (taken : ℕ) (fault : WriteFault) → IsStep Told asked Refusal form input at mid new told more (Err fault) →
-        taken ≤ taken_at form.limit input at.place → Runs taken old new (Err fault)
-    fails_there decided new more taken fault (line, n, said, stands, says, adds, part) took =
-        let goes = goes_behind Told form input decided at text line n said lines stands says in
-        let next : At = behind at n said in
-        let all : List ℕ = (told ++ adds.text) ++ more_refused (count_untold asked next.refused) in (
-          text ++ answer_text said,
-          record {
-            reply = cut_reply all (text ++ answer_text said) goes.reply.taken;
-            states = cut_short next (text ++ answer_text said) all goes.reply
-                (one_more at text line n said lines stands says)
-                (record {
-                  first = told ++ adds.text;
-                  refusals = one_told at told line n said adds.text refusals stands says adds.is;
-                  is = refl;
-                }) goes.replies goes.front;
-            front = IsBeginning-same (text ++ answer_text said);
-            taken = omega (arith, took, goes.taken);
-          },
-          AppendsPart-join old mid new text (answer_text said) wrote part,
-        )
+    -- the output fails in the text of more lines
+    module _ (decided : (line : List ℕ) → (said : Answer) × Told line said) (new : Option (List ℕ)) (taken : ℕ)
+        (fault : WriteFault) (took : taken ≤ taken_at form.limit input at.place) where
+      fails_at : (next : At) (added more : List ℕ) → at.place ≤ next.place → Lines Told form input next (text ++ added)
+          → Refusals Told asked Refusal form input next more → AppendsPart mid new added
+          → Runs taken old new (Err fault)
+      fails_at next added more le further told_there part =
+          let goes = goes_further Told form input decided at.place next (text ++ added) le further in
+          let all : List ℕ = more ++ more_refused (count_untold asked next.refused) in (
+            text ++ added,
+            record {
+              reply = cut_reply all (text ++ added) goes.reply.taken;
+              states = cut_short next (text ++ added) all goes.reply further
+                  (record { first = more; refusals = told_there; is = refl }) goes.replies goes.front;
+              front = IsBeginning-same (text ++ added);
+              taken = omega (arith, took, goes.taken);
+            },
+            AppendsPart-join old mid new text added wrote part,
+          )
+
+      pub fails_there : (more : List ℕ) → IsStep Told asked Refusal form input at mid new told more (Err fault)
+          → Runs taken old new (Err fault)
+      fails_there more (line, n, said, stands, says, adds, part) =
+          fails_at (behind at n said) (answer_text said) (told ++ adds.text) (omega arith)
+          (one_more at text line n said lines stands says)
+          (one_told at told line n said adds.text refusals stands says adds.is) part
+
+      pub fails_further : (next : At) (added : List ℕ) → at.place ≤ next.place
+          → GoesOn Told asked Refusal form input at next added → AppendsPart mid new added
+          → Runs taken old new (Err fault)
+      fails_further next added le goes part =
+          fails_at next added told le (goes.lines text lines) (goes.refusals told refusals) part
 
 module _ (Told : List ℕ → Answer → Type 0) (asked : Bool) (Refusal : List ℕ → ℕ → List ℕ → Type 0) (form : LineForm)
     (decided : (line : List ℕ) → (said : Answer) × Told line said) where

@@ -161,14 +161,12 @@ module _ (Told : List ℕ → Answer → Type 0) (form : LineForm) (input : Inpu
     pub lines_go_on : (at : At) (text : List ℕ) → Lines Told form input at text → Goes at.place text
     lines_go_on at text lines = lines_go (suc (length (rest at.place))) at text lines (omega arith)
 
-    -- after one more line no fewer bytes are taken
-    pub goes_behind : (at : At) (text line : List ℕ) (n : ℕ) (said : Answer) → Lines Told form input at text
-        → StandsAt form input at.place line n → Told line said → Goes at.place (text ++ answer_text said)
-    goes_behind at text line n said lines stands says =
-        let goes = lines_go_on (behind at n said) (text ++ answer_text said)
-        (one_more at text line n said lines stands says) in record {
+    -- after more lines no fewer bytes are taken
+    pub goes_further : (s : ℕ) (at : At) (text : List ℕ) → s ≤ at.place → Lines Told form input at text → Goes s text
+    goes_further s at text le lines =
+        let goes = lines_go_on at text lines in record {
           reply = goes.reply;
           replies = goes.replies;
           front = goes.front;
-          taken = takes_more at.place (at.place + n) goes.reply.taken (omega arith) goes.taken;
+          taken = takes_more s at.place goes.reply.taken le goes.taken;
         }

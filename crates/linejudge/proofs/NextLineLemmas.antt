@@ -1,5 +1,5 @@
 -- What was found in a window stands in every input of which so much has been seen.
--- Serves: next_line (follows, still, filled, fits, short)
+-- Serves: next_line (follows, still, filled, fits, short), run_lines
 use Rattle.std.proofs.Common.{◌≡◌, ◌≢◌, ℕ, suc, ◌+◌, ◌<◌, ◌≤◌, ◌==◌, Bool, true, false, Some, None, List, [], ◌∷◌, ◌++◌}
 use Rattle.std.proofs.Common.{length, drop, take, refl, sym, ◌∙◌, ap, arith, append_assoc, length-append, length-take}
 use Rattle.std.proofs.Common.{get_or, drop-cons, if◌then◌else◌}
@@ -32,7 +32,7 @@ none_found end xs h = All-from_get_or (λ b. b ≢ end) xs 0
     (λ i lt is. h i (omega arith) lt (rw is (eq-eqb end end refl)))
 
 -- where the first one was found
-first_found : (end n : ℕ) (xs : List ℕ) → NoneBefore (Passes (is_byte end) xs) 0 (length xs) n
+pub first_found : (end n : ℕ) (xs : List ℕ) → NoneBefore (Passes (is_byte end) xs) 0 (length xs) n
     → Passes (is_byte end) xs n →
     (xs ≡ take n xs ++ end ∷ drop (suc n) xs) × HasNoEnd end (take n xs) × (length (take n xs) ≡ n)
 first_found end n xs before found =

@@ -9,8 +9,8 @@ use Rattle.toolrun.specs.declared.ending.Ending.{Ending}
 use Rattle.toolrun.specs.declared.ending.Ending.TheVariants.{Plain, Explained, Unexplained}
 use Rattle.toolrun.specs.declared.stop.Stop.{Stop}
 use Rattle.toolrun.specs.declared.stop.Stop.TheVariants.{NoMemory}
-use Rattle.linejudge.specs.InputLines.{LinesEnd, StandsAt, answer_text}
-use Rattle.linejudge.specs.LineRefusals.{IsLong, TellsLine, stop_lines}
+use Rattle.linejudge.specs.InputLines.{Lines, LinesEnd, StandsAt, answer_text}
+use Rattle.linejudge.specs.LineRefusals.{IsLong, Refusals, TellsLine, stop_lines}
 use Rattle.linejudge.specs.declared.answers.Answer.{Answer}
 use Rattle.linejudge.specs.declared.line.LineForm.{LineForm}
 use Rattle.linejudge.specs.declared.line_loop.Step.{Step}
@@ -50,6 +50,12 @@ module _ (Told : List ℕ → Answer → Type 0) (asked : Bool) (Refusal : List 
   Answered at line old new told more (Ok None) = (more ≡ told) × Keeps old new
   Answered at line old new told more (Err fault) = (said : Answer) × Told line said
       × Adds (TellsLine Told asked Refusal at line said) told more × AppendsPart old new (answer_text said)
+
+  -- The lines from one position to another are answered by a text, and none of them is explained.
+  pub record GoesOn (form : LineForm) (input : Input) (old new : At) (added : List ℕ) : Type 0 where
+    pub lines : (text : List ℕ) → Lines Told form input old text → Lines Told form input new (text ++ added)
+    pub refusals : (told : List ℕ) → Refusals Told asked Refusal form input old told
+        → Refusals Told asked Refusal form input new told
 
   -- a line was answered, or the run ends here, or an allocation failed and nothing was written
   module _ (form : LineForm) (input : Input) where

@@ -1,6 +1,6 @@
 //! The answer to one line.
 ghost use Rattle.std.specs.Prelude.{◌≡◌, ◌≤◌, ◌<◌, ◌+◌, ◌^◌, ◌++◌, ℕ, Bool, List, codes, decimal, length, take, true};
-ghost use Rattle.std.specs.Prelude.{false, IfOk, OnOk, OnErr};
+ghost use Rattle.std.specs.Prelude.{false, IfOk, OnOk, OnErr, IsTrue};
 ghost use Rattle.feed.specs.Feed.{SameFeed, bytes_of};
 ghost use Rattle.ruletable.specs.Writing.{Flags, Writes};
 ghost use Rattle.linejudge.specs.InputLines.{answer_text, says_yes};
@@ -8,10 +8,13 @@ ghost use Rattle.linejudge.specs.LineRefusals.{TellsLine, is_told as may_tell};
 ghost use Rattle.linejudge.specs.LineSteps.{Adds, Answered};
 ghost use Rattle.linejudge.specs.declared.answers.Answer.{Answer};
 
-use crate::reached::{MAX_TOLD, Reached};
+use crate::reached::{At, MAX_TOLD, Reached};
 use feed::{Feed, Source};
 use itoa::Buffer;
 use ruletable::{Memory, Sink, WriteFault, write_pieces, write_whole};
+
+/// A line of more bytes is not copied: the memory for a copy is bounded so.
+const MAX_COPY: usize = 1_048_576;
 
 /// The answer to a line.
 #[derive(Clone, Copy)]
@@ -99,26 +102,25 @@ fn push_refusal<W, J: Judge<W>>(
     Ok(())
 }
 
-/// Adds the explanation of a line with that answer, if it has one; nothing if an allocation fails.
+/// Adds the explanation of a line with that answer at a position, if it has one; nothing if an allocation fails.
 fn tell_line<W, J: Judge<W>>(
     judge: &J,
     work: &mut W,
     line: &[u8],
     said: Answer,
-    reached: &mut Reached,
+    at: At,
+    told: &mut Vec<u8>,
 ) -> Result<(), Memory>
     requires served { length line.now ≤ J.served judge.now }
     requires work { J.works_in judge.now work.old }
-    requires counted { reached.old.at.count + 1 < 2 ^ 64 }
+    requires counted { at.count + 1 < 2 ^ 64 }
     ensures work { J.works_in judge.now work.new }
-    ensures at { reached.new.at ≡ reached.old.at }
     ensures ok { OnOk result (Adds (TellsLine (J.told judge.now) (J.explains judge.now) (J.refusal judge.now)
-        reached.old.at line.now said) reached.old.told.items reached.new.told.items) }
-    ensures err { OnErr result (reached.new.told.items ≡ reached.old.told.items) }
+        at line.now said) told.old.items told.new.items) }
+    ensures err { OnErr result (told.new.items ≡ told.old.items) }
 {
-    if is_told(judge.is_explained(), reached.at.refused, said) {
-        let number = reached.at.count + 1;
-        return push_refusal(judge, work, line, number, &mut reached.told);
+    if is_told(judge.is_explained(), at.refused, said) {
+        return push_refusal(judge, work, line, at.count + 1, told);
     }
     Ok(())
 }
@@ -148,29 +150,29 @@ fn write_answer<O: Sink>(said: Answer, out: &mut O) -> Result<(), WriteFault>
     }
 }
 
-/// Judges a line, adds its explanation, if it has one, and writes the answer. `None` if an allocation fails; then
-/// nothing is added and written.
+/// Judges a line at a position, adds its explanation, if it has one, and writes the answer. `None` if an allocation
+/// fails; then nothing is added and written.
 fn answer_line<W, J: Judge<W>, O: Sink>(
     judge: &J,
     work: &mut W,
     line: &[u8],
-    reached: &mut Reached,
+    at: At,
+    told: &mut Vec<u8>,
     out: &mut O,
 ) -> Result<Option<Answer>, WriteFault>
     requires served { length line.now ≤ J.served judge.now }
     requires work { J.works_in judge.now work.old }
-    requires counted { reached.old.at.count + 1 < 2 ^ 64 }
+    requires counted { at.count + 1 < 2 ^ 64 }
     requires out_is_fresh { O.failed out.old ≡ false }
     ensures work { J.works_in judge.now work.new }
-    ensures at { reached.new.at ≡ reached.old.at }
-    ensures answered { Answered (J.told judge.now) (J.explains judge.now) (J.refusal judge.now) reached.old.at line.now
-        (O.contents out.old) (O.contents out.new) reached.old.told.items reached.new.told.items result }
+    ensures answered { Answered (J.told judge.now) (J.explains judge.now) (J.refusal judge.now) at line.now
+        (O.contents out.old) (O.contents out.new) told.old.items told.new.items result }
     ensures flag { Flags (O.failed out.old) (O.failed out.new) result }
 {
     let Ok(said) = judge.judge(work, line) else {
         return Ok(None);
     };
-    if tell_line(judge, work, line, said, reached).is_err() {
+    if tell_line(judge, work, line, said, at, told).is_err() {
         return Ok(None);
     }
     match write_answer(said, out) {
@@ -179,9 +181,17 @@ fn answer_line<W, J: Judge<W>, O: Sink>(
     }
 }
 
+/// Returns whether the first `n` bytes that are held were copied, since they are few enough and no allocation failed.
+fn is_copied<R: Source>(feed: &Feed<'_, R>, n: usize, line: &mut Vec<u8>) -> bool
+    requires { n ≤ length (bytes_of feed.now) }
+    ensures { IsTrue result → line.new.items ≡ take n (bytes_of feed.now) }
+{
+    n <= MAX_COPY && feed.copy_front(n, line).is_ok()
+}
+
 /// Judges the first `n` bytes that are held, adds their explanation, if they have one, and writes the answer. `None` if
-/// an allocation fails; then nothing is added and written. The bytes are put in one piece only where the first piece is
-/// shorter.
+/// an allocation fails; then nothing is added and written. Bytes in two pieces are copied. Where they are too many for
+/// that, or the copy gets no memory, all that is held is put in one piece.
 pub fn answer_held<W, J: Judge<W>, R: Source, O: Sink>(
     judge: &J,
     work: &mut W,
@@ -203,10 +213,15 @@ pub fn answer_held<W, J: Judge<W>, R: Source, O: Sink>(
         reached.new.told.items result }
     ensures flag { Flags (O.failed out.old) (O.failed out.new) result }
 {
+    let at = reached.at;
     let front = feed.front();
     if n <= front.len() {
-        return answer_line(judge, work, &front[..n], reached, out);
+        return answer_line(judge, work, &front[..n], at, &mut reached.told, out);
+    }
+    if is_copied(feed, n, &mut reached.line) {
+        let line = reached.line.as_slice();
+        return answer_line(judge, work, line, at, &mut reached.told, out);
     }
     let window: &[u8] = feed.window();
-    answer_line(judge, work, &window[..n], reached, out)
+    answer_line(judge, work, &window[..n], at, &mut reached.told, out)
 }

@@ -2,6 +2,7 @@
 #![tactic(auto)]
 
 mod answers;
+mod batch;
 mod line;
 mod line_loop;
 mod reached;

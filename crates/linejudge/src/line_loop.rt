@@ -10,16 +10,17 @@ ghost use Rattle.toolrun.specs.RunEnd.{more_refused};
 ghost use Rattle.toolrun.specs.RunSteps.{HasToldRun};
 ghost use Rattle.toolrun.specs.Stopped.{Fulfils};
 ghost use Rattle.toolrun.specs.Stream.{passed};
-ghost use Rattle.linejudge.specs.InputLines.{LinesEnd, Lines, place_taken, taken_at};
+ghost use Rattle.linejudge.specs.InputLines.{LinesEnd, Lines, at_front, place_taken, taken_at};
 ghost use Rattle.linejudge.specs.LineRefusals.{IsLong, LinesStates, MayLack, Tells, WhyStopped, count_untold};
 ghost use Rattle.linejudge.specs.LineRefusals.{stop_lines};
 ghost use Rattle.linejudge.specs.LineSteps.{FitsIn, IsStep, IsToldEnding, step_behind};
 
 use crate::answers::{Answer, Judge, answer_held};
+use crate::batch::judge_front;
 use crate::line::{Line, LineForm, next_line};
-use crate::reached::{At, MAX_TOLD, Reached};
+use crate::reached::{MAX_TOLD, Reached};
 use feed::{Feed, Source};
-use ruletable::{Memory, Sink, WriteFault};
+use ruletable::{Memory, Sink, WriteFault, write_whole};
 use std::alloc::Global;
 use toolrun::{Ending, Stop, ToldRefusals};
 
@@ -96,38 +97,38 @@ fn lines_of_stop(alloc: Global, stop: Stop) -> Result<Vec<u8>, Memory>
 }
 
 /// Returns the ending of a run: the explanations of lines, the stop, and the lines that explain it.
-fn told_ending(alloc: Global, reached: Reached, stop: Stop) -> Ending
+fn told_ending(reached: Reached, stop: Stop) -> Ending
     ensures { IsToldEnding (reached.told.items ++ more_refused (count_untold true reached.at.refused)) stop result }
 {
     let told = ToldRefusals {
         text: reached.told,
         more: reached.at.refused.saturating_sub(MAX_TOLD),
     };
-    match lines_of_stop(alloc, stop) {
+    match lines_of_stop(reached.alloc, stop) {
         Ok(why) => Ending::Explained { told, stop, why },
         Err(Memory) => Ending::Unexplained { told, stop },
     }
 }
 
 /// Returns how a run ends that stopped so, explained if that is asked.
-fn ending_at(alloc: Global, asked: bool, reached: Reached, stop: Stop) -> Ending
+fn ending_at(asked: bool, reached: Reached, stop: Stop) -> Ending
     ensures plain { asked ≡ false → result ≡ Ending.Plain stop }
     ensures told { asked ≡ true → IsToldEnding (reached.told.items
         ++ more_refused (count_untold true reached.at.refused)) stop result }
 {
     if asked {
-        return told_ending(alloc, reached, stop);
+        return told_ending(reached, stop);
     }
     Ending::Plain(stop)
 }
 
 /// Answers the lines of an input in turn.
 fn answer_lines<W, J: Judge<W>, R: Source, O: Sink>(
-    alloc: Global,
     judge: &J,
     work: &mut W,
     form: LineForm,
     feed: &mut Feed<'_, R>,
+    mut reached: Reached,
     out: &mut O,
 ) -> Result<Ending, WriteFault>
     requires small { form.limit ≤ 16777216 }
@@ -136,6 +137,7 @@ fn answer_lines<W, J: Judge<W>, R: Source, O: Sink>(
     requires capacity { capacity_of feed.old ≡ form.limit + 1 }
     requires empty { bytes_of feed.old ≡ [] }
     requires allowance { allowance_of feed.old ≡ input_limit }
+    requires front { (reached.at ≡ at_front) × (reached.told.items ≡ []) }
     requires told { IsTrueOfReader R.remaining R.failed R.ended feed.old }
     requires out_is_fresh { O.failed out.old ≡ false }
     ensures work { J.works_in judge.now work.new }
@@ -153,15 +155,19 @@ fn answer_lines<W, J: Judge<W>, R: Source, O: Sink>(
     ensures flag { Flags (O.failed out.old) (O.failed out.new) result }
 {
     judge.decided();
-    let mut reached = Reached {
-        at: At {
-            place: 0,
-            count: 0,
-            refused: 0,
-        },
-        told: Vec::new(alloc),
-    };
     loop {
+        let at = reached.at;
+        let next = judge_front(judge, work, form, feed.front(), at, &mut reached.text);
+        if at.place < next.place {
+            // its contract says that no more is held than there is room for
+            let _ = feed.len();
+            if let Err(fault) = write_whole(out, reached.text.as_slice()) {
+                return Err(fault);
+            }
+            feed.skip(next.place - at.place);
+            reached.at = next;
+            continue;
+        }
         match next_step(judge, work, form, feed, &mut reached, out) {
             Ok(Step::Answers { said, len }) => {
                 feed.skip(len);
@@ -170,7 +176,7 @@ fn answer_lines<W, J: Judge<W>, R: Source, O: Sink>(
             Ok(Step::Stops(stop)) => {
                 // a run that stops has taken as much as the greatest line takes there
                 feed.fill();
-                return Ok(ending_at(alloc, judge.is_explained(), reached, stop));
+                return Ok(ending_at(judge.is_explained(), reached, stop));
             }
             Err(fault) => return Err(fault),
         }
@@ -213,8 +219,11 @@ pub fn run_lines<W, J: Judge<W>, R: Source, O: Sink>(
         Ok(ring) => ring,
         Err(_) => return Ok(Ending::Plain(Stop::NoMemory)),
     };
+    let Ok(reached) = Reached::new(alloc) else {
+        return Ok(Ending::Plain(Stop::NoMemory));
+    };
     let mut feed = Feed::new(ring, reader);
-    let ending = answer_lines(alloc, judge, work, form, &mut feed, out);
+    let ending = answer_lines(judge, work, form, &mut feed, reached, out);
     feed.into_reader();
     ending
 }

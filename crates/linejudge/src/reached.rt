@@ -1,12 +1,17 @@
 //! A position after some lines, and the explanations of those that were rejected.
-ghost use Rattle.std.specs.Prelude.{◌≡◌, ◌<◌, ◌+◌, ◌^◌};
-ghost use Rattle.linejudge.specs.InputLines.{behind as the_place, refused_by as count_of, status_after};
+ghost use Rattle.std.specs.Prelude.{◌≡◌, ◌<◌, ◌+◌, ◌^◌, [], IfOk};
+ghost use Rattle.linejudge.specs.InputLines.{at_front, behind as the_place, refused_by as count_of, status_after};
 
 use crate::answers::Answer;
+use ruletable::Memory;
+use std::alloc::Global;
 use toolrun::Status;
 
 /// How many rejected lines are explained.
 pub const MAX_TOLD: usize = 16;
+
+/// How many bytes the answers of a batch may have.
+pub(crate) const BATCH: usize = 8192;
 
 /// A position after some lines, how many they are, and how many of them were rejected.
 #[derive(Clone, Copy)]
@@ -22,8 +27,34 @@ pub struct At {
 /// A position after some lines, and the explanations of those that were rejected.
 #[derive(Drop)]
 pub struct Reached {
+    pub alloc: Global,
     pub at: At,
     pub told: Vec<u8>,
+    /// The copy of a line that lies in two pieces.
+    pub line: Vec<u8>,
+    /// The answers to a batch of lines.
+    pub text: Vec<u8>,
+}
+
+impl Reached {
+    /// Returns the position before the first line. `Memory` if an allocation fails.
+    pub(crate) fn new(alloc: Global) -> Result<Reached, Memory>
+        ensures { IfOk result (λ made. (made.at ≡ at_front) × (made.told.items ≡ [])) }
+    {
+        let text = Vec::with_capacity(alloc, BATCH)?;
+        let at = At {
+            place: 0,
+            count: 0,
+            refused: 0,
+        };
+        Ok(Reached {
+            alloc,
+            at,
+            told: Vec::new(alloc),
+            line: Vec::new(alloc),
+            text,
+        })
+    }
 }
 
 /// Returns how many lines an answer rejects.

@@ -19,6 +19,9 @@ fn a_window_slides_over_its_reader(rt: HostRuntime) -> Result<(), Fail> {
     // the bytes lie in two pieces
     assert!(rt; feed.front() == b"d".as_slice());
     assert!(rt; feed.find(b'f') == Some(2));
+    let mut copied = Vec::new(rt.alloc());
+    feed.copy_front(2, &mut copied)?;
+    assert!(rt; *copied.as_slice() == *b"de".as_slice());
     assert!(rt; *feed.window() == *b"def".as_slice());
     assert!(rt; feed.front() == b"def".as_slice());
     assert!(rt; !feed.into_reader().has_failed());

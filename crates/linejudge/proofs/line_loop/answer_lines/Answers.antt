@@ -1,5 +1,5 @@
 -- One more line, or the end.
-use Rattle.std.proofs.Common.{ℕ, [], ◌++◌, ◌≤◌, ◌<◌, ◌∙◌, length, take, refl, ap, arith, length-append}
+use Rattle.std.proofs.Common.{ℕ, [], ◌++◌, ◌≤◌, ◌<◌, ◌-◌, ◌∙◌, length, take, refl, ap, arith, length-append}
 use Rattle.std.proofs.Common.{length-drop}
 use Rattle.ruletable.proofs.AppendsLemmas.{Appends-same}
 use Rattle.feed.specs.Feed.{bytes_of}
@@ -7,36 +7,37 @@ use Rattle.feed.proofs.GrowsLemmas.{Consumes-same}
 use Rattle.toolrun.proofs.AgreesLemmas.{agrees_earlier, seen_more, slides-bytes, slides-len}
 use Rattle.linejudge.specs.InputLines.{none}
 use Rattle.linejudge.specs.LineRefusals.{none_told}
-use Rattle.linejudge.proofs.LineRunLemmas.{one_more_line, stops_there, fails_there}
+use Rattle.linejudge.proofs.GoesOnLemmas.{batch_goes}
+use Rattle.linejudge.proofs.LineRunLemmas.{fails_further, fails_there, more_lines, one_more_line, stops_there}
 use Rattle.linejudge.proofs.LinesLemmas.{refused_by-one}
-use Rattle.linejudge.proofs.NextLineLemmas.{held_taken}
+use Rattle.linejudge.proofs.NextLineLemmas.{held_taken, held_within}
 use Rattle.linejudge.proofs.line_loop.answer_lines.Goals as goal
 
-pub loop-said-init : goal.loop-said-init
-loop-said-init g c = record {
+pub loop-feed-init : goal.loop-feed-init
+loop-feed-init g c = record {
   capacity = c.requires.capacity;
-  counted = omega arith;
-  refused = omega arith;
-  within = let l = ap length c.requires.empty in omega (arith, l, c.requires.allowance);
+  counted = rw c.requires.front.0 (omega arith);
+  refused = rw c.requires.front.0 (omega arith);
+  within = let l = ap length c.requires.empty in rw c.requires.front.0 (omega (arith, l, c.requires.allowance));
   told = c.requires.told;
   work = c.requires.work;
   loan = refl;
   flag = refl;
   written = (
     [],
-    refl,
+    rw c.requires.front.0 refl,
     rw c.requires.empty (Consumes-same _),
-    λ input a. ([], none, rw c.new.ensures.items none_told, Appends-same _),
+    λ input a. ([], rw c.requires.front.0 none, rw (c.requires.front.0, c.requires.front.1) none_told, Appends-same _),
   );
 }
 
 pub next_step-requires : goal.next_step-requires
 next_step-requires g c =
-    let so_far = c.loop-said.invariant in
+    let so_far = c.loop-feed.invariant in
     record {
       small = c.requires.small;
       served = c.requires.served;
-      work = so_far.work;
+      work = c.judge_front-next.ensures.work;
       capacity = so_far.capacity;
       counted = so_far.counted;
       within = omega (arith, so_far.within);
@@ -55,12 +56,12 @@ behind-reached-requires-clause-place g c =
       fits.1,
       grew.allowance,
       more,
-      length-append c.loop-said.feed.ring.items grew.more,
-      c.loop-said.invariant.within,
+      length-append c.loop-feed.feed.ring.items grew.more,
+      c.loop-feed.invariant.within,
     ))
 
-pub loop-said-smaller : goal.loop-said-smaller
-loop-said-smaller g c =
+pub loop-feed-smaller : goal.loop-feed-smaller
+loop-feed-smaller g c =
     let fits = (rw c.in-Ok-Answers.field-0-is at c.in-Ok-Answers.ensures.fits) in
     let grew = c.in-Ok-Answers.ensures.grows in
     let more = ap length grew.bytes in
@@ -70,13 +71,81 @@ loop-said-smaller g c =
       fits.1,
       grew.allowance,
       more,
-      length-append c.loop-said.feed.ring.items grew.more,
-      c.loop-said.invariant.within,
+      length-append c.loop-feed.feed.ring.items grew.more,
+      c.loop-feed.invariant.within,
     ))
 
-pub loop-said-preserved : goal.loop-said-preserved
-loop-said-preserved g c =
-    let so_far = c.loop-said.invariant.written in
+pub loop-feed-preserved-then-at-next : goal.loop-feed-preserved-then-at-next
+loop-feed-preserved-then-at-next g c =
+    let so_far = c.loop-feed.invariant.written in
+    let items = c.loop-feed.feed.ring.items in
+    let at = c.loop-feed.reached.at in
+    let next = c.judge_front-next.result in
+    let on = c.judge_front-next.ensures in
+    let part = c.front.ensures in
+    let held = ap length part.1 in
+    let n : ℕ = next.place - at.place in
+    let le : n ≤ length items = omega (arith, on.ahead, on.within, held, length-append c.front.result.now part.0) in
+    record {
+      capacity = c.skip.ensures.capacity ∙ c.loop-feed.invariant.capacity;
+      counted = on.counted;
+      refused = on.refused;
+      within = let kept = ap length c.skip.ensures.bytes in
+          omega (arith, kept, length-drop n items, c.skip.ensures.allowance, c.loop-feed.invariant.within, on.ahead, le);
+      told = rw (c.skip.ensures.reader, c.skip.ensures.allowance, c.skip.ensures.flow) c.loop-feed.invariant.told;
+      work = on.work;
+      loan = c.skip.ensures.loan ∙ c.loop-feed.invariant.loan;
+      flag = c.in_default.ensures.flag ∙ c.loop-feed.invariant.flag;
+      written = (
+        so_far.0 ++ take n items,
+        let e = slides-len so_far.0 items n at.place so_far.1 le in omega (arith, e, on.ahead),
+        rw (c.skip.ensures.reader, c.skip.ensures.bytes, slides-bytes so_far.0 items n) so_far.2,
+        λ input b.
+            let a = rw (c.skip.ensures.bytes, slides-bytes so_far.0 items n, c.skip.ensures.flow) at b in
+            let front = so_far.3 input a in
+            more_lines (g.J.Judge.told c.args.judge.now) (g.J.Judge.explains c.args.judge.now)
+            (g.J.Judge.refusal c.args.judge.now) c.args.form input at _ _ front.0 c.loop-feed.reached.told.items front.1
+            front.2 front.3 next _ c.judge_front-next.new.text.items
+            (batch_goes (g.J.Judge.told c.args.judge.now) (g.J.Judge.explains c.args.judge.now)
+            (g.J.Judge.refusal c.args.judge.now) c.args.form input so_far.0 items c.front.result.now
+            c.judge_front-next.new.text.items at next so_far.1 part a on.goes_on)
+            (rw c.as_slice.ensures.value at c.in_default.ensures.bytes),
+      );
+    }
+
+pub returns-in-Err : goal.returns-in-Err
+returns-in-Err g c =
+    let so_far = c.loop-feed.invariant.written in
+    let items = c.loop-feed.feed.ring.items in
+    let at = c.loop-feed.reached.at in
+    let on = c.judge_front-next.ensures in
+    record {
+      work = on.work;
+      loan = c.loop-feed.invariant.loan;
+      told = c.loop-feed.invariant.told;
+      lines = (
+        so_far.0 ++ items,
+        so_far.2,
+        omega (arith, length-append so_far.0 items, so_far.1, c.loop-feed.invariant.within),
+        λ input a.
+            let front = so_far.3 input a in
+            fails_further (g.J.Judge.told c.args.judge.now) (g.J.Judge.explains c.args.judge.now)
+            (g.J.Judge.refusal c.args.judge.now) c.args.form input at _ _ front.0 c.loop-feed.reached.told.items front.1
+            front.2 front.3 c.decided.ensures _ (length (so_far.0 ++ items)) c.in-Err.fault
+            (rw so_far.1 at (held_within c.loop-feed.feed c.args.form.end c.args.form.limit so_far.0 input
+            c.loop-feed.invariant.capacity (let len = c.len.ensures in omega (arith, len.len, len.within)) a))
+            c.judge_front-next.result c.judge_front-next.new.text.items on.ahead
+            (batch_goes (g.J.Judge.told c.args.judge.now) (g.J.Judge.explains c.args.judge.now)
+            (g.J.Judge.refusal c.args.judge.now) c.args.form input so_far.0 items c.front.result.now
+            c.judge_front-next.new.text.items at c.judge_front-next.result so_far.1 c.front.ensures a on.goes_on)
+            (rw c.as_slice.ensures.value at c.in-Err.ensures.bytes),
+      );
+      flag = c.in-Err.ensures.flag;
+    }
+
+pub loop-feed-preserved : goal.loop-feed-preserved
+loop-feed-preserved g c =
+    let so_far = c.loop-feed.invariant.written in
     let grew = c.in-Ok-Answers.ensures.grows in
     let items = c.next_step.new.feed.ring.items in
     let n : ℕ = c.in-Ok-Answers.len in
@@ -84,41 +153,41 @@ loop-said-preserved g c =
     let some : 0 < n = fits.0 in
     let le : n ≤ length items = fits.1 in
     record {
-      capacity = c.skip.ensures.capacity ∙ grew.capacity ∙ c.loop-said.invariant.capacity;
+      capacity = c.skip-in-Ok-Answers.ensures.capacity ∙ grew.capacity ∙ c.loop-feed.invariant.capacity;
       counted = rw (c.behind-reached.ensures, c.in-Ok-Answers.ensures.at)
-          (omega (arith, c.loop-said.invariant.counted, some));
+          (omega (arith, c.loop-feed.invariant.counted, some));
       refused = rw (c.behind-reached.ensures, c.in-Ok-Answers.ensures.at)
-          (omega (arith, c.loop-said.invariant.refused, refused_by-one c.in-Ok-Answers.said));
-      within = let kept = ap length c.skip.ensures.bytes in
+          (omega (arith, c.loop-feed.invariant.refused, refused_by-one c.in-Ok-Answers.said));
+      within = let kept = ap length c.skip-in-Ok-Answers.ensures.bytes in
           let more = ap length grew.bytes in
           rw (c.behind-reached.ensures, c.in-Ok-Answers.ensures.at) (omega (
             arith,
             kept,
             length-drop n items,
-            c.skip.ensures.allowance,
+            c.skip-in-Ok-Answers.ensures.allowance,
             grew.allowance,
             more,
-            length-append c.loop-said.feed.ring.items grew.more,
-            c.loop-said.invariant.within,
+            length-append c.loop-feed.feed.ring.items grew.more,
+            c.loop-feed.invariant.within,
             le,
           ));
-      told = rw (c.skip.ensures.reader, c.skip.ensures.allowance, c.skip.ensures.flow) c.in-Ok-Answers.ensures.told;
+      told = rw (c.skip-in-Ok-Answers.ensures.reader, c.skip-in-Ok-Answers.ensures.allowance, c.skip-in-Ok-Answers.ensures.flow) c.in-Ok-Answers.ensures.told;
       work = c.in-Ok-Answers.ensures.work;
-      loan = c.skip.ensures.loan ∙ c.in-Ok-Answers.ensures.loan ∙ c.loop-said.invariant.loan;
-      flag = c.in-Ok-Answers.ensures.flag ∙ c.loop-said.invariant.flag;
+      loan = c.skip-in-Ok-Answers.ensures.loan ∙ c.in-Ok-Answers.ensures.loan ∙ c.loop-feed.invariant.loan;
+      flag = c.in-Ok-Answers.ensures.flag ∙ c.loop-feed.invariant.flag;
       written = (
         so_far.0 ++ take n items,
         rw (c.behind-reached.ensures, c.in-Ok-Answers.ensures.at)
-            (let e = slides-len so_far.0 items n c.loop-said.reached.at.place so_far.1 le in omega (arith, e)),
-        rw (c.skip.ensures.reader, c.skip.ensures.bytes, slides-bytes so_far.0 items n)
+            (let e = slides-len so_far.0 items n c.loop-feed.reached.at.place so_far.1 le in omega (arith, e)),
+        rw (c.skip-in-Ok-Answers.ensures.reader, c.skip-in-Ok-Answers.ensures.bytes, slides-bytes so_far.0 items n)
             (seen_more _ _ _ grew so_far.0 _ so_far.2),
         λ input b.
-            let a = rw (c.skip.ensures.bytes, slides-bytes so_far.0 items n, c.skip.ensures.flow) at b in
+            let a = rw (c.skip-in-Ok-Answers.ensures.bytes, slides-bytes so_far.0 items n, c.skip-in-Ok-Answers.ensures.flow) at b in
             let front = so_far.3 input (agrees_earlier _ _ _ grew so_far.0 input a) in
             let step = c.in-Ok-Answers.ensures.follows so_far.0 input so_far.1 a in
             rw (c.behind-reached.ensures, c.in-Ok-Answers.ensures.at) (one_more_line (g.J.Judge.told c.args.judge.now)
             (g.J.Judge.explains c.args.judge.now) (g.J.Judge.refusal c.args.judge.now) c.args.form input
-            c.loop-said.reached.at _ _ front.0 c.loop-said.reached.told.items front.1 front.2 front.3 _
+            c.loop-feed.reached.at _ _ front.0 c.loop-feed.reached.told.items front.1 front.2 front.3 _
             c.next_step.new.reached.told.items c.in-Ok-Answers.said c.in-Ok-Answers.len
             (rw c.in-Ok-Answers.field-0-is at step.0)),
       );
@@ -127,10 +196,10 @@ loop-said-preserved g c =
 pub returns-in-Ok-Stops : goal.returns-in-Ok-Stops
 returns-in-Ok-Stops g c = record {
   work = c.in-Ok-Stops.ensures.work;
-  loan = c.fill.ensures.loan ∙ c.in-Ok-Stops.ensures.loan ∙ c.loop-said.invariant.loan;
+  loan = c.fill.ensures.loan ∙ c.in-Ok-Stops.ensures.loan ∙ c.loop-feed.invariant.loan;
   told = c.fill.ensures.told;
   lines =
-      let so_far = c.loop-said.invariant.written in
+      let so_far = c.loop-feed.invariant.written in
       let grew = c.in-Ok-Stops.ensures.grows in
       let more = c.fill.ensures.grows in
       let feed = c.fill.new.self in (
@@ -146,35 +215,35 @@ returns-in-Ok-Stops g c = record {
               more.allowance,
               first,
               second,
-              length-append c.loop-said.feed.ring.items grew.more,
+              length-append c.loop-feed.feed.ring.items grew.more,
               length-append c.next_step.new.feed.ring.items more.more,
-              c.loop-said.invariant.within,
+              c.loop-feed.invariant.within,
             ),
         λ input a.
             let then_ = agrees_earlier _ _ _ more so_far.0 input a in
             let front = so_far.3 input (agrees_earlier _ _ _ grew so_far.0 input then_) in
             let step = c.in-Ok-Stops.ensures.follows so_far.0 input so_far.1 then_ in
             stops_there (g.J.Judge.told c.args.judge.now) (g.J.Judge.explains c.args.judge.now)
-            (g.J.Judge.refusal c.args.judge.now) c.args.form input c.loop-said.reached.at _ _ front.0
-            c.loop-said.reached.told.items front.1 front.2 front.3 _ c.next_step.new.reached.told.items
+            (g.J.Judge.refusal c.args.judge.now) c.args.form input c.loop-feed.reached.at _ _ front.0
+            c.loop-feed.reached.told.items front.1 front.2 front.3 _ c.next_step.new.reached.told.items
             (length (so_far.0 ++ bytes_of feed)) c.in-Ok-Stops.stop c.ending_at.result
             (rw c.in-Ok-Stops.field-0-is at step.0) (rw c.is_explained.ensures at c.ending_at.ensures.plain)
             (rw (c.is_explained.ensures, c.in-Ok-Stops.ensures.at) at c.ending_at.ensures.told)
             (rw so_far.1 at (held_taken feed c.args.form.end c.args.form.limit so_far.0 input
-            (more.capacity ∙ grew.capacity ∙ c.loop-said.invariant.capacity) c.fill.ensures.within a c.fill.result
+            (more.capacity ∙ grew.capacity ∙ c.loop-feed.invariant.capacity) c.fill.ensures.within a c.fill.result
             c.fill.ensures.held)),
       );
-  flag = c.in-Ok-Stops.ensures.flag ∙ c.loop-said.invariant.flag;
+  flag = c.in-Ok-Stops.ensures.flag ∙ c.loop-feed.invariant.flag;
 }
 
-pub returns-in-Err : goal.returns-in-Err
-returns-in-Err g c = record {
-  work = c.in-Err.ensures.work;
-  loan = c.in-Err.ensures.loan ∙ c.loop-said.invariant.loan;
-  told = c.in-Err.ensures.told;
+pub returns-in-Err-next_step : goal.returns-in-Err-next_step
+returns-in-Err-next_step g c = record {
+  work = c.in-Err-next_step.ensures.work;
+  loan = c.in-Err-next_step.ensures.loan ∙ c.loop-feed.invariant.loan;
+  told = c.in-Err-next_step.ensures.told;
   lines =
-      let so_far = c.loop-said.invariant.written in
-      let grew = c.in-Err.ensures.grows in
+      let so_far = c.loop-feed.invariant.written in
+      let grew = c.in-Err-next_step.ensures.grows in
       let items = c.next_step.new.feed.ring.items in (
         so_far.0 ++ items,
         seen_more _ _ _ grew so_far.0 _ so_far.2,
@@ -185,16 +254,16 @@ returns-in-Err g c = record {
               so_far.1,
               grew.allowance,
               more,
-              length-append c.loop-said.feed.ring.items grew.more,
-              c.loop-said.invariant.within,
+              length-append c.loop-feed.feed.ring.items grew.more,
+              c.loop-feed.invariant.within,
             ),
         λ input a.
             let front = so_far.3 input (agrees_earlier _ _ _ grew so_far.0 input a) in
-            let step = c.in-Err.ensures.follows so_far.0 input so_far.1 a in
+            let step = c.in-Err-next_step.ensures.follows so_far.0 input so_far.1 a in
             fails_there (g.J.Judge.told c.args.judge.now) (g.J.Judge.explains c.args.judge.now)
-            (g.J.Judge.refusal c.args.judge.now) c.args.form input c.loop-said.reached.at _ _ front.0
-            c.loop-said.reached.told.items front.1 front.2 front.3 c.decided.ensures _
-            c.next_step.new.reached.told.items (length (so_far.0 ++ items)) c.in-Err.fault step.0 step.1,
+            (g.J.Judge.refusal c.args.judge.now) c.args.form input c.loop-feed.reached.at _ _ front.0
+            c.loop-feed.reached.told.items front.1 front.2 front.3 c.decided.ensures _ (length (so_far.0 ++ items))
+            c.in-Err-next_step.fault step.1 c.next_step.new.reached.told.items step.0,
       );
-  flag = c.in-Err.ensures.flag;
+  flag = c.in-Err-next_step.ensures.flag;
 }

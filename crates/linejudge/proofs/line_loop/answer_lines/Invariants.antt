@@ -9,8 +9,8 @@ use Rattle.linejudge.specs.InputLines.{Lines}
 use Rattle.linejudge.specs.LineRefusals.{Refusals}
 use Rattle.linejudge.proofs.line_loop.answer_lines.Given as goal
 
-abbrev pub invariant-loop-said : goal.invariant-loop-said
-invariant-loop-said g l = record {
+abbrev pub invariant-loop-feed : goal.invariant-loop-feed
+invariant-loop-feed g l = record {
   capacity : capacity_of l.feed ≡ l.form.limit + 1;
   counted : l.reached.at.count ≤ l.reached.at.place;
   refused : l.reached.at.refused ≤ l.reached.at.count;
@@ -28,5 +28,5 @@ invariant-loop-said g l = record {
       l.reached.at l.reached.told.items × Appends (g.O.Sink.contents l.fn.out) (g.O.Sink.contents l.out) text);
 }
 
-abbrev pub decreases-loop-said : goal.decreases-loop-said
-decreases-loop-said g l = input_limit - l.reached.at.place
+abbrev pub decreases-loop-feed : goal.decreases-loop-feed
+decreases-loop-feed g l = input_limit - l.reached.at.place

@@ -8,6 +8,10 @@ pub returns-in-Err : goal.returns-in-Err
 returns-in-Err g c = no_line_was_run (g.J.Judge.told c.args.judge.now) (g.J.Judge.explains c.args.judge.now)
     (g.J.Judge.refusal c.args.judge.now) c.args.form c.decided.ensures _ _ _ _ _
 
+pub returns-in_default : goal.returns-in_default
+returns-in_default g c = no_line_was_run (g.J.Judge.told c.args.judge.now) (g.J.Judge.explains c.args.judge.now)
+    (g.J.Judge.refusal c.args.judge.now) c.args.form c.decided.ensures _ _ _ _ _
+
 pub returns : goal.returns
 returns g c =
     lines_were_run (g.J.Judge.told c.args.judge.now) (g.J.Judge.explains c.args.judge.now)

@@ -1,0 +1,63 @@
+-- A batch of lines, and the run after it.
+-- Serves: run_lines
+use Rattle.std.proofs.Common.{◌≡◌, ℕ, suc, ◌+◌, ◌≤◌, Bool, false, Option, Some, List, [], ◌∷◌, ◌++◌, length, take, drop}
+use Rattle.std.proofs.Common.{refl, sym, ◌∙◌, ap, arith, subst, append_assoc}
+use Rattle.std.proofs.lemmas.List.{append-nil, drop-append-le, drop-drop}
+use Rattle.memchr.specs.Find.{IsFirstByte, is_byte}
+use Rattle.ruletable.specs.Writing.{IsBeginning}
+use Rattle.feed.specs.declared.held.Flow.{Flow}
+use Rattle.toolrun.specs.Agrees.{Agrees}
+use Rattle.toolrun.specs.Input.{Input}
+use Rattle.toolrun.proofs.AgreesLemmas.{rest_is}
+use Rattle.toolrun.proofs.ExplainedIfLemmas.{if_not_asked}
+use Rattle.linejudge.specs.InputLines.{Lines, StandsAt, answer_text, behind, one_more, with_end}
+use Rattle.linejudge.specs.LineRefusals.{Refusals, is_told, one_told}
+use Rattle.linejudge.specs.LineSteps.{GoesOn}
+use Rattle.linejudge.specs.declared.answers.Answer.{Answer}
+use Rattle.linejudge.specs.declared.line.LineForm.{LineForm}
+use Rattle.linejudge.specs.declared.reached.At.{At}
+use Rattle.linejudge.proofs.NextLineLemmas.{first_found}
+
+-- a line that was found in bytes stands where these stand
+pub found_stands : (form : LineForm) (input : Input) (start len n s : ℕ) (front rest : List ℕ)
+    → drop start input.bytes ≡ front ++ rest → s ≡ start + len → len ≤ length front
+    → IsFirstByte (is_byte form.end) (drop len front) (Some n) → n ≤ form.limit
+    → StandsAt form input s (take n (drop len front)) (n + 1)
+found_stands form input start len n s front rest is here within (before, found) short =
+    let xs : List ℕ = drop len front in
+    let line : List ℕ = take n xs in
+    let split = first_found form.end n xs before found in
+    let there : drop s input.bytes ≡ xs ++ rest =
+    rw here (sym (drop-drop len start input.bytes) ∙ ap (drop len) is ∙ drop-append-le len front rest within) in
+    subst (λ (k : ℕ). StandsAt form input s line (k + 1)) split.2 (with_end line (record {
+      after = drop (suc n) xs ++ rest;
+      cut = there ∙ ap (λ t. t ++ rest) split.0 ∙ append_assoc line (form.end ∷ drop (suc n) xs) rest;
+      one = split.1;
+      within = omega (arith, split.2, short);
+    }))
+
+module _ (Told : List ℕ → Answer → Type 0) (asked : Bool) (Refusal : List ℕ → ℕ → List ℕ → Type 0) (form : LineForm)
+    (input : Input) where
+  pub goes_nowhere : (at : At) → GoesOn Told asked Refusal form input at at []
+  goes_nowhere at = record { lines = λ text l. rw append-nil l; refusals = λ told r. r }
+
+  pub goes_one_on : asked ≡ false → (old at : At) (added line : List ℕ) (n : ℕ) (said : Answer)
+      → GoesOn Told asked Refusal form input old at added → StandsAt form input at.place line n → Told line said
+      → GoesOn Told asked Refusal form input old (behind at n said) (added ++ answer_text said)
+  goes_one_on not old at added line n said goes stands says = record {
+    lines = λ text l. subst (λ t. Lines Told form input (behind at n said) t)
+        (append_assoc text added (answer_text said))
+        (one_more at (text ++ added) line n said (goes.lines text l) stands says);
+    refusals = λ told r. subst (λ t. Refusals Told asked Refusal form input (behind at n said) t) (append-nil told)
+        (one_told at told line n said [] (goes.refusals told r) stands says
+        (if_not_asked (is_told asked at.refused said) (Refusal line (at.count + 1)) (rw not refl)));
+  }
+
+  -- a batch of lines that was judged in bytes at the front of what is held
+  pub batch_goes : {flow : Flow} (before items front added : List ℕ) (at next : At) → length before ≡ at.place
+      → IsBeginning front items → Agrees (before ++ items) flow input →
+      ((input : Input) (rest : List ℕ) → drop at.place input.bytes ≡ front ++ rest
+      → GoesOn Told asked Refusal form input at next added) → GoesOn Told asked Refusal form input at next added
+  batch_goes before items front added at next here (rest, is) agrees goes =
+      goes input (rest ++ agrees.more) (rest_is before items here agrees ∙ ap (λ t. t ++ agrees.more) is
+      ∙ append_assoc front rest agrees.more)

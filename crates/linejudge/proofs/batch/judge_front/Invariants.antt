@@ -1,0 +1,20 @@
+-- The lines before `len` have been judged, and their answers are the text.
+use Rattle.std.proofs.Common.{◌≡◌, ◌+◌, ◌-◌, ◌≤◌, ◌++◌, length, drop, ℕ, List}
+use Rattle.toolrun.specs.Input.{Input}
+use Rattle.linejudge.specs.LineSteps.{GoesOn}
+use Rattle.linejudge.proofs.batch.judge_front.Given as goal
+
+abbrev pub invariant-loop-len : goal.invariant-loop-len
+invariant-loop-len g l = record {
+  work : g.J.Judge.works_in l.judge l.work;
+  place : l.next.place ≡ l.at.place + l.len;
+  within : l.len ≤ length l.front;
+  counted : l.next.count ≤ l.next.place;
+  refused : l.next.refused ≤ l.next.count;
+  goes_on : (input : Input) (rest : List ℕ) → drop l.at.place input.bytes ≡ l.front ++ rest →
+      GoesOn (g.J.Judge.told l.judge) (g.J.Judge.explains l.judge) (g.J.Judge.refusal l.judge) l.form input l.at
+      l.next l.text.items;
+}
+
+abbrev pub decreases-loop-len : goal.decreases-loop-len
+decreases-loop-len g l = length l.front - l.len

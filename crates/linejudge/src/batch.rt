@@ -1,0 +1,91 @@
+//! Lines that lie in one piece, judged together.
+ghost use Rattle.std.specs.Prelude.{◌≡◌, ◌≤◌, ◌+◌, ℕ, List, ◌++◌, codes, decimal, drop, length, OnOk};
+ghost use Rattle.feed.specs.Feed.{input_limit};
+ghost use Rattle.toolrun.specs.Input.{Input};
+ghost use Rattle.linejudge.specs.InputLines.{answer_text};
+ghost use Rattle.linejudge.specs.LineSteps.{GoesOn};
+
+use crate::answers::{Answer, Judge};
+use crate::line::LineForm;
+use crate::reached::{At, BATCH};
+use itoa::Buffer;
+use memchr::memchr;
+use ruletable::Memory;
+
+/// No line of an answer is longer: `no`, a blank, a number of 20 digits and LF.
+const MAX_ANSWER: usize = 24;
+
+/// Adds `no` and a number. `Memory` if an allocation fails.
+fn push_no(n: usize, text: &mut Vec<u8>) -> Result<(), Memory>
+    ensures { OnOk result (text.new.items ≡ text.old.items ++ (codes "no " ++ decimal n ++ codes "\n")) }
+{
+    let mut buffer = Buffer::new();
+    text.extend_from_slice(b"no ")?;
+    text.extend_from_slice(buffer.format(n).as_bytes())?;
+    text.extend_from_slice(b"\n")?;
+    Ok(())
+}
+
+/// Adds the line of an answer. `Memory` if an allocation fails.
+#[inline(always)]
+fn push_answer(said: Answer, text: &mut Vec<u8>) -> Result<(), Memory>
+    ensures { OnOk result (text.new.items ≡ text.old.items ++ answer_text said) }
+{
+    match said {
+        Answer::Yes => Ok(text.extend_from_slice(b"yes\n")?),
+        Answer::No => Ok(text.extend_from_slice(b"no\n")?),
+        Answer::NoAfter(n) => push_no(n, text),
+    }
+}
+
+/// Judges the whole lines at the front of some bytes in turn, from a position on, and returns the position after them.
+/// Their answers are put into `text`, in place of what that holds. It stops before a line that is too long or has no
+/// end there, where an allocation fails, and where the answers have some `BATCH` bytes. No line is judged if rejected
+/// lines are explained.
+pub(crate) fn judge_front<W, J: Judge<W>>(
+    judge: &J,
+    work: &mut W,
+    form: LineForm,
+    front: &[u8],
+    at: At,
+    text: &mut Vec<u8>,
+) -> At
+    requires served { form.limit ≤ J.served judge.now }
+    requires work { J.works_in judge.now work.old }
+    requires within { at.place + length front.now ≤ input_limit }
+    requires counted { at.count ≤ at.place }
+    requires refused { at.refused ≤ at.count }
+    ensures work { J.works_in judge.now work.new }
+    ensures ahead { at.place ≤ result.place }
+    ensures within { result.place ≤ at.place + length front.now }
+    ensures counted { result.count ≤ result.place }
+    ensures refused { result.refused ≤ result.count }
+    ensures goes_on { (input : Input) (rest : List ℕ) → drop at.place input.bytes ≡ front.now ++ rest →
+        GoesOn (J.told judge.now) (J.explains judge.now) (J.refusal judge.now) form input at result text.new.items }
+{
+    text.clear();
+    if judge.is_explained() {
+        return at;
+    }
+    let mut next = at;
+    let mut len = 0;
+    while text.len() <= BATCH - MAX_ANSWER {
+        let rest = &front[len..];
+        let Some(n) = memchr(form.end, rest) else {
+            return next;
+        };
+        if n > form.limit {
+            return next;
+        }
+        let Ok(said) = judge.judge(work, &rest[..n]) else {
+            return next;
+        };
+        let Ok(()) = push_answer(said, text) else {
+            text.clear();
+            return at;
+        };
+        next = next.behind(n + 1, said);
+        len += n + 1;
+    }
+    next
+}
