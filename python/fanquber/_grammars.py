@@ -38,7 +38,7 @@ def _lines(text: bytes) -> List[str]:
 def _raise_fault(reply: Reply, findings: Callable[[], List[Finding]]) -> None:
     """Raises what a status stands for that is no answer. The function returns the findings on the grammar."""
     if reply.status == Status.REFUSED:
-        raise GrammarError(_lines(reply.err), findings())
+        raise GrammarError([it for it in _lines(reply.err) if not it.startswith("  ")], findings())
     if reply.status == Status.OVERLONG:
         raise Overlong(_lines(reply.err)[-1], reply.out)
     if reply.status >= Status.FAULT:
@@ -48,6 +48,29 @@ def _raise_fault(reply: Reply, findings: Callable[[], List[Finding]]) -> None:
 def _contents(path: Path) -> bytes:
     with open(path, "rb") as file:
         return file.read()
+
+
+def check(
+    kind: str, text: Text, rule: Optional[str] = None, *, letters: Letters = Letters.BYTES, file: str = ""
+) -> List[Finding]:
+    """Returns the findings on a grammar of a kind, `abnf` or `peg`, whether it is rejected or not. `file` is its name in
+    them. `OutOfMemory` if an allocation fails."""
+    if kind == "peg":
+        reply, judged = peg(text, mode=Mode.CHECK, start=rule, explain=True), ""
+    else:
+        reply = abnf(text, mode=Mode.CHECK, rule=rule, letters=letters, explain=True)
+        judged = first_rule("abnf", as_bytes(text)) if rule is None else rule
+    if reply.status >= Status.FAULT:
+        raise OutOfMemory("out of memory")
+    return read_findings(reply.err, file, judged)
+
+
+def canonical_text(kind: str, text: Text, file: str = "") -> bytes:
+    """Returns the canonical text of a grammar of a kind. It may have names without a rule. `GrammarError` if it cannot be
+    read or defines a rule twice, `OutOfMemory` if an allocation fails."""
+    reply = peg(text, mode=Mode.PRINT) if kind == "peg" else abnf(text, mode=Mode.PRINT)
+    _raise_fault(reply, lambda: check(kind, text, file=file))
+    return reply.out
 
 
 class _PerThread:
@@ -126,9 +149,7 @@ class Abnf(_PerThread):
         return cls(_contents(path), rule, letters=letters, limit=limit, file=os.fspath(path))
 
     def _explained(self) -> List[Finding]:
-        judged = first_rule("abnf", self._text) if self._rule is None else self._rule
-        reply = abnf(self._text, mode=Mode.CHECK, rule=self._rule, letters=self._letters, explain=True)
-        return read_findings(reply.err, self._file, judged)
+        return check("abnf", self._text, self._rule, letters=self._letters, file=self._file)
 
     @functools.cached_property
     def findings(self) -> List[Finding]:
@@ -198,9 +219,7 @@ class Abnf(_PerThread):
 
     def canonical(self) -> bytes:
         """Returns the text of the grammar in its canonical form."""
-        reply = abnf(self._text, mode=Mode.PRINT)
-        _raise_fault(reply, self._explained)
-        return reply.out
+        return canonical_text("abnf", self._text, self._file)
 
 
 class PegRun(NamedTuple):
@@ -249,7 +268,7 @@ class Peg(_PerThread):
         return cls(_contents(path), start, raw=raw, limit=limit, file=os.fspath(path))
 
     def _explained(self) -> List[Finding]:
-        return read_findings(peg(self._text, mode=Mode.CHECK, start=self._start, explain=True).err, self._file)
+        return check("peg", self._text, self._start, file=self._file)
 
     @functools.cached_property
     def findings(self) -> List[Finding]:
@@ -280,6 +299,4 @@ class Peg(_PerThread):
 
     def canonical(self) -> bytes:
         """Returns the text of the grammar in its canonical form."""
-        reply = peg(self._text, mode=Mode.PRINT)
-        _raise_fault(reply, self._explained)
-        return reply.out
+        return canonical_text("peg", self._text, self._file)
