@@ -36,8 +36,8 @@ def kind_of(path: str) -> str:
 
 
 def _draw(grammar: pathlib.Path, to: Optional[pathlib.Path]) -> int:
-    """Writes the page of a grammar's diagrams. The status is 2 if the grammar is rejected, and 4 if a file cannot be read
-    or written."""
+    """Writes the page of a grammar's diagrams. The status is 2 if the grammar is rejected, and 4 if a file cannot be
+    read or written."""
     diagrams, kind = _needed("diagrams"), kind_of(grammar.name)
     try:
         canonical = canonical_text(kind, grammar.read_bytes(), str(grammar))
@@ -57,7 +57,9 @@ def _draw(grammar: pathlib.Path, to: Optional[pathlib.Path]) -> int:
 
 def main(words: Optional[List[str]] = None) -> int:
     """Runs the command with these words, those of the command line if None, and returns its status."""
-    parser = argparse.ArgumentParser(prog="fanquber", description="Pictures, a playground and an editor's server for grammars.")
+    parser = argparse.ArgumentParser(
+        prog="fanquber", description="Pictures, a playground and an editor's server for grammars."
+    )
     commands = parser.add_subparsers(dest="command", required=True)
     draw = commands.add_parser("diagrams", help="draws the rules of a grammar on a page of HTML")
     draw.add_argument("grammar", type=pathlib.Path, help="*.peg is of peg(1), all else ABNF")

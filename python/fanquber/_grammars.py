@@ -53,8 +53,8 @@ def _contents(path: Path) -> bytes:
 def check(
     kind: str, text: Text, rule: Optional[str] = None, *, letters: Letters = Letters.BYTES, file: str = ""
 ) -> List[Finding]:
-    """Returns the findings on a grammar of a kind, `abnf` or `peg`, whether it is rejected or not. `file` is its name in
-    them. `OutOfMemory` if an allocation fails."""
+    """Returns the findings on a grammar of a kind, `abnf` or `peg`, whether it is rejected or not. `file` is its name
+    in them. `OutOfMemory` if an allocation fails."""
     if kind == "peg":
         reply, judged = peg(text, mode=Mode.CHECK, start=rule, explain=True), ""
     else:
@@ -66,8 +66,8 @@ def check(
 
 
 def canonical_text(kind: str, text: Text, file: str = "") -> bytes:
-    """Returns the canonical text of a grammar of a kind. It may have names without a rule. `GrammarError` if it cannot be
-    read or defines a rule twice, `OutOfMemory` if an allocation fails."""
+    """Returns the canonical text of a grammar of a kind. It may have names without a rule. `GrammarError` if it cannot
+    be read or defines a rule twice, `OutOfMemory` if an allocation fails."""
     reply = peg(text, mode=Mode.PRINT) if kind == "peg" else abnf(text, mode=Mode.PRINT)
     _raise_fault(reply, lambda: check(kind, text, file=file))
     return reply.out
@@ -118,11 +118,13 @@ class _PerThread:
 class Abnf(_PerThread):
     """A grammar in ABNF (RFC 5234, RFC 7405), with the rule that judges lines: the first, if none is named.
 
-    A line is bytes, or a `str`, which stands for its bytes in UTF-8. Its letters are its bytes, or its code points with
-    `Letters.UTF8`. It may hold any byte, and has at most `limit` bytes. `GrammarError` if the grammar is rejected,
-    `OutOfMemory` if an allocation fails; each call that judges lines raises `Overlong` for a line above the limit.
+    A line is bytes, or a `str`, which stands for its bytes in UTF-8. Its letters are its bytes, or its code points
+    with `Letters.UTF8`. It may hold any byte, and has at most `limit` bytes. `GrammarError` if the grammar is
+    rejected, `OutOfMemory` if an allocation fails; each call that judges lines raises `Overlong` for a line above the
+    limit.
 
-    Each thread reads the grammar once, and again for `viable` and `refusal`. `file` is the name of the grammar in findings.
+    Each thread reads the grammar once, and again for `viable` and `refusal`. `file` is the name of the grammar in
+    findings.
     """
 
     def __init__(
@@ -144,8 +146,8 @@ class Abnf(_PerThread):
     def from_file(
         cls, path: Path, rule: Optional[str] = None, *, letters: Letters = Letters.BYTES, limit: int = DEFAULT_LIMIT
     ) -> "Abnf":
-        """Returns the grammar of a file, whose name its findings bear. `OSError` if the file cannot be read; else raises
-        what `Abnf` raises."""
+        """Returns the grammar of a file, whose name its findings bear. `OSError` if the file cannot be read; else
+        raises what `Abnf` raises."""
         return cls(_contents(path), rule, letters=letters, limit=limit, file=os.fspath(path))
 
     def _explained(self) -> List[Finding]:
@@ -158,8 +160,8 @@ class Abnf(_PerThread):
 
     @functools.cached_property
     def rules(self) -> Dict[str, Tree]:
-        """The rules as trees (`fanquber.trees`), by name and in order; core rules only if the grammar has them. Names are
-        spelled as where they are defined first."""
+        """The rules as trees (`fanquber.trees`), by name and in order; core rules only if the grammar has them. Names
+        are spelled as where they are defined first."""
         return read_rules("abnf", self.canonical())
 
     def _judge(self, viable: bool = False) -> AbnfJudge:
@@ -211,7 +213,12 @@ class Abnf(_PerThread):
         if nul and b"\0" in data:
             return Refusal(at, (), False, "")
         reply = abnf(
-            self._text, data + (b"\0" if nul else b"\n"), limit=self._limit, rule=self._rule, letters=self._letters, nul=nul,
+            self._text,
+            data + (b"\0" if nul else b"\n"),
+            limit=self._limit,
+            rule=self._rule,
+            letters=self._letters,
+            nul=nul,
             explain=True,
         )
         _raise_fault(reply, self._explained)
@@ -240,8 +247,8 @@ def _peg_run(reply: Reply) -> PegRun:
 class Peg(_PerThread):
     """A grammar in the syntax of peg(1), with its start rule: the first, if none is named.
 
-    A unit of an input looks at no more than `limit` bytes. `GrammarError` if the grammar is rejected, `OutOfMemory` if an
-    allocation fails. Each thread reads the grammar once. `file` is the name of the grammar in findings.
+    A unit of an input looks at no more than `limit` bytes. `GrammarError` if the grammar is rejected, `OutOfMemory` if
+    an allocation fails. Each thread reads the grammar once. `file` is the name of the grammar in findings.
     """
 
     def __init__(
@@ -263,8 +270,8 @@ class Peg(_PerThread):
     def from_file(
         cls, path: Path, start: Optional[str] = None, *, raw: bool = False, limit: int = DEFAULT_LIMIT
     ) -> "Peg":
-        """Returns the grammar of a file, whose name its findings bear. `OSError` if the file cannot be read; else raises
-        what `Peg` raises."""
+        """Returns the grammar of a file, whose name its findings bear. `OSError` if the file cannot be read; else
+        raises what `Peg` raises."""
         return cls(_contents(path), start, raw=raw, limit=limit, file=os.fspath(path))
 
     def _explained(self) -> List[Finding]:

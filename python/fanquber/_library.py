@@ -106,8 +106,8 @@ class _Answer(ctypes.Structure):
 
 
 def library_path() -> str:
-    """Returns the shared object: the file that FANQUBER_LIBRARY names, or else the one in the package's folder, where a
-    wheel has it, or else the name by which the system finds it."""
+    """Returns the shared object: the file that FANQUBER_LIBRARY names, or else the one in the package's folder, where
+    a wheel has it, or else the name by which the system finds it."""
     beside = os.path.join(os.path.dirname(os.path.abspath(__file__)), _SONAME)
     return os.environ.get("FANQUBER_LIBRARY") or (beside if os.path.isfile(beside) else _SONAME)
 
@@ -270,8 +270,8 @@ class _Opened:
         """What a run that checks the grammar writes."""
 
     def close(self) -> None:
-        """Frees what the grammar holds. On another thread than its own it leaves that to this thread, which does it when
-        it opens the next grammar."""
+        """Frees what the grammar holds. On another thread than its own it leaves that to this thread, which does it
+        when it opens the next grammar."""
         place = self.__dict__.pop("_place", None)
         if place is None:
             return  # closed, or the settings were rejected

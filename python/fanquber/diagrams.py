@@ -63,8 +63,8 @@ class Drawer:
         return rr.Stack(*drawn) if len(drawn) > 1 else drawn[0]
 
     def joined(self, parts: List[Tree]) -> List[Any]:
-        """Draws `e *(s e)` as one loop through s, as lists are read. The way back is read from right to left, so one part
-        alone may stand there."""
+        """Draws `e *(s e)` as one loop through s, as lists are read. The way back is read from right to left, so one
+        part alone may stand there."""
         items: List[Any] = []
         for at, it in enumerate(parts):
             loop = self.loop_of(it)
@@ -151,8 +151,8 @@ class Drawer:
 
 
 def svgs(kind: str, rules: Dict[str, Tree]) -> Dict[str, str]:
-    """Returns the diagram of each rule by name: an element `svg` without a style of its own. A rule that is too deep for
-    Python has a box that says so."""
+    """Returns the diagram of each rule by name: an element `svg` without a style of its own. A rule that is too deep
+    for Python has a box that says so."""
     drawer, drawn = Drawer(kind, rules), {}
     for name, body in rules.items():
         try:
@@ -169,8 +169,8 @@ def _svg(kind: str, item: Any) -> str:
 
 
 def page(kind: str, title: str, canonical: bytes, rules: Dict[str, Tree]) -> str:
-    """Returns a page of HTML with a section for each rule: its diagram, its canonical text if it has a line of its own,
-    and the rules that use it. The page needs no script and no other file."""
+    """Returns a page of HTML with a section for each rule: its diagram, its canonical text if it has a line of its
+    own, and the rules that use it. The page needs no script and no other file."""
     users: Dict[str, List[str]] = {}
     for user, body in rules.items():
         for name in dict.fromkeys(key_of(kind, it) for it in names_in(body)):
@@ -182,9 +182,8 @@ def page(kind: str, title: str, canonical: bytes, rules: Dict[str, Tree]) -> str
         by = ", ".join(links[it] for it in users.get(key_of(kind, name), []))
         shown = f"<pre>{html.escape(lines[name])}</pre>" if name in lines else ""
         used = f"<p>used by {by}</p>" if by else ""
-        sections.append(
-            f'<section id="rule-{at}"><h2>{html.escape(name)}</h2><div tabindex="0">{drawn}</div>{shown}{used}</section>'
-        )
+        head = f'<section id="rule-{at}"><h2>{html.escape(name)}</h2>'
+        sections.append(f'{head}<div tabindex="0">{drawn}</div>{shown}{used}</section>')
     return (
         f'<!DOCTYPE html>\n<html lang="en"><meta charset="utf-8"><meta name="viewport" content="width=device-width">'
         f"<title>{html.escape(title)}</title>\n<style>{_STYLE}</style>\n<h1>{html.escape(title)}</h1>\n"

@@ -81,8 +81,8 @@ class Finding(NamedTuple):
 
 
 def read_findings(err: bytes, file: str = "", judged: str = "") -> List[Finding]:
-    """Returns the findings that an error output written under `-x` has. `judged` is the judged rule of a grammar in ABNF:
-    prose in it rejects the grammar. Pass an empty one for a grammar of peg(1), where each name needs a rule."""
+    """Returns the findings that an error output written under `-x` has. `judged` is the judged rule of a grammar in
+    ABNF: prose in it rejects the grammar. Pass an empty one for a grammar of peg(1), where each name needs a rule."""
     return [_finding(group, file, judged) for group in _groups(err.decode("latin-1"))]
 
 

@@ -14,8 +14,8 @@ class Refusal(NamedTuple):
     at: int
     """How many letters the longest viable prefix has. The letter after it cannot stand there."""
     expected: Tuple[str, ...]
-    """All letters that can stand after that prefix, as ABNF writes letters and ranges; empty if none can, and for a line
-    that holds both a line feed and a NUL byte, of which the whole run of a program can say nothing."""
+    """All letters that can stand after that prefix, as ABNF writes letters and ranges; empty if none can, and for a
+    line that holds both a line feed and a NUL byte, of which the whole run of a program can say nothing."""
     can_end: bool
     """Whether the line can end after that prefix."""
     picture: str
@@ -37,6 +37,6 @@ def read_refusal(at: int, err: bytes) -> Refusal:
     listed = said[1] if said else ""
     can_end = _END.search(listed) is not None
     expected = tuple(it.strip() for it in _PART.findall(_END.sub("", listed)))
-    shown = [it[2:] for it in lines[first + 1:first + 3]]
+    shown = [it[2:] for it in lines[first + 1 : first + 3]]
     picture = "\n".join(shown) if len(shown) == 2 and shown[1].strip() == "^" else ""
     return Refusal(at, expected, can_end, picture)

@@ -13,8 +13,8 @@
     def test_agrees_with_the_standard(line):
         assert my_parser_takes(line) == URI.grammar.derives(line), URI.grammar.refusal(line)
 
-Lines are made along the rules' trees. The grammar judges each before a test sees it, so a line of a wrong strategy fails the
-test. It needs Hypothesis: `pip install fanquber[testing]`, or python3-hypothesis of Debian.
+Lines are made along the rules' trees. The grammar judges each before a test sees it, so a line of a wrong strategy
+fails the test. It needs Hypothesis: `pip install fanquber[testing]`, or python3-hypothesis of Debian.
 """
 from typing import Any, Callable, Dict, Optional
 
@@ -52,8 +52,8 @@ _PUT = (b"\n", b"\r\n", b" ", b"\t", b"\0", b"\x7f", "\u00e9".encode(), b"0", b"
 
 
 class Lines:
-    """The lines of a rule of a grammar in ABNF: the first rule, if none is named. A line is bytes; its letters are bytes,
-    or code points with `Letters.UTF8`. Raises what `Abnf` raises.
+    """The lines of a rule of a grammar in ABNF: the first rule, if none is named. A line is bytes; its letters are
+    bytes, or code points with `Letters.UTF8`. Raises what `Abnf` raises.
 
     `grammar` is the `Abnf` that judges them. No line is longer than its limit.
     """
@@ -155,4 +155,4 @@ class Lines:
 def _changed(line: bytes, at: int, gone: int, put: bytes) -> bytes:
     """Returns a line with `gone` bytes left out and `put` in their place, at a byte, or at the end for -1."""
     at = at % (len(line) + 1)
-    return line[:at] + put + line[at + gone:]
+    return line[:at] + put + line[at + gone :]

@@ -17,8 +17,8 @@ A tree is a tuple: a word, and then its parts. Trees compare, hash and match as 
 | `("bytes", t)`, `("set", t)`, `("any",)` | peg(1) | a literal, one byte of a class, any byte |
 | `("act", t)`, `("open",)`, `("close",)` | peg(1) | an action with its template; the ends of a capture |
 
-Literals and classes are spelled as the canonical text spells them, without quotes and brackets. Each byte of a template is one
-character of the `str`.
+Literals and classes are spelled as the canonical text spells them, without quotes and brackets. Each byte of a
+template is one character of the `str`.
 """
 import json
 import pathlib

@@ -1,9 +1,9 @@
 """A page on this machine that shows what a grammar means while it is typed.
 
-The server answers on 127.0.0.1 alone, and only the page that it gave out itself: each question bears a secret that stands in
-the address which is printed. A question is a grammar and an input; it names no file, and none is read or written for it. A
-process of its own answers each, within limits. HTTP is that of waitress and Flask, the editor CodeMirror 5, which
-FANQUBER_CODEMIRROR names the folder of where it is not that of Debian.
+The server answers on 127.0.0.1 alone, and only the page that it gave out itself: each question bears a secret that
+stands in the address which is printed. A question is a grammar and an input; it names no file, and none is read or
+written for it. A process of its own answers each, within limits. HTTP is that of waitress and Flask, the editor
+CodeMirror 5, which FANQUBER_CODEMIRROR names the folder of where it is not that of Debian.
 """
 import hmac
 import json
@@ -69,18 +69,33 @@ class Limits(NamedTuple):
 
 
 def answer(asked: Dict[str, str], limits: Limits = Limits()) -> Dict[str, Any]:
-    """Returns all that the page shows of a grammar and an input. `broken_by` says what ended the run early: nothing, `time`,
-    `output` or `a signal`."""
+    """Returns all that the page shows of a grammar and an input. `broken_by` says what ended the run early: nothing,
+    `time`, `output` or `a signal`."""
     began = time.monotonic()
-    told: Dict[str, Any] = {"rules": [], "canonical": "", "diagrams": [], "findings": [], "stops": [], "out": "", "status": None}
-    start = {"folder": str(_HERE.parents[1]), "library": library_path(), "memory": limits.memory,
-             "seconds": limits.processor, "output": limits.output}
+    told: Dict[str, Any] = {
+        "rules": [],
+        "canonical": "",
+        "diagrams": [],
+        "findings": [],
+        "stops": [],
+        "out": "",
+        "status": None,
+    }
+    start = {
+        "folder": str(_HERE.parents[1]),
+        "library": library_path(),
+        "memory": limits.memory,
+        "seconds": limits.processor,
+        "output": limits.output,
+    }
     with tempfile.TemporaryFile() as given, tempfile.TemporaryFile() as out:
         given.write(b"".join(json.dumps(it).encode() + b"\n" for it in (start, asked)))
         given.seek(0)
         words = [sys.executable, "-I", "-B", str(_HERE / "worker.py")]
-        process = subprocess.Popen(words, stdin=given, stdout=out, stderr=subprocess.DEVNULL, env={}, cwd="/",
-                                   start_new_session=True)
+        nothing: Dict[str, str] = {}
+        process = subprocess.Popen(
+            words, stdin=given, stdout=out, stderr=subprocess.DEVNULL, env=nothing, cwd="/", start_new_session=True
+        )
         broken_by = ""
         try:
             status = process.wait(limits.clock)
@@ -106,7 +121,11 @@ def script(asked: Dict[str, str]) -> str:
     """Returns a script for a shell that makes the same files and the same run by `abnfi` or `pegi`."""
     words = ["pegi" if asked["kind"] == "peg" else "abnfi", "-x"]
     if asked["kind"] == "abnf":
-        words += ["-w", *(["-u", "utf8"] if asked["letters"] == "utf8" else []), *(["-z"] if asked["cut"] == "whole" else [])]
+        words += [
+            "-w",
+            *(["-u", "utf8"] if asked["letters"] == "utf8" else []),
+            *(["-z"] if asked["cut"] == "whole" else []),
+        ]
     words += ["-s=" + asked["rule"]] if asked["rule"] else []
     lines = {it for part in ("grammar", "input") for it in asked[part].split("\n")}
     end = next(it for it in ("END", *(f"END{at}" for at in range(len(lines) + 1))) if it not in lines)
@@ -117,7 +136,8 @@ def script(asked: Dict[str, str]) -> str:
 
 
 def _file(name: str, text: str, change: str, end: str) -> str:
-    """Returns the lines of a script that make a file. A text after << ends with a line feed, so one more may be cut."""
+    """Returns the lines of a script that make a file. A text after << ends with a line feed, so one more may be
+    cut."""
     whole = text.endswith("\n")
     cut = "" if whole else f" | head -c -{2 if change else 1}"
     last = "" if whole else "\n"
@@ -183,7 +203,7 @@ def page_app(port: int, secret: str) -> flask.Flask:
 
     @app.post("/answer")
     def answered() -> flask.Response:
-        asked = flask.request.get_json()
+        asked: Any = flask.request.get_json()
         if not is_question(asked):
             flask.abort(400)
         if not turns.acquire(timeout=10):
@@ -197,8 +217,8 @@ def page_app(port: int, secret: str) -> flask.Flask:
 
 
 def serve(port: int, browser: bool) -> int:
-    """Serves the page at a port of 127.0.0.1, a free one for 0, until it is interrupted; opens it in a browser if asked to.
-    Prints its address. The status is 1 where CodeMirror is missing or the port is taken."""
+    """Serves the page at a port of 127.0.0.1, a free one for 0, until it is interrupted; opens it in a browser if
+    asked to. Prints its address. The status is 1 where CodeMirror is missing or the port is taken."""
     if not (_EDITOR / "lib/codemirror.js").is_file():
         print("fanquber: playground needs CodeMirror 5 (Debian: libjs-codemirror)", file=sys.stderr)
         return 1
@@ -206,8 +226,14 @@ def serve(port: int, browser: bool) -> int:
     late: List[flask.Flask] = []
     try:
         server = waitress.create_server(
-            lambda environ, begin: late[0](environ, begin), host="127.0.0.1", port=port, threads=4,
-            max_request_body_size=MOST, channel_timeout=30, connection_limit=50, ident=None,
+            lambda environ, begin: late[0](environ, begin),
+            host="127.0.0.1",
+            port=port,
+            threads=4,
+            max_request_body_size=MOST,
+            channel_timeout=30,
+            connection_limit=50,
+            ident=None,
         )
     except OSError as fault:
         print(f"fanquber: port {port}: {fault.strerror}", file=sys.stderr)

@@ -1,8 +1,8 @@
 """Answers one question of the playground: a process of its own, within limits of time and memory.
 
-It reads the question from standard input as JSON and writes its answer on standard output in parts, a line of JSON each, so
-that what was found before a limit ends it stands. The first line of its input is the folder of the package and the path of
-the shared object. It bounds itself before it loads the library.
+It reads the question from standard input as JSON and writes its answer on standard output in parts, a line of JSON
+each, so that what was found before a limit ends it stands. The first line of its input is the folder of the package
+and the path of the shared object. It bounds itself before it loads the library.
 """
 import json
 import resource
@@ -14,8 +14,8 @@ MOST_RULES = 400  # that are drawn
 
 
 def bound(memory: int, seconds: int) -> None:
-    """Sets the limits of this process: its address space in bytes, and its processor time in seconds. The hard limit of
-    time is a second above, so that the kernel says why it ends the process."""
+    """Sets the limits of this process: its address space in bytes, and its processor time in seconds. The hard limit
+    of time is a second above, so that the kernel says why it ends the process."""
     resource.setrlimit(resource.RLIMIT_AS, (memory, memory))
     resource.setrlimit(resource.RLIMIT_CPU, (seconds, seconds + 1))
     resource.setrlimit(resource.RLIMIT_FSIZE, (32 * MEGABYTE, 32 * MEGABYTE))
