@@ -185,3 +185,67 @@ def test_another_origin_gets_nothing(server, browser, tmp_path):
     assert told == {"cors": "refused", "plain": "refused", "opaque": "refused", "script": "refused", "frame": "closed"}
 
 
+
+
+def focused(browser):
+    """Returns what has the focus: its id, or that of the editor or the pane that holds it."""
+    return browser.execute_script(
+        "const it = document.activeElement; return it.id || (it.closest('#grammar, #input, #notes, #diagrams') || {}).id || ''"
+    )
+
+
+def test_the_keyboard_alone_is_enough(page):
+    seen = []
+    for _ in range(14):
+        page.switch_to.active_element.send_keys(Keys.TAB)
+        seen.append(focused(page))
+    wanted = ["kind", "rule", "letters", "cut", "ends", "example", "grammar", "input", "tab-diagrams", "diagrams"]
+    assert [it for it in seen if it in wanted][:10] == wanted
+    # Into the grammar again, and a rule more
+    page.execute_script("document.querySelector('#grammar .CodeMirror').CodeMirror.focus()")
+    page.switch_to.active_element.send_keys(Keys.CONTROL, Keys.END)
+    page.switch_to.active_element.send_keys("more = none" + Keys.ENTER)
+    wait(page, lambda: "rule 'none' used but not defined" in text(page, "#notes"))
+    page.switch_to.active_element.send_keys(Keys.TAB)
+    assert focused(page) == "notes"
+    page.switch_to.active_element.send_keys(Keys.ENTER)
+    assert focused(page) == "grammar"
+    # Tabs by the arrow keys
+    page.execute_script("document.getElementById('tab-diagrams').focus()")
+    for name, pane in (("tab-out", "out"), ("tab-canonical", "canonical"), ("tab-command", "command")):
+        page.switch_to.active_element.send_keys(Keys.ARROW_RIGHT)
+        assert focused(page) == name
+        assert page.find_element(By.ID, pane).is_displayed()
+    assert not page.find_element(By.ID, "diagrams").is_displayed()
+
+
+def colour(browser, selector, name):
+    """Returns the brightness of a colour, from 0 to 255."""
+    told = browser.execute_script(f"return getComputedStyle(document.querySelector({selector!r})).{name}")
+    numbers = [int(it) for it in told.partition("(")[2].rstrip(")").split(",")[:3]]
+    return sum(numbers) / 3
+
+
+@pytest.mark.parametrize("scheme", ["light", "dark"])
+def test_light_and_dark(page, scheme):
+    media = {"features": [{"name": "prefers-color-scheme", "value": scheme}]}
+    page.execute_cdp_cmd("Emulation.setEmulatedMedia", media)
+    for selector in ("body", "header", ".CodeMirror", ".CodeMirror-gutters", ".line-yes", ".line-no", "select"):
+        shown = colour(page, selector, "backgroundColor")
+        assert shown > 200 if scheme == "light" else shown < 90, selector
+        ink = colour(page, selector, "color")
+        assert abs(ink - shown) > 100, selector
+    shot(page, scheme)
+    page.execute_cdp_cmd("Emulation.setEmulatedMedia", {"features": []})
+
+
+def test_at_400_pixels(page):
+    size = {"width": 400, "height": 900, "deviceScaleFactor": 1, "mobile": False}
+    page.execute_cdp_cmd("Emulation.setDeviceMetricsOverride", size)
+    wide = "return Math.max(document.documentElement.scrollWidth, document.body.scrollWidth)"
+    assert page.execute_script(wide) <= 400
+    for selector in ("#kind", "#example", "#grammar", "#input", "#tab-reference", "#diagrams"):
+        box = page.find_element(By.CSS_SELECTOR, selector).rect
+        assert box["x"] >= 0 and box["x"] + box["width"] <= 400 and box["height"] > 15, selector
+    shot(page, "small")
+    page.execute_cdp_cmd("Emulation.clearDeviceMetricsOverride", {})
