@@ -69,7 +69,9 @@ def test_random_grammars(seed):
     same(f's = {random_body(dice, 3)}\nx = "a" / "b" "b"\n'.encode(), "s", SHORT)
 
 
-@pytest.mark.parametrize("path", sorted(EXAMPLES.glob("*/*.*g")) + sorted(EXAMPLES.glob("*/*.abnf")), ids=lambda it: it.name)
+@pytest.mark.parametrize(
+    "path", sorted(EXAMPLES.glob("*/*.*g")) + sorted(EXAMPLES.glob("*/*.abnf")), ids=lambda it: it.name
+)
 def test_pages_and_names(path):
     kind, text = path.suffix[1:], path.read_bytes()
     canonical = canonical_text(kind, text)
@@ -100,7 +102,9 @@ def test_deep_rules(brackets):
 
 def test_command(tmp_path):
     def run(*words):
-        found = subprocess.run([sys.executable, "-m", "fanquber", "diagrams", *words], cwd=tmp_path, capture_output=True)
+        found = subprocess.run(
+            [sys.executable, "-m", "fanquber", "diagrams", *words], cwd=tmp_path, capture_output=True
+        )
         return found.returncode, found.stdout.decode(), found.stderr.decode()
 
     (tmp_path / "host.abnf").write_text('uri = "//" [ path ]\n')

@@ -17,10 +17,19 @@ HOST = 'uri  = "//" Host [ path ]\nHost = 1*( ALPHA / "." ) <a name>\nport =/ 1*
 def test_trees_of_abnf():
     text = 'a = 4DIGIT "-" *2B / [ %x41.42 ] / %s"Z"\nB = %d48-57 / *%b1 / ""\nb =/ 1*<by \\ "hand">\nc = *0a'
     assert read_rules("abnf", canonical_text("abnf", text)) == {
-        "a": ("or", ("cat", ("rep", 4, 4, ("name", "DIGIT")), ("text", "-"), ("rep", 0, 2, ("name", "B"))),
-              ("opt", ("values", 0x41, 0x42)), ("exact", "Z")),
-        "B": ("or", ("range", 48, 57), ("rep", 0, None, ("values", 1)), ("text", ""),
-              ("rep", 1, None, ("prose", 'by \\ "hand"'))),
+        "a": (
+            "or",
+            ("cat", ("rep", 4, 4, ("name", "DIGIT")), ("text", "-"), ("rep", 0, 2, ("name", "B"))),
+            ("opt", ("values", 0x41, 0x42)),
+            ("exact", "Z"),
+        ),
+        "B": (
+            "or",
+            ("range", 48, 57),
+            ("rep", 0, None, ("values", 1)),
+            ("text", ""),
+            ("rep", 1, None, ("prose", 'by \\ "hand"')),
+        ),
         "c": ("rep", 0, 0, ("name", "a")),
     }
 
@@ -29,8 +38,13 @@ def test_trees_of_peg():
     text = "S <- A { x\\n 'y' \"z\" {b} }\nA <- 'a\\n\"' / [^a-z\\]] / !. &. < ('x' )+ > /\nB <- A?\nC <- B 'c'*\n"
     assert Peg(text).rules == {
         "S": ("cat", ("name", "A"), ("act", " x\\n 'y' \"z\" {b} ")),
-        "A": ("or", ("bytes", 'a\\n\\"'), ("set", "^\\]a-z"),
-              ("cat", ("not", ("any",)), ("and", ("any",)), ("open",), ("plus", ("bytes", "x")), ("close",)), ("cat",)),
+        "A": (
+            "or",
+            ("bytes", 'a\\n\\"'),
+            ("set", "^\\]a-z"),
+            ("cat", ("not", ("any",)), ("and", ("any",)), ("open",), ("plus", ("bytes", "x")), ("close",)),
+            ("cat",),
+        ),
         "B": ("opt", ("name", "A")),
         "C": ("cat", ("name", "B"), ("star", ("bytes", "c"))),
     }
@@ -65,14 +79,17 @@ def test_findings_on_a_fault():
     with pytest.raises(GrammarError) as refused:
         Abnf('time = 2DIGIT ":" ( 2DIGIT\n/ "xx" )\n')
     (found,) = refused.value.findings
-    assert found[:6] == (
-        "", 2, 1, "error", "syntax", 'syntax error: expected white space and an element, "/" or ")"'
-    )
+    assert found[:6] == ("", 2, 1, "error", "syntax", 'syntax error: expected white space and an element, "/" or ")"')
 
 
 @pytest.mark.parametrize(
     "text, severity",
-    [("a = b\nb = <x>", "error"), ("a = <x>", "error"), ('a = "x"\nb = <x>\n', "warning"), ('a = "x"\nb = c\n', "warning")],
+    [
+        ("a = b\nb = <x>", "error"),
+        ("a = <x>", "error"),
+        ('a = "x"\nb = <x>\n', "warning"),
+        ('a = "x"\nb = c\n', "warning"),
+    ],
 )
 def test_severities(text, severity):
     try:
@@ -86,7 +103,9 @@ def test_findings_of_peg():
     with pytest.raises(GrammarError) as refused:
         Peg("S <- A 'x'\nA <- S / 'y' b\n")
     assert [(it.line, it.severity, it.code, it.rule) for it in refused.value.findings] == [
-        (2, "error", "undefined", "b"), (1, "error", "left-recursion", "S"), (2, "error", "left-recursion", "A"),
+        (2, "error", "undefined", "b"),
+        (1, "error", "left-recursion", "S"),
+        (2, "error", "left-recursion", "A"),
     ]
     assert [it.code for it in Peg("S <- 'a' / 'ab'\nT <- 'x'\n").findings] == ["unused", "never-taken"]
 
@@ -106,8 +125,9 @@ def test_findings_on_an_input():
         ("", 1, 3, "error", "refused", 'expected "-"', "input"),
         ("", 3, None, "error", "refused", "expected %x30-39", "input"),
     ]
-    err = b"no match at byte 10\n  byte 12, line 2, column 8, in the unit at byte 10\n  z=;\n    ^\n  expected [0-9] in N\n"
-    assert read_findings(err)[0][1:6] == (2, 8, "error", "no-match", "no match at byte 10: expected [0-9] in N")
+    err = b"no match at byte 10\n  byte 12, line 2, column 8, in the unit at byte 10\n  z=;\n    ^\n"
+    (found,) = read_findings(err + b"  expected [0-9] in N\n")
+    assert found[1:6] == (2, 8, "error", "no-match", "no match at byte 10: expected [0-9] in N")
 
 
 def test_unknown_messages_are_kept():
@@ -189,7 +209,11 @@ def test_every_message_of_the_rows_is_read():
     if not rows.is_dir():
         pytest.skip("no rows of the gate here")
     for path in rows.glob("explained*.txt"):
-        lines = [it[10:].replace("\\x20", " ") for it in path.read_text().splitlines() if it.startswith("  err ") and "\\{" not in it]
+        lines = [
+            it[10:].replace("\\x20", " ")
+            for it in path.read_text().splitlines()
+            if it.startswith("  err ") and "\\{" not in it
+        ]
         found = read_findings("\n".join(lines).encode())
         assert found and all(isinstance(it, Finding) for it in found)
         assert {it.message for it in found if it.code == "other"} == set(), path.name

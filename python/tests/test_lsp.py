@@ -1,5 +1,6 @@
 """The server for editors: by its protocol, and in neovim."""
 import os
+import pathlib
 import queue
 import shutil
 import subprocess
@@ -12,8 +13,12 @@ pytest.importorskip("pylsp_jsonrpc", reason="needs python3-pylsp-jsonrpc")
 
 from pylsp_jsonrpc.streams import JsonRpcStreamReader, JsonRpcStreamWriter
 
+CONFIGURATION = pathlib.Path(__file__).resolve().parents[2] / "editors/neovim.lua"
 SERVER = [sys.executable, "-m", "fanquber", "lsp"]
-HOST = 'uri  = "//" Host [ path ]\nHost = 1*( ALPHA / "." ) <a name>\nport =/ 1*DIGIT ; \u00fc\U0001f600 host\nhost = 1*DIGIT\n'
+HOST = (
+    'uri  = "//" Host [ path ]\nHost = 1*( ALPHA / "." ) <a name>\n'
+    "port =/ 1*DIGIT ; \u00fc\U0001f600 host\nhost = 1*DIGIT\n"
+)
 
 
 class Client:
@@ -66,8 +71,12 @@ def short(it):
 def test_notes(client):
     told = opened(client, HOST)
     assert [short(it) for it in told] == [
-        (1, 0, 4, 1, "redefined"), (2, 0, 4, 2, "extended"), (0, 19, 23, 1, "undefined"), (1, 0, 4, 1, "prose"),
-        (2, 0, 4, 2, "unused")]
+        (1, 0, 4, 1, "redefined"),
+        (2, 0, 4, 2, "extended"),
+        (0, 19, 23, 1, "undefined"),
+        (1, 0, 4, 1, "prose"),
+        (2, 0, 4, 2, "unused"),
+    ]
     assert told[2]["message"] == "rule 'path' used but not defined, reached by 'uri' > 'path'"
     assert [it["location"]["range"]["start"]["line"] for it in told[0]["relatedInformation"]] == [1, 3]
 
@@ -79,8 +88,11 @@ def test_faults_count_units_of_utf16(client):
 
 def test_changes(client):
     assert opened(client, "a = b\n")
-    client.tell("textDocument/didChange", textDocument={"uri": "file:///host.abnf", "version": 2},
-                contentChanges=[{"text": "a = \"b\"\n"}])
+    client.tell(
+        "textDocument/didChange",
+        textDocument={"uri": "file:///host.abnf", "version": 2},
+        contentChanges=[{"text": 'a = "b"\n'}],
+    )
     assert client.diagnostics() == []
 
 
@@ -89,7 +101,11 @@ def test_names(client):
     at = {"textDocument": {"uri": "file:///host.abnf"}, "position": {"line": 0, "character": 13}}
     places = lambda found: [(it["range"]["start"]["line"], it["range"]["start"]["character"]) for it in found]
     assert places(client.ask("textDocument/definition", **at)) == [(1, 0), (3, 0)]
-    assert places(client.ask("textDocument/references", context={"includeDeclaration": True}, **at)) == [(0, 12), (1, 0), (3, 0)]
+    assert places(client.ask("textDocument/references", context={"includeDeclaration": True}, **at)) == [
+        (0, 12),
+        (1, 0),
+        (3, 0),
+    ]
     edits = client.ask("textDocument/rename", newName="name", **at)["changes"]["file:///host.abnf"]
     assert places(edits) == [(0, 12), (1, 0), (3, 0)]
     assert client.ask("textDocument/rename", newName="uri", **at) is None
@@ -117,26 +133,31 @@ def test_peg(client):
     assert [it["range"]["start"] for it in found] == [{"line": 0, "character": 0}, {"line": 1, "character": 5}]
 
 
-@pytest.mark.skipif(not shutil.which("nvim"), reason="needs neovim")
+@pytest.mark.skipif(not shutil.which("nvim") or not CONFIGURATION.is_file(), reason="needs neovim and the repository")
 def test_in_neovim(tmp_path):
     (tmp_path / "host.abnf").write_text('uri  = "//" name [ path ]\nname = 1*ALPHA\n')
-    command = ", ".join(f'"{it}"' for it in SERVER)
+    command = tmp_path / "fanquber"
+    command.write_text(f'#!/bin/sh\nexec {sys.executable} -m fanquber "$@"\n')
+    command.chmod(0o755)
     script = tmp_path / "try.lua"
-    script.write_text(f"""
-        local id = vim.lsp.start_client({{ name = "fanquber", cmd = {{ {command} }} }})
-        vim.lsp.buf_attach_client(0, id)
+    script.write_text(
+        f"""
         local out = io.open("{tmp_path}/said", "w")
         vim.wait(8000, function() return #vim.diagnostic.get(0) > 0 end, 50)
-        for _, it in ipairs(vim.diagnostic.get(0)) do out:write(it.lnum .. ":" .. it.col .. " " .. it.message .. "\\n") end
+        for _, it in ipairs(vim.diagnostic.get(0)) do
+            out:write(it.lnum .. ":" .. it.col .. " " .. it.message .. "\\n")
+        end
         vim.api.nvim_win_set_cursor(0, {{ 1, 13 }})
         vim.lsp.buf.definition()
         vim.wait(3000, function() return vim.api.nvim_win_get_cursor(0)[1] ~= 1 end, 50)
         out:write("definition on line " .. vim.api.nvim_win_get_cursor(0)[1] .. "\\n")
         out:close()
         vim.cmd("qa!")
-    """)
-    words = ["nvim", "--headless", "--clean", "-S", str(script), str(tmp_path / "host.abnf")]
-    subprocess.run(words, timeout=30, env={**os.environ, "HOME": str(tmp_path)}, capture_output=True)
+    """
+    )
+    words = ["nvim", "--headless", "--clean", "--cmd", f"source {CONFIGURATION}", "-S", script, tmp_path / "host.abnf"]
+    environment = {**os.environ, "HOME": str(tmp_path), "PATH": f"{tmp_path}:{os.environ['PATH']}"}
+    subprocess.run(list(map(str, words)), timeout=30, env=environment, capture_output=True)
     said = (tmp_path / "said").read_text().splitlines()
     assert said[-1] == "definition on line 2"
     assert "0:19 rule 'path' used but not defined, reached by 'uri' > 'path'" in said

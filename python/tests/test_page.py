@@ -21,7 +21,15 @@ from selenium.webdriver.common.keys import Keys
 from selenium.webdriver.support.ui import WebDriverWait
 
 SHOTS = os.environ.get("SHOTS")
-QUESTION = {"kind": "abnf", "grammar": 'a = "x"\n', "input": "x\n", "rule": "", "letters": "bytes", "cut": "lines", "ends": "lf"}
+QUESTION = {
+    "kind": "abnf",
+    "grammar": 'a = "x"\n',
+    "input": "x\n",
+    "rule": "",
+    "letters": "bytes",
+    "cut": "lines",
+    "ends": "lf",
+}
 
 
 @pytest.fixture(scope="session")
@@ -59,8 +67,12 @@ def put(browser, editor, value):
 
 
 def choose(browser, field, value):
-    browser.execute_script("const it = document.getElementById(arguments[0]); it.value = arguments[1];"
-                           "it.dispatchEvent(new Event('change'))", field, value)
+    browser.execute_script(
+        "const it = document.getElementById(arguments[0]); it.value = arguments[1];"
+        "it.dispatchEvent(new Event('change'))",
+        field,
+        value,
+    )
 
 
 def shot(browser, name):
@@ -81,14 +93,14 @@ def test_first_sight(page):
 
 
 def test_fault_of_a_grammar(page):
-    put(page, "grammar", "time = 2DIGIT \":\" ( 2DIGIT\n/ \"xx\" )\n")
+    put(page, "grammar", 'time = 2DIGIT ":" ( 2DIGIT\n/ "xx" )\n')
     wait(page, lambda: "syntax error" in text(page, "#notes"))
     assert len(page.find_elements(By.CSS_SELECTOR, "#grammar .CodeMirror-lint-marker-error")) == 1
     shot(page, "fault")
 
 
 def test_notes(page):
-    put(page, "grammar", "a = b / <by hand>\nb = \"x\"\nc = \"y\"\n")
+    put(page, "grammar", 'a = b / <by hand>\nb = "x"\nc = "y"\n')
     told = "return [...document.querySelectorAll('#notes li')].map((it) => it.className).join(' ')"
     wait(page, lambda: page.execute_script(told) == "error note")
 
@@ -132,8 +144,10 @@ def test_records(page):
 def test_names_lead_to_their_rules(page):
     wait(page, lambda: len(page.find_elements(By.CSS_SELECTOR, "#diagrams a")) > 0)
     before = page.execute_script("return document.getElementById('diagrams').scrollTop")
-    page.execute_script("const it = [...document.querySelectorAll('#diagrams a')].pop();"
-                        "it.dispatchEvent(new MouseEvent('click', {bubbles: true, cancelable: true}))")
+    page.execute_script(
+        "const it = [...document.querySelectorAll('#diagrams a')].pop();"
+        "it.dispatchEvent(new MouseEvent('click', {bubbles: true, cancelable: true}))"
+    )
     time.sleep(1)
     assert page.execute_script("return document.getElementById('diagrams').scrollTop") != before
 
@@ -162,36 +176,43 @@ def test_another_origin_gets_nothing(server, browser, tmp_path):
     with http.server.ThreadingHTTPServer(("127.0.0.1", 0), Quiet) as other:
         threading.Thread(target=other.serve_forever, daemon=True).start()
         browser.get(f"http://127.0.0.1:{other.server_port}/evil.html")
-        told = browser.execute_async_script("""
+        told = browser.execute_async_script(
+            """
             const [own, secret, body, done] = arguments, tries = {};
             const attempt = async (name, init) => {
                 try { const it = await fetch(own + "/answer", init); tries[name] = it.type + " " + it.status; }
                 catch (fault) { tries[name] = "refused"; }
             };
             (async () => {
-                await attempt("cors", { method: "POST", body, headers: { "Content-Type": "application/json", "X-Fanquber-Secret": secret } });
+                const json = { "Content-Type": "application/json", "X-Fanquber-Secret": secret };
+                await attempt("cors", { method: "POST", body, headers: json });
                 await attempt("plain", { method: "POST", body, headers: { "Content-Type": "text/plain" } });
                 await attempt("opaque", { method: "POST", body, mode: "no-cors" });
-                await new Promise((next) => { const it = document.createElement("script"); it.src = own + "/files/page.js";
-                    it.onload = () => { tries.script = "loaded"; next(); }; it.onerror = () => { tries.script = "refused"; next(); };
-                    document.head.append(it); });
+                await new Promise((next) => {
+                    const it = document.createElement("script");
+                    it.src = own + "/files/page.js";
+                    it.onload = () => { tries.script = "loaded"; next(); };
+                    it.onerror = () => { tries.script = "refused"; next(); };
+                    document.head.append(it);
+                });
                 const frame = document.createElement("iframe"); frame.src = own + "/"; document.body.append(frame);
                 await new Promise((next) => { frame.onload = next; setTimeout(next, 2000); });
                 try { tries.frame = frame.contentDocument ? "readable" : "closed"; } catch { tries.frame = "closed"; }
                 done(tries);
             })();
-        """, own, secret, json.dumps(QUESTION))
+        """,
+            own,
+            secret,
+            json.dumps(QUESTION),
+        )
         other.shutdown()
     assert told == {"cors": "refused", "plain": "refused", "opaque": "refused", "script": "refused", "frame": "closed"}
 
 
-
-
 def focused(browser):
     """Returns what has the focus: its id, or that of the editor or the pane that holds it."""
-    return browser.execute_script(
-        "const it = document.activeElement; return it.id || (it.closest('#grammar, #input, #notes, #diagrams') || {}).id || ''"
-    )
+    holds = "it.closest('#grammar, #input, #notes, #diagrams') || {}"
+    return browser.execute_script(f"const it = document.activeElement; return it.id || ({holds}).id || ''")
 
 
 def test_the_keyboard_alone_is_enough(page):

@@ -16,7 +16,15 @@ from fanquber import playground
 
 BIN = pathlib.Path(__file__).resolve().parents[2] / "bin"
 DENSE = 's = s s / s s s / "a" / "a" s "a"\n'
-QUESTION = {"kind": "abnf", "grammar": "a = \"x\"\n", "input": "x\n", "rule": "", "letters": "bytes", "cut": "lines", "ends": "lf"}
+QUESTION = {
+    "kind": "abnf",
+    "grammar": 'a = "x"\n',
+    "input": "x\n",
+    "rule": "",
+    "letters": "bytes",
+    "cut": "lines",
+    "ends": "lf",
+}
 
 
 def ask(server, method="POST", path="/answer", body=None, **changed):
@@ -35,37 +43,40 @@ def ask(server, method="POST", path="/answer", body=None, **changed):
     return reply.status, reply.read()
 
 
-@pytest.mark.parametrize("wanted, changed", [
-    (200, {}),
-    (200, {"Origin": "own"}),
-    (403, {"Origin": "http://evil.example"}),
-    (403, {"Origin": "null"}),
-    (403, {"Host": "evil.example"}),
-    (403, {"Host": "evil.example:80"}),
-    (403, {"Sec_Fetch_Site": "cross-site"}),
-    (403, {"Sec_Fetch_Site": "same-site"}),
-    (403, {"X_Fanquber_Secret": None}),
-    (403, {"X_Fanquber_Secret": "guess"}),
-    (403, {"X_Fanquber_Secret": "\xff"}),
-    (415, {"Content_Type": "text/plain"}),
-    (415, {"Content_Type": None}),
-    (400, {"body": "{"}),
-    (400, {"body": "[]"}),
-    (400, {"body": json.dumps({**QUESTION, "more": ""})}),
-    (400, {"body": json.dumps({**QUESTION, "rule": 1})}),
-    (400, {"body": json.dumps({**QUESTION, "kind": "sh"})}),
-    (400, {"body": json.dumps({**QUESTION, "rule": "a\0b"})}),
-    (200, {"body": json.dumps({**QUESTION, "rule": "-h"})}),
-    (200, {"body": json.dumps({**QUESTION, "rule": "'; rm -rf /"})}),
-    (413, {"body": json.dumps({**QUESTION, "input": "x" * 300000})}),
-    (405, {"method": "GET"}),
-    (405, {"method": "OPTIONS"}),
-    (404, {"method": "GET", "path": "/files/../__init__.py"}),
-    (404, {"method": "GET", "path": "/files/%2e%2e/__init__.py"}),
-    (404, {"method": "GET", "path": "/files/page.html"}),
-    (308, {"method": "GET", "path": "/files//etc/passwd"}),
-    (200, {"method": "GET", "path": "/"}),
-])
+@pytest.mark.parametrize(
+    "wanted, changed",
+    [
+        (200, {}),
+        (200, {"Origin": "own"}),
+        (403, {"Origin": "http://evil.example"}),
+        (403, {"Origin": "null"}),
+        (403, {"Host": "evil.example"}),
+        (403, {"Host": "evil.example:80"}),
+        (403, {"Sec_Fetch_Site": "cross-site"}),
+        (403, {"Sec_Fetch_Site": "same-site"}),
+        (403, {"X_Fanquber_Secret": None}),
+        (403, {"X_Fanquber_Secret": "guess"}),
+        (403, {"X_Fanquber_Secret": "\xff"}),
+        (415, {"Content_Type": "text/plain"}),
+        (415, {"Content_Type": None}),
+        (400, {"body": "{"}),
+        (400, {"body": "[]"}),
+        (400, {"body": json.dumps({**QUESTION, "more": ""})}),
+        (400, {"body": json.dumps({**QUESTION, "rule": 1})}),
+        (400, {"body": json.dumps({**QUESTION, "kind": "sh"})}),
+        (400, {"body": json.dumps({**QUESTION, "rule": "a\0b"})}),
+        (200, {"body": json.dumps({**QUESTION, "rule": "-h"})}),
+        (200, {"body": json.dumps({**QUESTION, "rule": "'; rm -rf /"})}),
+        (413, {"body": json.dumps({**QUESTION, "input": "x" * 300000})}),
+        (405, {"method": "GET"}),
+        (405, {"method": "OPTIONS"}),
+        (404, {"method": "GET", "path": "/files/../__init__.py"}),
+        (404, {"method": "GET", "path": "/files/%2e%2e/__init__.py"}),
+        (404, {"method": "GET", "path": "/files/page.html"}),
+        (308, {"method": "GET", "path": "/files//etc/passwd"}),
+        (200, {"method": "GET", "path": "/"}),
+    ],
+)
 def test_what_the_server_refuses(server, wanted, changed):
     if changed.get("Origin") == "own":
         changed = {"Origin": server.split("/#")[0]}
@@ -78,7 +89,9 @@ def test_heads_of_answers(server):
         it.request("GET", path)
         reply = it.getresponse()
         reply.read()
-        assert reply.getheader("Content-Security-Policy").startswith("default-src 'none'; script-src 'self'; style-src 'self'")
+        assert reply.getheader("Content-Security-Policy").startswith(
+            "default-src 'none'; script-src 'self'; style-src 'self'"
+        )
         assert reply.getheader("X-Content-Type-Options") == "nosniff"
         assert reply.getheader("Cross-Origin-Resource-Policy") == "same-origin"
         assert reply.getheader("Cache-Control") == "no-store"
@@ -120,7 +133,9 @@ def test_memory_is_bounded():
 
 
 def test_output_is_bounded():
-    told = answered(playground.Limits(output=5000), kind="peg", grammar="S <- . { " + "x" * 100 + " }\n", input="a" * 1000)
+    told = answered(
+        playground.Limits(output=5000), kind="peg", grammar="S <- . { " + "x" * 100 + " }\n", input="a" * 1000
+    )
     assert (len(told["out"]), told["broken_by"]) == (5000, "output")
 
 
@@ -145,7 +160,8 @@ def test_names_are_no_options():
 @pytest.mark.parametrize("ends", ["lf", "crlf"])
 @pytest.mark.parametrize("given", ["x'\n", "x'", "", "\n", "x'\nx'", "END\n$HOME `id` \\\n"])
 @pytest.mark.parametrize(
-    "changed", [{}, {"cut": "whole", "letters": "utf8"}, {"rule": "end"}, {"kind": "peg", "grammar": "S <- . { it's yytext }"}]
+    "changed",
+    [{}, {"cut": "whole", "letters": "utf8"}, {"rule": "end"}, {"kind": "peg", "grammar": "S <- . { it's yytext }"}],
 )
 def test_the_script_makes_the_same_run(changed, given, ends, tmp_path):
     told = answered(**{"grammar": 'a = *( "x\'" CRLF )\nEND = "y"\n', "input": given, "ends": ends, **changed})

@@ -25,7 +25,8 @@ MANY = settings(SOME, max_examples=2000)
 
 
 def takes(line):
-    """A parser of RFC 3339 as one writes it by hand: no small letters, `$` lets a line feed through, no long fractions."""
+    """A parser of RFC 3339 as one writes it by hand: no small letters, `$` lets a line feed through, no long
+    fractions."""
     return re.match(rb"\d{4}-\d\d-\d\dT\d\d:\d\d:\d\d(\.\d{1,6})?(Z|[+-]\d\d:\d\d)$", line) is not None
 
 

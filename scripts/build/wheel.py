@@ -3,10 +3,10 @@
 
 usage: wheel.py [LIBRARY [FOLDER]]
 
-LIBRARY is bin/libfanquber.so.2 if none is given, which library.py makes, and FOLDER is bin/. The wheel is for any Python 3
-on Linux x86-64 whose C library is as new as the shared object needs. The script needs readelf (Debian: binutils), and a Python with
-setuptools and wheel (Debian: python3-setuptools, python3-wheel): the one that runs it, or else /usr/bin/python3. It needs no
-network. It prints the name of the wheel.
+LIBRARY is bin/libfanquber.so.2 if none is given, which library.py makes, and FOLDER is bin/. The wheel is for any
+Python 3 on Linux x86-64 whose C library is as new as the shared object needs. The script needs readelf (Debian:
+binutils), and a Python with setuptools and wheel (Debian: python3-setuptools, python3-wheel): the one that runs it, or
+else /usr/bin/python3. It needs no network. It prints the name of the wheel.
 """
 import pathlib
 import re

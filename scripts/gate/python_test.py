@@ -1,12 +1,12 @@
 #!/usr/bin/env python3
-"""Runs the tests of the package of python/ by pytest, over the shared object and the programs in bin/, and the rules of its
-types by mypy.
+"""Runs the tests of the package of python/ by pytest, over the shared object and the programs in bin/, and the rules
+of its types by mypy.
 
 usage: python_test.py
 
-The Python that runs the tests is the one that runs this script if it has pytest, or else /usr/bin/python3. A test skips what
-it has no package for, and the script shows which; all is skipped where there is no pytest or no shared object, and the script says
-so. scripts/gate/setup installs the packages on Debian. The status is 1 if a test fails.
+The Python that runs the tests is the one that runs this script if it has pytest, or else /usr/bin/python3. A test
+skips what it has no package for, and the script shows which; all is skipped where there is no pytest or no shared
+object, and the script says so. scripts/gate/setup installs the packages on Debian. The status is 1 if a test fails.
 """
 import os
 import pathlib
