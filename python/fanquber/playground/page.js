@@ -17,7 +17,8 @@ partial-time   = time-hour ":" time-minute ":" time-second [time-secfrac]
 full-date      = date-fullyear "-" date-month "-" date-mday
 full-time      = partial-time time-offset
 date-time      = full-date "T" full-time
-`, input: "1985-04-12T23:20:50.52Z\n1996-12-19T16:39:57-08:00\n1985-4-12T23:20:50Z\n1990-12-31 23:59:60Z\n1990-12-31T23:59:60" },
+`, input: "1985-04-12T23:20:50.52Z\n1996-12-19T16:39:57-08:00\n1985-4-12T23:20:50Z\n1990-12-31 23:59:60Z\n"
+    + "1990-12-31T23:59:60" },
   "ABNF: heads of HTTP (RFC 9112)": { kind: "abnf", rule: "", cut: "whole", ends: "crlf", grammar:
 `message    = start-line CRLF *( field CRLF ) CRLF
 start-line = method SP target SP %s"HTTP/" DIGIT "." DIGIT
@@ -63,10 +64,13 @@ CodeMirror.defineSimpleMode("peg", { start: [
 
 let annotations = [], latest = null, asked = 0, marks = [], classed = [];
 // Tab goes on to the next control, so that the keyboard alone is enough
-const common = { lineNumbers: true, lineWrapping: false, viewportMargin: 200, extraKeys: { Tab: false, "Shift-Tab": false } };
-const grammar = CodeMirror(by("grammar"), { ...common, screenReaderLabel: "Grammar", gutters: ["CodeMirror-linenumbers", "CodeMirror-lint-markers"],
+const common = { lineNumbers: true, lineWrapping: false, viewportMargin: 200,
+  extraKeys: { Tab: false, "Shift-Tab": false } };
+const grammar = CodeMirror(by("grammar"), { ...common, screenReaderLabel: "Grammar",
+  gutters: ["CodeMirror-linenumbers", "CodeMirror-lint-markers"],
   lint: { getAnnotations: () => annotations, lintOnChange: false } });
-const input = CodeMirror(by("input"), { ...common, screenReaderLabel: "Input", gutters: ["CodeMirror-linenumbers", "answers"] });
+const input = CodeMirror(by("input"), { ...common, screenReaderLabel: "Input",
+  gutters: ["CodeMirror-linenumbers", "answers"] });
 
 function question() {
   const it = Object.fromEntries(OPTIONS.map((id) => [id, by(id).value]));
@@ -83,8 +87,8 @@ async function ask() {
       headers: { "Content-Type": "application/json", "X-Fanquber-Secret": sessionStorage.getItem("secret") || "" } });
   } catch { if (mine === asked) say("the server does not answer", true); return; }
   if (mine !== asked) return;  // an answer to what is no longer there
-  if (!reply.ok) return say({ 403: "open the address that the server printed", 413: "too long", 503: "busy" }[reply.status]
-    || `refused: ${reply.status}`, true);
+  const refused = { 403: "open the address that the server printed", 413: "too long", 503: "busy" };
+  if (!reply.ok) return say(refused[reply.status] || `refused: ${reply.status}`, true);
   latest = await reply.json();
   if (mine === asked) show(it);
 }
@@ -92,8 +96,9 @@ async function ask() {
 function say(text, bad) { by("state").textContent = text; by("state").className = bad ? "bad" : ""; }
 
 function show(it) {
-  const broken = { time: "the run took too long and was ended", output: "the output is too long", "a signal": "the run was ended",
-    "a fault": "the run failed" }[latest.broken_by] || (latest.status === 5 ? "out of memory" : "");
+  const broken = { time: "the run took too long and was ended", output: "the output is too long",
+    "a signal": "the run was ended", "a fault": "the run failed" }[latest.broken_by]
+    || (latest.status === 5 ? "out of memory" : "");
   say(broken || `${latest.milliseconds} ms`, Boolean(broken));
   showRules(it.rule);
   showNotes();
@@ -115,7 +120,8 @@ function showRules(chosen) {
 // Where a finding on the grammar stands: its column if it has one, else the rule's name in its line
 function placeOf(finding) {
   const line = (finding.line || 1) - 1, text = grammar.getLine(line) || "";
-  if (finding.column) return [line, unitsBefore(text, finding.column - 1, "bytes"), Math.max(finding.column, text.length)];
+  const before = finding.column ? unitsBefore(text, finding.column - 1, "bytes") : 0;
+  if (finding.column) return [line, before, Math.max(before + 1, text.length)];
   const at = text.toLowerCase().indexOf(finding.rule.toLowerCase());
   return at < 0 || !finding.rule ? [line, 0, text.length] : [line, at, at + finding.rule.length];
 }
@@ -123,7 +129,8 @@ function placeOf(finding) {
 function showNotes() {
   annotations = latest.findings.map((it) => {
     const [line, from, to] = placeOf(it);
-    return { from: { line, ch: from }, to: { line, ch: to }, severity: it.severity, message: [it.message, ...it.more].join("\n") };
+    const message = [it.message, ...it.more].join("\n");
+    return { from: { line, ch: from }, to: { line, ch: to }, severity: it.severity, message };
   });
   grammar.performLint();
   by("notes").replaceChildren(...latest.findings.map((it) => {
@@ -131,7 +138,11 @@ function showNotes() {
     item.className = it.severity;
     button.textContent = (it.line ? `line ${it.line}: ` : "") + it.message;
     button.title = it.more.join("\n");
-    button.addEventListener("click", () => { const [line, ch] = placeOf(it); grammar.setCursor({ line, ch }); grammar.focus(); });
+    button.addEventListener("click", () => {
+      const [line, ch] = placeOf(it);
+      grammar.setCursor({ line, ch });
+      grammar.focus();
+    });
     item.append(button);
     return item;
   }));
@@ -150,7 +161,8 @@ function unitsBefore(text, letters, kind) {
 
 function clearAnswers() {
   marks.forEach((it) => it.clear());
-  classed.forEach((it) => { for (const name of ["line-yes", "line-no"]) input.removeLineClass(it, "background", name); });
+  for (const it of classed)
+    for (const name of ["line-yes", "line-no"]) input.removeLineClass(it, "background", name);
   input.clearGutter("answers");
   marks = []; classed = [];
 }
@@ -198,17 +210,22 @@ function pointAt(units, good) {
   if (!good) point(place.line, place.ch);
 }
 
+// How many units of the editor stand before a letter of the input as it was judged
+function unitsInInput(it, letters, kind) {
+  if (it.ends !== "crlf") return unitsBefore(it.input, letters, kind);
+  const text = it.input.replaceAll("\n", "\r\n");
+  return text.slice(0, unitsBefore(text, letters, kind)).replace(/\r$/, "").replaceAll("\r\n", "\n").length;
+}
+
 function showWhole(it, answer) {
-  const text = it.ends === "crlf" ? it.input.replaceAll("\n", "\r\n") : it.input;
-  const units = unitsBefore(text, Number(answer.slice(3)), it.letters), before = text.slice(0, units);
-  pointAt(before.replaceAll("\r\n", "\n").length, answer === "yes");
+  pointAt(unitsInInput(it, Number(answer.slice(3)), it.letters), answer === "yes");
 }
 
 function showStop(it) {
   const stop = latest.stops[0];
   if (!stop) { if (latest.status === 0) pointAt(0, true); return; }
   const byte = /^byte (\d+)/.exec(stop.more[0] || "") || /at byte (\d+)/.exec(stop.message);
-  if (byte) pointAt(unitsBefore(it.input, Number(byte[1]), "bytes"), false);
+  if (byte) pointAt(unitsInInput(it, Number(byte[1]), "bytes"), false);
   by("why").textContent = told(stop);
 }
 
