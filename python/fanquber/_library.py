@@ -112,6 +112,12 @@ def library_path() -> str:
     return os.environ.get("FANQUBER_LIBRARY") or (beside if os.path.isfile(beside) else _SONAME)
 
 
+def loaded_path() -> str:
+    """Returns the file of the shared object that this process has loaded, for a process without its environment."""
+    with open("/proc/self/maps") as maps:
+        return next((it.split()[-1] for it in maps if it.rstrip().endswith(f"/{_SONAME}")), library_path())
+
+
 def _loaded() -> ctypes.CDLL:
     """Returns the shared object with the types of its calls."""
     library = ctypes.CDLL(library_path())

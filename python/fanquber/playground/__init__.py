@@ -18,13 +18,13 @@ import tempfile
 import threading
 import time
 import webbrowser
-from typing import Any, Dict, List, NamedTuple, Set
+from typing import Any, Dict, List, NamedTuple, Set, Tuple
 
 import flask
 import railroad  # noqa: F401, the worker draws by it
 import waitress
 
-from .._library import library_path
+from .._library import loaded_path
 from .worker import MEGABYTE
 
 MOST = 256 * 1024
@@ -70,9 +70,16 @@ class Limits(NamedTuple):
 
 def answer(asked: Dict[str, str], limits: Limits = Limits()) -> Dict[str, Any]:
     """Returns all that the page shows of a grammar and an input. `broken_by` says what ended the run early: nothing,
-    `time`, `output` or `a signal`."""
+    `time`, `output`, `a signal` or `a fault`."""
     began = time.monotonic()
-    told: Dict[str, Any] = {
+    start = {
+        "folder": str(_HERE.parents[1]),
+        "library": loaded_path(),
+        "memory": limits.memory,
+        "seconds": limits.processor,
+        "output": limits.output,
+    }
+    said: Dict[str, Any] = {
         "rules": [],
         "canonical": "",
         "diagrams": [],
@@ -81,40 +88,36 @@ def answer(asked: Dict[str, str], limits: Limits = Limits()) -> Dict[str, Any]:
         "out": "",
         "status": None,
     }
-    start = {
-        "folder": str(_HERE.parents[1]),
-        "library": library_path(),
-        "memory": limits.memory,
-        "seconds": limits.processor,
-        "output": limits.output,
-    }
-    with tempfile.TemporaryFile() as given, tempfile.TemporaryFile() as out:
-        given.write(b"".join(json.dumps(it).encode() + b"\n" for it in (start, asked)))
-        given.seek(0)
+    parts, broken_by = _work([start, asked], limits.clock)
+    for part in parts:
+        said.update(part)
+    said["broken_by"] = broken_by or ("output" if said.pop("cut", False) else "")
+    said["command"] = script(asked)
+    said["milliseconds"] = round(1000 * (time.monotonic() - began))
+    return said
+
+
+def _work(given: List[Dict[str, Any]], seconds: float) -> Tuple[List[Dict[str, Any]], str]:
+    """Returns the parts that the worker writes in that time on the clock, and what ended it early."""
+    with tempfile.TemporaryFile() as lines, tempfile.TemporaryFile() as out:
+        lines.write(b"".join(json.dumps(it).encode() + b"\n" for it in given))
+        lines.seek(0)
         words = [sys.executable, "-I", "-B", str(_HERE / "worker.py")]
-        nothing: Dict[str, str] = {}
+        environment: Dict[str, str] = {}
         process = subprocess.Popen(
-            words, stdin=given, stdout=out, stderr=subprocess.DEVNULL, env=nothing, cwd="/", start_new_session=True
+            words, stdin=lines, stdout=out, stderr=subprocess.DEVNULL, env=environment, cwd="/", start_new_session=True
         )
-        broken_by = ""
         try:
-            status = process.wait(limits.clock)
+            status = process.wait(seconds)
         except subprocess.TimeoutExpired:
             process.kill()
-            status, broken_by = process.wait(), "time"
-        if status < 0 and not broken_by:
-            broken_by = "time" if status == -signal.SIGXCPU else "a signal"
+            process.wait()
+            status = -signal.SIGXCPU
         out.seek(0)
-        for line in out:
-            # The last line of a process that was ended may be cut
-            if line.endswith(b"\n"):
-                told.update(json.loads(line))
-    if status > 0:
-        broken_by = "a fault"
-    told["broken_by"] = broken_by or ("output" if told.pop("cut", False) else "")
-    told["command"] = script(asked)
-    told["milliseconds"] = round(1000 * (time.monotonic() - began))
-    return told
+        # The last line of a process that was ended may be cut
+        parts = [json.loads(it) for it in out if it.endswith(b"\n")]
+    early = {0: "", -signal.SIGXCPU: "time"}.get(status, "a signal" if status < 0 else "a fault")
+    return parts, early
 
 
 def script(asked: Dict[str, str]) -> str:
