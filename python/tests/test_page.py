@@ -102,7 +102,7 @@ def test_fault_of_a_grammar(page):
 def test_notes(page):
     put(page, "grammar", 'a = b / <by hand>\nb = "x"\nc = "y"\n')
     told = "return [...document.querySelectorAll('#notes li')].map((it) => it.className).join(' ')"
-    wait(page, lambda: page.execute_script(told) == "error note")
+    wait(page, lambda: page.execute_script(told) == "error warning")
 
 
 def test_texts_are_no_markup(page):
@@ -148,8 +148,7 @@ def test_names_lead_to_their_rules(page):
         "const it = [...document.querySelectorAll('#diagrams a')].pop();"
         "it.dispatchEvent(new MouseEvent('click', {bubbles: true, cancelable: true}))"
     )
-    time.sleep(1)
-    assert page.execute_script("return document.getElementById('diagrams').scrollTop") != before
+    wait(page, lambda: page.execute_script("return document.getElementById('diagrams').scrollTop") != before)
 
 
 def test_without_the_secret(server, browser):
