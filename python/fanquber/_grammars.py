@@ -51,14 +51,20 @@ def _contents(path: Path) -> bytes:
 
 
 def check(
-    kind: str, text: Text, rule: Optional[str] = None, *, letters: Letters = Letters.BYTES, file: str = ""
+    kind: str,
+    text: Text,
+    rule: Optional[str] = None,
+    *,
+    letters: Letters = Letters.BYTES,
+    nul: bool = False,
+    file: str = "",
 ) -> List[Finding]:
-    """Returns the findings on a grammar of a kind, `abnf` or `peg`, whether it is rejected or not. `file` is its name
-    in them. `OutOfMemory` if an allocation fails."""
+    """Returns the findings on a grammar of a kind, `abnf` or `peg`, whether it is rejected or not. `nul` says that the lines
+    to be judged may hold line feeds. `file` is the grammar's name in findings. `OutOfMemory` if an allocation fails."""
     if kind == "peg":
         reply, judged = peg(text, mode=Mode.CHECK, start=rule, explain=True), ""
     else:
-        reply = abnf(text, mode=Mode.CHECK, rule=rule, letters=letters, explain=True)
+        reply = abnf(text, mode=Mode.CHECK, rule=rule, letters=letters, nul=nul, explain=True)
         judged = first_rule("abnf", as_bytes(text)) if rule is None else rule
     if reply.status >= Status.FAULT:
         raise OutOfMemory("out of memory")
@@ -151,11 +157,14 @@ class Abnf(_PerThread):
         return cls(_contents(path), rule, letters=letters, limit=limit, file=os.fspath(path))
 
     def _explained(self) -> List[Finding]:
-        return check("abnf", self._text, self._rule, letters=self._letters, file=self._file)
+        # A line may hold any byte here, so none is out of reach
+        found = check("abnf", self._text, self._rule, letters=self._letters, nul=True, file=self._file)
+        return [it for it in found if it.code != "no-line"]
 
     @functools.cached_property
     def findings(self) -> List[Finding]:
-        """The notes and hints on the grammar with their places, as `abnfi -m check -x` gives them."""
+        """The notes and hints on the grammar with their places, as `abnfi -m check -x` gives them, but for the hint that
+        no line is derived: a line here may hold any byte."""
         return self._explained()
 
     @functools.cached_property

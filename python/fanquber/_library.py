@@ -133,7 +133,11 @@ def _loaded() -> ctypes.CDLL:
     for call in ("fanquber_abnf_close", "fanquber_peg_close"):
         getattr(library, call).argtypes, getattr(library, call).restype = place, None
     for call in (
-        "fanquber_peg", "fanquber_abnf", "fanquber_peg_windows", "fanquber_abnf_open", "fanquber_peg_open",
+        "fanquber_peg",
+        "fanquber_abnf",
+        "fanquber_peg_windows",
+        "fanquber_abnf_open",
+        "fanquber_peg_open",
         "fanquber_peg_run",
     ):
         getattr(library, call).restype = _Result

@@ -5,7 +5,7 @@ import threading
 import pytest
 
 from fanquber import Abnf, Finding, GrammarError, Letters, Overlong, Peg, Refusal
-from fanquber._grammars import canonical_text
+from fanquber._grammars import canonical_text, check
 from fanquber.findings import read_findings
 from fanquber.refusals import read_refusal
 from fanquber.trees import read_rules
@@ -117,6 +117,12 @@ def test_hints():
         "grammar:2:1: warning: reversed numbers in rule 'month': %x7A-61 derives nothing [reversed]",
     ]
     assert grammar.notes == []
+
+
+def test_lines_may_hold_any_byte():
+    assert Abnf('m = "a" CRLF').findings == []
+    assert [it.code for it in check("abnf", 'm = "a" CRLF')] == ["no-line"]
+    assert check("abnf", 'm = "a" CRLF', nul=True) == []
 
 
 def test_findings_on_an_input():

@@ -231,7 +231,9 @@ function showStop(it) {
 
 function told(it) {
   const place = it.line ? `line ${it.line}${it.column ? `, letter ${it.column}` : ""}: ` : "";
-  return [(it.code === "refused" ? place : "") + it.message, ...it.more].join("\n");
+  // What was expected of an input of peg(1) stands in lines of its own
+  const said = it.code === "no-match" ? it.message.split(": expected")[0] : it.message;
+  return [(it.code === "refused" ? place : "") + said, ...it.more].join("\n");
 }
 
 // What is said of the line that the cursor is on

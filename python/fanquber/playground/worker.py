@@ -44,7 +44,8 @@ def answer(asked: Dict[str, str], most: int) -> None:
     grammar, given = asked["grammar"].encode(), asked["input"].encode()
     if asked["ends"] == "crlf":
         given = given.replace(b"\n", b"\r\n")
-    write({"findings": [shown(it) for it in _grammars.check(kind, grammar, rule, letters=letters)]})
+    whole = asked["cut"] == "whole"
+    write({"findings": [shown(it) for it in _grammars.check(kind, grammar, rule, letters=letters, nul=whole)]})
     try:
         text = _grammars.canonical_text(kind, grammar)
         rules = trees.read_rules(kind, text)
@@ -55,7 +56,6 @@ def answer(asked: Dict[str, str], most: int) -> None:
     if kind == "peg":
         reply = peg(grammar, given, start=rule, explain=True)
     else:
-        whole = asked["cut"] == "whole"
         reply = abnf(grammar, given, rule=rule, letters=letters, viable=True, nul=whole, explain=True)
     stops = [shown(it) for it in read_findings(reply.err) if it.about == "input"]
     out = reply.out[:most].decode("latin-1")
