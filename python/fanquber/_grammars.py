@@ -59,8 +59,9 @@ def check(
     nul: bool = False,
     file: str = "",
 ) -> List[Finding]:
-    """Returns the findings on a grammar of a kind, `abnf` or `peg`, whether it is rejected or not. `nul` says that the lines
-    to be judged may hold line feeds. `file` is the grammar's name in findings. `OutOfMemory` if an allocation fails."""
+    """Returns the findings on a grammar of a kind, `abnf` or `peg`, whether it is rejected or not. `nul` says that the
+    lines to be judged may hold line feeds. `file` is the grammar's name in findings. `OutOfMemory` if an allocation
+    fails."""
     if kind == "peg":
         reply, judged = peg(text, mode=Mode.CHECK, start=rule, explain=True), ""
     else:
@@ -163,8 +164,8 @@ class Abnf(_PerThread):
 
     @functools.cached_property
     def findings(self) -> List[Finding]:
-        """The notes and hints on the grammar with their places, as `abnfi -m check -x` gives them, but for the hint that
-        no line is derived: a line here may hold any byte."""
+        """The notes and hints on the grammar with their places, as `abnfi -m check -x` gives them, but for the hint
+        that no line is derived: a line here may hold any byte."""
         return self._explained()
 
     @functools.cached_property
