@@ -83,14 +83,16 @@ class Lines:
 
     def near(self) -> st.SearchStrategy[bytes]:
         """Returns derived lines, and such with one change: a piece left out, put in or replaced."""
-        at = st.one_of(st.just(-1), st.integers(0, 200))
-        put = st.one_of(st.sampled_from(_PUT), st.binary(max_size=2))
-        changed = st.builds(_changed, self.derived(), at, st.integers(0, 3), put)
-        return st.one_of(self.derived(), changed)
+        return st.one_of(self.derived(), self._changed())
 
     def refused(self) -> st.SearchStrategy[bytes]:
-        """Returns lines of `near` that the rule does not derive. `Unsatisfiable` where the rule derives nearly all."""
-        return self.near().filter(lambda line: len(line) <= self._limit and not self.grammar.derives(line))
+        """Returns lines with one change that the rule does not derive. `Unsatisfiable` where it derives nearly all."""
+        return self._changed().filter(lambda line: len(line) <= self._limit and not self.grammar.derives(line))
+
+    def _changed(self) -> "st.SearchStrategy[bytes]":
+        at = st.one_of(st.just(-1), st.integers(0, 200))
+        put = st.one_of(st.sampled_from(_PUT), st.binary(max_size=2))
+        return st.builds(_changed, self.derived(), at, st.integers(0, 3), put)
 
     def _checked(self, line: bytes) -> bytes:
         assume(len(line) <= self._limit)

@@ -128,8 +128,10 @@ def test_time_is_bounded():
 
 
 def test_memory_is_bounded():
-    told = answered(playground.Limits(processor=60, clock=60, memory=100 << 20), grammar=DENSE, input="a" * 8000)
-    assert told["status"] == 5
+    # The output has 60 MB
+    grammar = "S <- . { " + "x" * 1000 + " }\n"
+    told = answered(playground.Limits(memory=80 << 20), kind="peg", grammar=grammar, input="a" * 60000)
+    assert (told["status"], told["broken_by"], told["rules"]) == (5, "", ["S"])
 
 
 def test_output_is_bounded():
