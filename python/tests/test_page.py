@@ -14,6 +14,7 @@ if not shutil.which("chromedriver"):
     pytest.skip("needs chromium-driver", allow_module_level=True)
 
 from selenium import webdriver
+from selenium.common.exceptions import TimeoutException
 from selenium.webdriver.chrome.options import Options
 from selenium.webdriver.chrome.service import Service
 from selenium.webdriver.common.by import By
@@ -45,13 +46,18 @@ def browser():
 
 @pytest.fixture
 def page(server, browser):
-    browser.get("about:blank")
     browser.get(server)
-    browser.execute_script("sessionStorage.removeItem('question')")
-    browser.get("about:blank")
-    browser.get(server)
-    wait(browser, lambda: text(browser, "#count") != "")
-    return browser
+    # On a busy machine a run may take longer than it may
+    for _ in range(3):
+        browser.execute_script("sessionStorage.removeItem('question')")
+        browser.get("about:blank")
+        browser.get(server)
+        try:
+            wait(browser, lambda: text(browser, "#count") != "", 8)
+            return browser
+        except TimeoutException:
+            print(text(browser, "#state"))
+    raise TimeoutError("the page has no answer")
 
 
 def wait(browser, holds, seconds=15):
