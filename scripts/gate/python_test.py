@@ -51,7 +51,7 @@ def main():
     if checker is None:
         print("python: no mypy (Debian: mypy): skipped")
     else:
-        wrong |= not run(checker, "-m", "mypy", "--cache-dir=/dev/null", "--strict", "fanquber")
+        wrong |= not run(checker, "-m", "mypy", f"--cache-dir={TOP / 'bin/.mypy_cache'}", "--strict", "fanquber")
     return 1 if wrong else 0
 
 
