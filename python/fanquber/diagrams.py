@@ -169,14 +169,16 @@ def _svg(kind: str, item: Any) -> str:
 
 
 def page(kind: str, title: str, canonical: bytes, rules: Dict[str, Tree]) -> str:
-    """Returns a page of HTML with a section for each rule: its diagram, its canonical text if it has a line of its
-    own, and the rules that use it. The page needs no script and no other file."""
+    """Returns a page of HTML with a section for each rule: its diagram, its canonical text if each rule has one line,
+    and the rules that use it. The page needs no script and no other file."""
     users: Dict[str, List[str]] = {}
     for user, body in rules.items():
         for name in dict.fromkeys(key_of(kind, it) for it in names_in(body)):
             users.setdefault(name, []).append(user)
     links = {name: f'<a href="#rule-{at}">{html.escape(name)}</a>' for at, name in enumerate(rules)}
-    lines = dict(zip(rules, canonical.decode("latin-1").split("\n"))) if kind == "abnf" else {}
+    texts = canonical.decode("latin-1").split("\n")[:-1]
+    # An action of peg(1) may hold line feeds
+    lines = dict(zip(rules, texts)) if len(texts) == len(rules) else {}
     sections = []
     for at, (name, drawn) in enumerate(svgs(kind, rules).items()):
         by = ", ".join(links[it] for it in users.get(key_of(kind, name), []))

@@ -80,6 +80,7 @@ def test_pages_and_names(path):
         xml.fromstring(svg)
     page = diagrams.page(kind, path.name, canonical, rules)
     assert page.count("<svg") == len(rules) and "<script" not in page
+    assert page.count("<pre>") in (0, len(rules))
     # The names that an editor's server sees are those of the trees
     seen = list(names.places(kind, text.decode()))
     used = [name for body in rules.values() for name in trees.names_in(body)]

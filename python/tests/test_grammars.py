@@ -144,9 +144,13 @@ def test_unknown_messages_are_kept():
 def test_refusals():
     day = Abnf(DAY)
     assert day.refusal("1985-04-12") is None
-    assert day.refusal("1985") == Refusal(4, ('"-"',), False, "1985\n    ^")
+    found = day.refusal("1985")
+    assert (found.at, found.can_end, found.picture) == (4, False, "1985\n    ^")
+    assert len(found.expected) == 1 and found.expected[0].startswith('"-"')
     assert day.refusal("1985-04-12 ") == Refusal(10, (), True, "1985-04-12 \n          ^")
-    assert str(day.refusal("1985x")) == 'refused after 4 letters: expected "-"\n1985x\n    ^'
+    assert str(day.refusal("1985x")).startswith('refused after 4 letters: expected "-"')
+    assert str(day.refusal("1985x")).endswith("\n1985x\n    ^")
+    assert str(Refusal(2, ("%x41", '"b"'), True, "")) == 'refused after 2 letters: expected %x41 / "b" or the end'
     for line, at in (("1985-4-12", 6), ("", 0), (b"\xff", 0)):
         found = day.refusal(line)
         assert (found.at, found.can_end, day.viable(line)) == (at, False, at)
@@ -157,7 +161,8 @@ def test_refusals_of_all_kinds():
     either = Abnf('s = "/" / %s"q" / %x22 / %x0A-0B [LF]')
     found = either.refusal("x")
     assert (found.at, found.can_end) == (0, False)
-    assert '"/"' in found.expected and '%s"q"' in found.expected and len(found.expected) >= 4
+    assert len(found.expected) >= 4
+    assert {it.split(" ")[0] for it in found.expected} >= {'"/"', '%s"q"'}
     lines = Abnf('lines = 1*("a" LF)')
     assert (lines.refusal("a\nb").at, lines.refusal("a\nb").can_end) == (2, True)
     assert lines.refusal("a\n\0") == Refusal(2, (), False, "")

@@ -6,6 +6,7 @@ import pathlib
 import shutil
 import socket
 import subprocess
+import sys
 
 import pytest
 
@@ -105,6 +106,14 @@ def test_it_listens_on_loopback_alone(server):
         with socket.socket(family) as it, pytest.raises(OSError):
             it.settimeout(2)
             it.connect((address, port))
+
+
+def test_what_it_lacks_is_said_in_one_line(tmp_path):
+    words = [sys.executable, "-m", "fanquber", "playground", "--no-browser"]
+    environment = {**os.environ, "FANQUBER_CODEMIRROR": str(tmp_path)}
+    ran = subprocess.run(words, env=environment, capture_output=True, text=True)
+    wanted = "fanquber: playground needs CodeMirror 5 (Debian: libjs-codemirror)\n"
+    assert (ran.returncode, ran.stdout, ran.stderr) == (1, "", wanted)
 
 
 def answered(limits=playground.Limits(), **changed):

@@ -17,7 +17,7 @@ from fanquber import Abnf, Peg
 assert fanquber.__file__.startswith(sys.prefix), fanquber.__file__
 day = Abnf('day = 4DIGIT "-" 2DIGIT "-" 2DIGIT')
 assert day.judge(["1985-04-12", "1985-4-12"]) == [True, False]
-assert day.refusal("1985").expected == ('"-"',)
+assert day.refusal("1985").expected[0].startswith('"-"')
 assert list(day.rules) == ["day"]
 assert Peg("S <- < [a-z]+ > { (yytext) }").run("tea").out == b"(tea)\\n"
 """
