@@ -88,6 +88,18 @@ def test_pages_and_names(path):
     assert sorted(it.key for it in seen if not it.defines) == sorted(names.key_of(kind, it) for it in used)
 
 
+def boxes(item):
+    """Returns the texts of an item's boxes, in order."""
+    parts = [*getattr(item, "items", []), *(getattr(item, it) for it in ("item", "rep") if hasattr(item, it))]
+    return [item.text] if type(item).__name__ == "Terminal" else [text for it in parts for text in boxes(it)]
+
+
+def test_letters_that_can_be_misread_are_numbers():
+    text = b's = %x22-23 / %x21.22 / %x41.42 / %x20 / %x7E-7F / "a\\b"'
+    wanted = ['%x22 .. "#"', "%x21.22", '%s"AB"', "%x20", '"~" .. %x7F', '"a\\b"']
+    assert boxes(diagrams.Drawer("abnf", {}).draw(rules_of("abnf", text)["s"])) == wanted
+
+
 def test_texts_are_no_markup():
     text = b"S <- '</text><script>' / [\"'<>&] { <b onclick=\"x\">\001 }\n"
     for svg in diagrams.svgs("peg", rules_of("peg", text)).values():

@@ -7,6 +7,7 @@ import pytest
 from fanquber import Abnf, Finding, GrammarError, Letters, Overlong, Peg, Refusal
 from fanquber._grammars import canonical_text, check
 from fanquber.findings import read_findings
+from fanquber.names import places
 from fanquber.refusals import read_refusal
 from fanquber.trees import read_rules
 
@@ -190,6 +191,20 @@ def test_files(tmp_path):
     for kind in (Abnf, Peg):
         with pytest.raises(OSError):
             kind.from_file(tmp_path / "none")
+
+
+def test_names():
+    text = 'Ab = <c d> "e" %xAB ab ; f\n  / 2g [h]\nAB =/ %s"i"\n'
+    seen = [(it.key, it.at, it.defines) for it in places("abnf", text)]
+    at = [text.index(it) for it in ("Ab", "ab ;", "g [", "h]", "AB =/")]
+    assert seen == list(zip(("ab", "ab", "g", "h", "ab"), at, (True, False, False, False, True)))
+    text = 'S <- \'a\' [b] { c {d} } e # f\nT\n<- "g\\"h" S\n'
+    assert [(it.key, it.defines) for it in places("peg", text)] == [
+        ("S", True),
+        ("e", False),
+        ("T", True),
+        ("S", False),
+    ]
 
 
 def test_close():

@@ -131,9 +131,11 @@ def test_an_answer():
 
 def test_time_is_bounded():
     lines = "a" * 20000 + "b\n"
-    for limits in (playground.Limits(processor=1, memory=1 << 33), playground.Limits(clock=0.7, memory=1 << 33)):
+    for processor, clock in ((1, 60.0), (60, 0.7)):
+        limits = playground.Limits(processor=processor, clock=clock, memory=1 << 33)
         told = answered(limits, grammar=DENSE, input=lines)
         assert (told["broken_by"], told["status"], told["rules"]) == ("time", None, ["s"])
+        assert told["milliseconds"] < 30000
 
 
 def test_memory_is_bounded():
