@@ -1,6 +1,6 @@
 # Proves, builds and tests the tools. Needs the Rattle toolchain's command `rt` and Python 3.
 
-.PHONY: all try programs pegi abnfi abnfx lib example examples install put put-lib dist deb test check edits edits-all clean
+.PHONY: all try programs pegi abnfi abnfx lib wheel example examples install put put-lib dist deb test check edits edits-all clean
 
 all: programs example
 
@@ -23,6 +23,10 @@ pegi abnfi abnfx:
 lib:
 	@python3 -B scripts/build/prove.py fanquber_c
 	@python3 -B scripts/build/library.py
+
+# The package for Python with the shared object inside, in bin/: a file that pip installs. It needs setuptools and wheel.
+wheel: lib
+	@python3 -B scripts/build/wheel.py
 
 # A run of each program: the one rule of the peg(1) manual that replaces `username`, and a line of letters.
 example: programs

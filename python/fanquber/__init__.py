@@ -3,6 +3,9 @@
 `Abnf` and `Peg` hold a grammar. `abnf` and `peg` are one whole run each, as the programs abnfi(1) and pegi(1) make it.
 """
 from ._grammars import Abnf, Peg, PegRun
+from .findings import Finding, Note
+from .refusals import Refusal
+from .trees import Tree
 from ._library import (
     DEFAULT_LIMIT,
     MAX_LIMIT,
@@ -23,18 +26,22 @@ __all__ = [
     "Abnf",
     "DEFAULT_LIMIT",
     "FanquberError",
+    "Finding",
     "GrammarError",
     "Letters",
     "MAX_LIMIT",
     "Mode",
+    "Note",
     "OutOfMemory",
     "Overlong",
     "Peg",
     "PegRun",
+    "Refusal",
     "Reply",
     "Status",
+    "Tree",
     "abnf",
     "peg",
     "peg_each",
 ]
-__version__ = "2.0"
+__version__ = "3.0"

@@ -1,6 +1,8 @@
 """Grammars that are asked more than once."""
+import functools
+import os
 import threading
-from typing import Any, Dict, Iterable, List, NamedTuple, Optional
+from typing import Any, Callable, Dict, Iterable, List, NamedTuple, Optional, TypeVar, Union
 
 from ._library import (
     DEFAULT_LIMIT,
@@ -19,6 +21,13 @@ from ._library import (
     as_bytes,
     peg,
 )
+from .findings import Finding, read_findings
+from .names import first_rule
+from .refusals import Refusal, read_refusal
+from .trees import Tree, read_rules
+
+Path = Union[str, "os.PathLike[str]"]
+Own = TypeVar("Own", bound="_PerThread")
 
 
 def _lines(text: bytes) -> List[str]:
@@ -26,21 +35,85 @@ def _lines(text: bytes) -> List[str]:
     return text.decode("utf-8", "backslashreplace").splitlines()
 
 
-def _raise_fault(reply: Reply) -> None:
-    """Raises what a status stands for that is no answer."""
+def _raise_fault(reply: Reply, findings: Callable[[], List[Finding]]) -> None:
+    """Raises what a status stands for that is no answer. The function returns the findings on the grammar."""
     if reply.status == Status.REFUSED:
-        raise GrammarError(_lines(reply.err))
+        raise GrammarError([it for it in _lines(reply.err) if not it.startswith("  ")], findings())
     if reply.status == Status.OVERLONG:
         raise Overlong(_lines(reply.err)[-1], reply.out)
     if reply.status >= Status.FAULT:
         raise OutOfMemory("out of memory")
 
 
+def _contents(path: Path) -> bytes:
+    with open(path, "rb") as file:
+        return file.read()
+
+
+def check(
+    kind: str,
+    text: Text,
+    rule: Optional[str] = None,
+    *,
+    letters: Letters = Letters.BYTES,
+    nul: bool = False,
+    file: str = "",
+) -> List[Finding]:
+    """Returns the findings on a grammar of a kind, `abnf` or `peg`, whether it is rejected or not. `nul` says that the
+    lines to be judged may hold line feeds. `file` is the grammar's name in findings. `OutOfMemory` if an allocation
+    fails."""
+    if kind == "peg":
+        reply, judged = peg(text, mode=Mode.CHECK, start=rule, explain=True), ""
+    else:
+        reply = abnf(text, mode=Mode.CHECK, rule=rule, letters=letters, nul=nul, explain=True)
+        judged = first_rule("abnf", as_bytes(text)) if rule is None else rule
+    if reply.status >= Status.FAULT:
+        raise OutOfMemory("out of memory")
+    return read_findings(reply.err, file, judged)
+
+
+def canonical_text(kind: str, text: Text, file: str = "") -> bytes:
+    """Returns the canonical text of a grammar of a kind. It may have names without a rule. `GrammarError` if it cannot
+    be read or defines a rule twice, `OutOfMemory` if an allocation fails."""
+    reply = peg(text, mode=Mode.PRINT) if kind == "peg" else abnf(text, mode=Mode.PRINT)
+    _raise_fault(reply, lambda: check(kind, text, file=file))
+    return reply.out
+
+
 class _PerThread:
-    """What opens something for each thread that asks for it."""
+    """A grammar that each thread which asks opens for itself. Use it in a `with`, or call `close`, where what a thread
+    holds is to be freed before the object goes."""
 
     def __init__(self) -> None:
-        self._own = threading.local()
+        self._own, self._closed = threading.local(), False
+
+    def _opened(self, name: str, opens: Callable[[], Any]) -> Any:
+        """Returns what the calling thread opened under a name, or opens it. `ValueError` if the grammar is closed."""
+        if self._closed:
+            raise ValueError("the grammar is closed")
+        it = getattr(self._own, name, None)
+        if it is None:
+            it = opens()
+            _raise_fault(it.opening, self._explained)
+            setattr(self._own, name, it)
+        return it
+
+    def _explained(self) -> List[Finding]:
+        raise NotImplementedError
+
+    def close(self) -> None:
+        """Frees what the calling thread holds. Each later call that judges or runs raises `ValueError`. What another
+        thread holds is freed when that thread ends. A second call does nothing."""
+        self._closed = True
+        for it in vars(self._own).values():
+            it.close()
+        vars(self._own).clear()
+
+    def __enter__(self: Own) -> Own:
+        return self
+
+    def __exit__(self, *_: object) -> None:
+        self.close()
 
     def __getstate__(self) -> Dict[str, Any]:
         return {name: it for name, it in self.__dict__.items() if name != "_own"}
@@ -52,11 +125,13 @@ class _PerThread:
 class Abnf(_PerThread):
     """A grammar in ABNF (RFC 5234, RFC 7405), with the rule that judges lines: the first, if none is named.
 
-    A line is bytes, or a `str`, which stands for its bytes in UTF-8. Its letters are its bytes, or its code points with
-    `Letters.UTF8`. It may hold any byte, and has at most `limit` bytes. `GrammarError` if the grammar is rejected,
-    `OutOfMemory` if an allocation fails; each call that judges lines raises `Overlong` for a line above the limit.
+    A line is bytes, or a `str`, which stands for its bytes in UTF-8. Its letters are its bytes, or its code points
+    with `Letters.UTF8`. It may hold any byte, and has at most `limit` bytes. `GrammarError` if the grammar is
+    rejected, `OutOfMemory` if an allocation fails; each call that judges lines raises `Overlong` for a line above the
+    limit.
 
-    Each thread reads the grammar once, and again to explain.
+    Each thread reads the grammar once, and again for `viable` and `refusal`. `file` is the name of the grammar in
+    findings.
     """
 
     def __init__(
@@ -66,21 +141,45 @@ class Abnf(_PerThread):
         *,
         letters: Letters = Letters.BYTES,
         limit: int = DEFAULT_LIMIT,
+        file: str = "",
     ) -> None:
         super().__init__()
-        self._text = as_bytes(text)
+        self._text, self._file = as_bytes(text), file
         self._rule, self._letters, self._limit = rule, letters, limit
         self.notes: List[str] = _lines(self._judge().opening.err)
         """The notes on the grammar, none of which rejects it."""
 
+    @classmethod
+    def from_file(
+        cls, path: Path, rule: Optional[str] = None, *, letters: Letters = Letters.BYTES, limit: int = DEFAULT_LIMIT
+    ) -> "Abnf":
+        """Returns the grammar of a file, whose name its findings bear. `OSError` if the file cannot be read; else
+        raises what `Abnf` raises."""
+        return cls(_contents(path), rule, letters=letters, limit=limit, file=os.fspath(path))
+
+    def _explained(self) -> List[Finding]:
+        # A line may hold any byte here, so none is out of reach
+        found = check("abnf", self._text, self._rule, letters=self._letters, nul=True, file=self._file)
+        return [it for it in found if it.code != "no-line"]
+
+    @functools.cached_property
+    def findings(self) -> List[Finding]:
+        """The notes and hints on the grammar with their places, as `abnfi -m check -x` gives them, but for the hint
+        that no line is derived: a line here may hold any byte."""
+        return self._explained()
+
+    @functools.cached_property
+    def rules(self) -> Dict[str, Tree]:
+        """The rules as trees (`fanquber.trees`), by name and in order; core rules only if the grammar has them. Names
+        are spelled as where they are defined first."""
+        return read_rules("abnf", self.canonical())
+
     def _judge(self, viable: bool = False) -> AbnfJudge:
         """Returns what judges lines on this thread: it is opened when it is first asked for."""
-        name = "viable" if viable else "plain"
-        judge = getattr(self._own, name, None)
-        if judge is None:
-            judge = AbnfJudge(self._text, limit=self._limit, rule=self._rule, letters=self._letters, viable=viable)
-            _raise_fault(judge.opening)
-            setattr(self._own, name, judge)
+        judge: AbnfJudge = self._opened(
+            "viable" if viable else "plain",
+            lambda: AbnfJudge(self._text, limit=self._limit, rule=self._rule, letters=self._letters, viable=viable),
+        )
         return judge
 
     def _answers(self, lines: Iterable[Text], viable: bool) -> List[Answer]:
@@ -107,17 +206,37 @@ class Abnf(_PerThread):
         answers = self.judge(lines)
         return answers.index(False) if False in answers else None
 
-    def explain(self, line: Text) -> Optional[int]:
+    def viable(self, line: Text) -> Optional[int]:
         """Returns None for a line that the rule derives. Of any other it returns how many letters the longest viable
         prefix has: they begin something that the rule derives, and the letter after them cannot stand there."""
         answer = self._answers([line], viable=True)[0]
         return None if answer.derived else answer.reached
 
+    def refusal(self, line: Text) -> Optional[Refusal]:
+        """Returns None for a line that the rule derives, else why it does not. It makes a whole run, so the grammar is
+        read anew."""
+        data = as_bytes(line)
+        at = self.viable(data)
+        if at is None:
+            return None
+        nul = b"\n" in data
+        if nul and b"\0" in data:
+            return Refusal(at, (), False, "")
+        reply = abnf(
+            self._text,
+            data + (b"\0" if nul else b"\n"),
+            limit=self._limit,
+            rule=self._rule,
+            letters=self._letters,
+            nul=nul,
+            explain=True,
+        )
+        _raise_fault(reply, self._explained)
+        return read_refusal(at, reply.err)
+
     def canonical(self) -> bytes:
         """Returns the text of the grammar in its canonical form."""
-        reply = abnf(self._text, mode=Mode.PRINT)
-        _raise_fault(reply)
-        return reply.out
+        return canonical_text("abnf", self._text, self._file)
 
 
 class PegRun(NamedTuple):
@@ -130,7 +249,7 @@ class PegRun(NamedTuple):
 
 def _peg_run(reply: Reply) -> PegRun:
     """Returns what a run came to, or raises what it stands for."""
-    _raise_fault(reply)
+    _raise_fault(reply, list)
     is_whole = reply.status == Status.DONE
     return PegRun(reply.out, is_whole, "" if is_whole else _lines(reply.err)[-1])
 
@@ -138,25 +257,51 @@ def _peg_run(reply: Reply) -> PegRun:
 class Peg(_PerThread):
     """A grammar in the syntax of peg(1), with its start rule: the first, if none is named.
 
-    `GrammarError` if the grammar is rejected, `OutOfMemory` if an allocation fails. Each thread reads the grammar once.
+    A unit of an input looks at no more than `limit` bytes. `GrammarError` if the grammar is rejected, `OutOfMemory` if
+    an allocation fails. Each thread reads the grammar once. `file` is the name of the grammar in findings.
     """
 
     def __init__(
-        self, text: Text, start: Optional[str] = None, *, raw: bool = False, limit: int = DEFAULT_LIMIT
+        self,
+        text: Text,
+        start: Optional[str] = None,
+        *,
+        raw: bool = False,
+        limit: int = DEFAULT_LIMIT,
+        file: str = "",
     ) -> None:
         super().__init__()
-        self._text = as_bytes(text)
+        self._text, self._file = as_bytes(text), file
         self._start, self._raw, self._limit = start, raw, limit
         self.notes: List[str] = _lines(self._runner().opening.err)
         """The notes on the grammar, none of which rejects it."""
 
+    @classmethod
+    def from_file(
+        cls, path: Path, start: Optional[str] = None, *, raw: bool = False, limit: int = DEFAULT_LIMIT
+    ) -> "Peg":
+        """Returns the grammar of a file, whose name its findings bear. `OSError` if the file cannot be read; else
+        raises what `Peg` raises."""
+        return cls(_contents(path), start, raw=raw, limit=limit, file=os.fspath(path))
+
+    def _explained(self) -> List[Finding]:
+        return check("peg", self._text, self._start, file=self._file)
+
+    @functools.cached_property
+    def findings(self) -> List[Finding]:
+        """The notes and hints on the grammar with their places, as `pegi -m check -x` gives them."""
+        return self._explained()
+
+    @functools.cached_property
+    def rules(self) -> Dict[str, Tree]:
+        """The rules as trees (`fanquber.trees`), by name and in order."""
+        return read_rules("peg", self.canonical())
+
     def _runner(self) -> PegRunner:
         """Returns what runs the grammar on this thread: it is opened when it is first asked for."""
-        runner = getattr(self._own, "runner", None)
-        if runner is None:
-            runner = PegRunner(self._text, limit=self._limit, start=self._start, raw=self._raw)
-            _raise_fault(runner.opening)
-            self._own.runner = runner
+        runner: PegRunner = self._opened(
+            "runner", lambda: PegRunner(self._text, limit=self._limit, start=self._start, raw=self._raw)
+        )
         return runner
 
     def run(self, data: Text) -> PegRun:
@@ -171,6 +316,4 @@ class Peg(_PerThread):
 
     def canonical(self) -> bytes:
         """Returns the text of the grammar in its canonical form."""
-        reply = peg(self._text, mode=Mode.PRINT)
-        _raise_fault(reply)
-        return reply.out
+        return canonical_text("peg", self._text, self._file)

@@ -5,6 +5,8 @@ import os
 import threading
 from typing import Any, Dict, List, NamedTuple, Optional, Sequence, Tuple, Union
 
+from .findings import Finding
+
 Text = Union[bytes, str]
 
 DEFAULT_LIMIT = 65536
@@ -52,11 +54,11 @@ class FanquberError(Exception):
 
 
 class GrammarError(FanquberError):
-    """The grammar is rejected. `notes` has the lines that say why."""
+    """The grammar is rejected. `notes` has the lines that say why, and `findings` the same with places."""
 
-    def __init__(self, notes: "list[str]") -> None:
+    def __init__(self, notes: List[str], findings: Sequence[Finding] = ()) -> None:
         super().__init__("; ".join(notes))
-        self.notes = notes
+        self.notes, self.findings = notes, list(findings)
 
 
 class Overlong(FanquberError):
@@ -103,10 +105,24 @@ class _Answer(ctypes.Structure):
     _fields_ = [("reached", ctypes.c_size_t), ("status", ctypes.c_uint8)]
 
 
+def library_path() -> str:
+    """Returns the shared object: the file that FANQUBER_LIBRARY names, or else the one in the package's folder, where
+    a wheel has it, or else the name by which the system finds it."""
+    beside = os.path.join(os.path.dirname(os.path.abspath(__file__)), _SONAME)
+    return os.environ.get("FANQUBER_LIBRARY") or (beside if os.path.isfile(beside) else _SONAME)
+
+
+def loaded_path() -> str:
+    """Returns the file of the shared object that this process has loaded, for a process without its environment."""
+    with open("/proc/self/maps") as maps:
+        return next((it.split()[-1] for it in maps if it.rstrip().endswith(f"/{_SONAME}")), library_path())
+
+
 def _loaded() -> ctypes.CDLL:
-    """Returns the shared object: the file that FANQUBER_LIBRARY names, or else the one that the system finds."""
-    library = ctypes.CDLL(os.environ.get("FANQUBER_LIBRARY") or _SONAME)
-    settings, text = [ctypes.POINTER(_Settings)], [ctypes.c_char_p, ctypes.c_size_t]
+    """Returns the shared object with the types of its calls."""
+    library = ctypes.CDLL(library_path())
+    settings: List[Any] = [ctypes.POINTER(_Settings)]
+    text: List[Any] = [ctypes.c_char_p, ctypes.c_size_t]
     windows = [ctypes.POINTER(_Window), ctypes.c_size_t, ctypes.POINTER(_Result), ctypes.c_size_t]
     library.fanquber_peg.argtypes = library.fanquber_abnf.argtypes = settings + text * 5
     library.fanquber_peg_windows.argtypes = settings + text * 3 + windows + text * 2
@@ -117,7 +133,11 @@ def _loaded() -> ctypes.CDLL:
     for call in ("fanquber_abnf_close", "fanquber_peg_close"):
         getattr(library, call).argtypes, getattr(library, call).restype = place, None
     for call in (
-        "fanquber_peg", "fanquber_abnf", "fanquber_peg_windows", "fanquber_abnf_open", "fanquber_peg_open",
+        "fanquber_peg",
+        "fanquber_abnf",
+        "fanquber_peg_windows",
+        "fanquber_abnf_open",
+        "fanquber_peg_open",
         "fanquber_peg_run",
     ):
         getattr(library, call).restype = _Result
@@ -259,14 +279,19 @@ class _Opened:
         self.opening = Reply(b"", err.raw[: got.err_len], _status(got))
         """What a run that checks the grammar writes."""
 
-    def __del__(self) -> None:
-        place = getattr(self, "_place", None)
+    def close(self) -> None:
+        """Frees what the grammar holds. On another thread than its own it leaves that to this thread, which does it
+        when it opens the next grammar."""
+        place = self.__dict__.pop("_place", None)
         if place is None:
-            return  # the settings were rejected
+            return  # closed, or the settings were rejected
         if threading.get_ident() == self._thread:
             self._closes(ctypes.byref(place))
         else:
             _left.setdefault(self._thread, []).append((self._closes, place))
+
+    def __del__(self) -> None:
+        self.close()
 
 
 class AbnfJudge(_Opened):
@@ -302,6 +327,6 @@ class PegRunner(_Opened):
             out, err = self._out, self._err
             got = _library.fanquber_peg_run(ctypes.byref(self._place), data, len(data), out, len(out), err, len(err))
             if got.out_len <= len(out) and got.err_len <= len(err):
-                return Reply(out[: got.out_len], err[: got.err_len], Status(got.status))
+                return Reply(out.raw[: got.out_len], err.raw[: got.err_len], Status(got.status))
             self._out = ctypes.create_string_buffer(max(len(out), got.out_len))
             self._err = ctypes.create_string_buffer(max(len(err), got.err_len))

@@ -23,7 +23,7 @@ class AbnfTest(unittest.TestCase):
         self.assertTrue(day.derives("1985-04-12"))
         self.assertEqual(day.first_refused(["1985-04-12", "1985-4-12", ""]), 1)
         self.assertIsNone(day.first_refused(["1985-04-12"]))
-        self.assertEqual([day.explain(it) for it in ("1985-04-12", "1985-4-12", "", "1985-04-12 ")], [None, 6, 0, 10])
+        self.assertEqual([day.viable(it) for it in ("1985-04-12", "1985-4-12", "", "1985-04-12 ")], [None, 6, 0, 10])
 
     def test_line_ends_in_lines(self):
         lines = Abnf('lines = *(*ALPHA LF)')
@@ -35,7 +35,7 @@ class AbnfTest(unittest.TestCase):
         self.assertTrue(Abnf("e = %xE9", letters=Letters.UTF8).derives("\u00e9"))
         self.assertFalse(Abnf("e = %xE9", letters=Letters.UTF8).derives(b"\xe9"))
         self.assertTrue(Abnf("e = %xE9").derives(b"\xe9"))
-        self.assertEqual(Abnf('e = "\\" %xE9 "x"', letters=Letters.UTF8).explain("\\\u00e9y"), 2)
+        self.assertEqual(Abnf('e = "\\" %xE9 "x"', letters=Letters.UTF8).viable("\\\u00e9y"), 2)
 
     def test_rules_and_notes(self):
         two = 'a = "x"\nb = "y"\n'
@@ -55,7 +55,7 @@ class AbnfTest(unittest.TestCase):
             short.judge(["x", "xxx"])
         self.assertEqual((str(refused.exception), refused.exception.out), ("line 2 longer than 2 bytes", b"yes\n"))
         with self.assertRaises(Overlong):
-            short.explain("xxx")
+            short.viable("xxx")
         for limit in (0, -1, fanquber.MAX_LIMIT + 1, 2**64 + 1):
             with self.assertRaises(ValueError):
                 Abnf(DAY, limit=limit)

@@ -104,7 +104,8 @@ class Test:
         else:
             print("library: Rust: no compiler rustc: skipped")
         self.environment |= {"FANQUBER_LIBRARY": str(self.folder / SONAME), "PYTHONPATH": str(TOP / "python")}
-        found = self.ends("python", [sys.executable, "-B", "-m", "unittest", "discover", "-s", TOP / "python/tests"])
+        words = ["-m", "unittest", "discover", "-s", TOP / "python/tests", "-p", "test_fanquber.py"]
+        found = self.ends("python", [sys.executable, "-B", *words])
         return found.stderr.decode().splitlines()[-3:-2]
 
 

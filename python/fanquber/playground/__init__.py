@@ -1,0 +1,253 @@
+"""A page on this machine that shows what a grammar means while it is typed.
+
+The server answers on 127.0.0.1 alone, and only the page that it gave out itself: each question bears a secret that
+stands in the address which is printed. A question is a grammar and an input; it names no file, and none is read or
+written for it. A process of its own answers each, within limits. HTTP is that of waitress and Flask, the editor
+CodeMirror 5, which FANQUBER_CODEMIRROR names the folder of where it is not that of Debian.
+"""
+import hmac
+import json
+import os
+import pathlib
+import secrets
+import shlex
+import signal
+import subprocess
+import sys
+import tempfile
+import threading
+import time
+import webbrowser
+from typing import Any, Dict, List, NamedTuple, Set, Tuple
+
+import flask
+import railroad  # noqa: F401, the worker draws by it
+import waitress
+
+from .._library import loaded_path
+from .worker import MEGABYTE
+
+MOST = 256 * 1024
+"""The bytes that a question may have."""
+_HERE = pathlib.Path(__file__).parent
+_EDITOR = pathlib.Path(os.environ.get("FANQUBER_CODEMIRROR") or "/usr/share/javascript/codemirror")
+_FILES = {
+    "page.js": (_HERE, "text/javascript"),
+    "page.css": (_HERE, "text/css"),
+    "diagrams.css": (_HERE.parent / "data", "text/css"),
+    "lib/codemirror.js": (_EDITOR, "text/javascript"),
+    "lib/codemirror.css": (_EDITOR, "text/css"),
+    "addon/mode/simple.js": (_EDITOR, "text/javascript"),
+    "addon/lint/lint.js": (_EDITOR, "text/javascript"),
+    "addon/lint/lint.css": (_EDITOR, "text/css"),
+}
+_HEADERS = {
+    "Content-Security-Policy": "default-src 'none'; script-src 'self'; style-src 'self'; img-src 'self' data:; "
+    "connect-src 'self'; base-uri 'none'; form-action 'none'; frame-ancestors 'none'",
+    "X-Content-Type-Options": "nosniff",
+    "X-Frame-Options": "DENY",
+    "Referrer-Policy": "no-referrer",
+    "Cross-Origin-Opener-Policy": "same-origin",
+    "Cross-Origin-Resource-Policy": "same-origin",
+    "Cache-Control": "no-store",
+}
+_CHOICES = {"kind": ("abnf", "peg"), "letters": ("bytes", "utf8"), "cut": ("lines", "whole"), "ends": ("lf", "crlf")}
+_TEXTS = {"grammar", "input", "rule", *_CHOICES}
+
+
+class Limits(NamedTuple):
+    """What one answer may take."""
+
+    memory: int = 512 * MEGABYTE
+    """Address space, in bytes."""
+    processor: int = 5
+    """Processor time, in seconds."""
+    clock: float = 6.0
+    """Time on the clock, in seconds."""
+    output: int = MEGABYTE
+    """Bytes of the run's output that are shown."""
+
+
+def answer(asked: Dict[str, str], limits: Limits = Limits()) -> Dict[str, Any]:
+    """Returns all that the page shows of a grammar and an input. `broken_by` says what ended the run early: nothing,
+    `time`, `output`, `a signal` or `a fault`."""
+    began = time.monotonic()
+    start = {
+        "folder": str(_HERE.parents[1]),
+        "library": loaded_path(),
+        "memory": limits.memory,
+        "seconds": limits.processor,
+        "output": limits.output,
+    }
+    said: Dict[str, Any] = {
+        "rules": [],
+        "canonical": "",
+        "diagrams": [],
+        "findings": [],
+        "stops": [],
+        "out": "",
+        "status": None,
+    }
+    parts, broken_by = _work([start, asked], limits.clock)
+    for part in parts:
+        said.update(part)
+    said["broken_by"] = broken_by or ("output" if said.pop("cut", False) else "")
+    said["command"] = script(asked)
+    said["milliseconds"] = round(1000 * (time.monotonic() - began))
+    return said
+
+
+def _work(given: List[Dict[str, Any]], seconds: float) -> Tuple[List[Dict[str, Any]], str]:
+    """Returns the parts that the worker writes in that time on the clock, and what ended it early."""
+    with tempfile.TemporaryFile() as lines, tempfile.TemporaryFile() as out:
+        lines.write(b"".join(json.dumps(it).encode() + b"\n" for it in given))
+        lines.seek(0)
+        words = [sys.executable, "-I", "-B", str(_HERE / "worker.py")]
+        environment: Dict[str, str] = {}
+        process = subprocess.Popen(
+            words, stdin=lines, stdout=out, stderr=subprocess.DEVNULL, env=environment, cwd="/", start_new_session=True
+        )
+        try:
+            status = process.wait(seconds)
+        except subprocess.TimeoutExpired:
+            process.kill()
+            process.wait()
+            status = -signal.SIGXCPU
+        out.seek(0)
+        # The last line of a process that was ended may be cut
+        parts = [json.loads(it) for it in out if it.endswith(b"\n")]
+    early = {0: "", -signal.SIGXCPU: "time"}.get(status, "a signal" if status < 0 else "a fault")
+    return parts, early
+
+
+def script(asked: Dict[str, str]) -> str:
+    """Returns a script for a shell that makes the same files and the same run by `abnfi` or `pegi`."""
+    words = ["pegi" if asked["kind"] == "peg" else "abnfi", "-x"]
+    if asked["kind"] == "abnf":
+        words += [
+            "-w",
+            *(["-u", "utf8"] if asked["letters"] == "utf8" else []),
+            *(["-z"] if asked["cut"] == "whole" else []),
+        ]
+    words += ["-s=" + asked["rule"]] if asked["rule"] else []
+    lines = {it for part in ("grammar", "input") for it in asked[part].split("\n")}
+    end = next(it for it in ("END", *(f"END{at}" for at in range(len(lines) + 1))) if it not in lines)
+    grammar = f"grammar.{asked['kind']}"
+    crlf = "sed 's/$/\\r/'" if asked["ends"] == "crlf" else ""
+    made = _file(grammar, asked["grammar"], "", end) + _file("input.txt", asked["input"], crlf, end)
+    return f"{made}{shlex.join([*words, grammar])} < input.txt\n"
+
+
+def _file(name: str, text: str, change: str, end: str) -> str:
+    """Returns the lines of a script that make a file. A text after << ends with a line feed, so one more may be
+    cut."""
+    whole = text.endswith("\n")
+    cut = "" if whole else f" | head -c -{2 if change else 1}"
+    last = "" if whole else "\n"
+    return f"{change or 'cat'} <<'{end}'{cut} > {name}\n{text}{last}{end}\n"
+
+
+def is_question(asked: Any) -> bool:
+    """Returns whether what was sent is a question: exactly these texts, choices of these."""
+    return (
+        isinstance(asked, dict)
+        and set(asked) == _TEXTS
+        and all(isinstance(it, str) for it in asked.values())
+        and all(asked[it] in allowed for it, allowed in _CHOICES.items())
+        and "\0" not in asked["rule"]
+    )
+
+
+def _refuse(hosts: Set[str], secret: str) -> None:
+    """Aborts a request that does not come from the page of this server."""
+    request = flask.request
+    if request.method not in ("GET", "POST"):
+        flask.abort(405)
+    # A page of another name that resolves to this machine has another Host
+    if request.headers.get("Host") not in hosts:
+        flask.abort(403)
+    origin = request.headers.get("Origin")
+    if origin is not None and origin not in {f"http://{it}" for it in hosts}:
+        flask.abort(403)
+    if request.headers.get("Sec-Fetch-Site", "none") not in ("same-origin", "none"):
+        flask.abort(403)
+    if request.method == "POST":
+        given = request.headers.get("X-Fanquber-Secret", "")
+        if not hmac.compare_digest(given.encode(), secret.encode()):
+            flask.abort(403)
+        # Another origin cannot send this type without asking first, which is never allowed
+        if request.mimetype != "application/json":
+            flask.abort(415)
+
+
+def page_app(port: int, secret: str) -> flask.Flask:
+    """Returns the application that answers at a port of 127.0.0.1 whoever has the secret."""
+    app = flask.Flask(__name__, static_folder=None)
+    app.config["MAX_CONTENT_LENGTH"] = MOST
+    hosts = {f"127.0.0.1:{port}", f"localhost:{port}"}
+    turns = threading.BoundedSemaphore(2)
+    app.before_request(lambda: _refuse(hosts, secret))
+
+    @app.after_request
+    def head(reply: flask.Response) -> flask.Response:
+        reply.headers.update(_HEADERS)
+        return reply
+
+    @app.get("/")
+    def page() -> flask.Response:
+        return flask.send_file(_HERE / "page.html", mimetype="text/html")
+
+    @app.get("/files/<path:name>")
+    def file(name: str) -> flask.Response:
+        if name not in _FILES:
+            flask.abort(404)
+        folder, kind = _FILES[name]
+        return flask.send_file(folder / name, mimetype=kind)
+
+    @app.post("/answer")
+    def answered() -> flask.Response:
+        asked: Any = flask.request.get_json()
+        if not is_question(asked):
+            flask.abort(400)
+        if not turns.acquire(timeout=10):
+            flask.abort(503)
+        try:
+            return flask.jsonify(answer(asked))
+        finally:
+            turns.release()
+
+    return app
+
+
+def serve(port: int, browser: bool) -> int:
+    """Serves the page at a port of 127.0.0.1, a free one for 0, until it is interrupted; opens it in a browser if
+    asked to. Prints its address. The status is 1 where CodeMirror is missing or the port is taken."""
+    if not (_EDITOR / "lib/codemirror.js").is_file():
+        print("fanquber: playground needs CodeMirror 5 (Debian: libjs-codemirror)", file=sys.stderr)
+        return 1
+    secret = secrets.token_urlsafe(24)
+    late: List[flask.Flask] = []
+    try:
+        server = waitress.create_server(
+            lambda environ, begin: late[0](environ, begin),
+            host="127.0.0.1",
+            port=port,
+            threads=4,
+            max_request_body_size=MOST,
+            channel_timeout=30,
+            connection_limit=50,
+            ident=None,
+        )
+    except OSError as fault:
+        print(f"fanquber: port {port}: {fault.strerror}", file=sys.stderr)
+        return 1
+    late.append(page_app(server.effective_port, secret))
+    address = f"http://127.0.0.1:{server.effective_port}/#{secret}"
+    print(address, flush=True)
+    if browser:
+        webbrowser.open(address)
+    try:
+        server.run()
+    except KeyboardInterrupt:
+        pass
+    return 0
