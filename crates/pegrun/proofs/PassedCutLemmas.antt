@@ -130,8 +130,8 @@ module _ {R : Type 0} (remaining : R → Option (List ℕ)) (units : ByteUnits) 
 -- what is seen once n bytes were dropped: they stand after those before
 module _ {R : Type 0} (grown held skipped : Feed R) (before : List ℕ) (n : ℕ) (same : SameFeed grown held)
     (bytes : bytes_of skipped ≡ drop n (bytes_of held)) where
-  slid : (before ++ take n (bytes_of grown)) ++ bytes_of skipped ≡ before ++ bytes_of grown
-  slid = ap (λ t. (before ++ take n (bytes_of grown)) ++ t) (bytes ∙ ap (drop n) same.bytes)
+  bytes_slid : (before ++ take n (bytes_of grown)) ++ bytes_of skipped ≡ before ++ bytes_of grown
+  bytes_slid = ap (λ t. (before ++ take n (bytes_of grown)) ++ t) (bytes ∙ ap (drop n) same.bytes)
       ∙ slides-bytes before (bytes_of grown) n
 
   pub consumed_after : (remaining : R → Option (List ℕ)) (first : Option (List ℕ))
@@ -140,13 +140,13 @@ module _ {R : Type 0} (grown held skipped : Feed R) (before : List ℕ) (n : ℕ
   consumed_after remaining first reader seen =
       subst (λ (r : R). Consumes first (remaining r) ((before ++ take n (bytes_of grown)) ++ bytes_of skipped))
       (sym (reader ∙ same.reader))
-      (subst (λ (t : List ℕ). Consumes first (remaining (reader_of grown)) t) (sym slid) seen)
+      (subst (λ (t : List ℕ). Consumes first (remaining (reader_of grown)) t) (sym bytes_slid) seen)
 
   pub agrees_before : (input : Input) → flow_of skipped ≡ flow_of held
       → Agrees ((before ++ take n (bytes_of grown)) ++ bytes_of skipped) (flow_of skipped) input
       → Agrees (before ++ bytes_of grown) (flow_of grown) input
   agrees_before input flow agrees =
-      subst (λ (t : List ℕ). Agrees t (flow_of grown) input) slid
+      subst (λ (t : List ℕ). Agrees t (flow_of grown) input) bytes_slid
       (subst (λ (f : Flow). Agrees ((before ++ take n (bytes_of grown)) ++ bytes_of skipped) f input)
       (flow ∙ same.flow) agrees)
 
