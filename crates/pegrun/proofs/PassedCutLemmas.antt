@@ -2,18 +2,20 @@
 -- Serves: run_peg (right)
 use Rattle.std.proofs.Common.{◌≡◌, ℕ, ◌+◌, ◌*◌, ◌≤◌, Bool, true, false, List, [], ◌∷◌, ◌++◌, length, Option, refl, sym}
 use Rattle.std.proofs.Common.{◌∙◌, ap, subst}
-use Rattle.std.proofs.Common.{arith, inr, append_assoc, length-append}
+use Rattle.std.proofs.Common.{arith, drop, inr, append_assoc, length-append, length-drop, take}
 use Rattle.std.specs.Prelude.{Result, Ok, Err}
 use Rattle.std.proofs.lemmas.List.{append-nil}
 use Rattle.std.specs.Io.KnownBytes.{Appends, Consumes}
 use Rattle.ruletable.specs.declared.sink.WriteFault.{WriteFault}
 use Rattle.ruletable.proofs.AppendsLemmas.{Appends-join, Appends-same, AppendsPart-join, Consumes-join}
 use Rattle.ruletable.specs.Writing.{AppendsPart}
-use Rattle.feed.specs.Feed.{bytes_of, flow_of, reader_of}
+use Rattle.feed.specs.Feed.{Grows, SameFeed, allowance_of, bytes_of, flow_of, reader_of}
 use Rattle.feed.specs.declared.feed.Feed.{Feed}
+use Rattle.feed.specs.declared.held.Flow.{Flow}
 use Rattle.gramcheck.specs.Grammar.{Grammar}
 use Rattle.pegread.specs.Pattern.{Rule}
 use Rattle.pegread.specs.PegViews.{rules_of}
+use Rattle.toolrun.proofs.AgreesLemmas.{slides-bytes}
 use Rattle.toolrun.specs.Agrees.{Agrees}
 use Rattle.toolrun.specs.Input.{Input}
 use Rattle.toolrun.specs.declared.ending.Ending.TheVariants.{Plain}
@@ -124,6 +126,88 @@ module _ {R : Type 0} (remaining : R → Option (List ℕ)) (units : ByteUnits) 
       (append_assoc before (bytes_of old) p.more)
       (Consumes-join first (remaining (reader_of old)) (remaining (reader_of new)) (before ++ bytes_of old) p.more c
       p.gives)
+
+-- what is seen once n bytes were dropped: they stand after those before
+module _ {R : Type 0} (grown held skipped : Feed R) (before : List ℕ) (n : ℕ) (same : SameFeed grown held)
+    (bytes : bytes_of skipped ≡ drop n (bytes_of held)) where
+  bytes_slid : (before ++ take n (bytes_of grown)) ++ bytes_of skipped ≡ before ++ bytes_of grown
+  bytes_slid = ap (λ t. (before ++ take n (bytes_of grown)) ++ t) (bytes ∙ ap (drop n) same.bytes)
+      ∙ slides-bytes before (bytes_of grown) n
+
+  pub consumed_after : (remaining : R → Option (List ℕ)) (first : Option (List ℕ))
+      → reader_of skipped ≡ reader_of held → Consumes first (remaining (reader_of grown)) (before ++ bytes_of grown)
+      → Consumes first (remaining (reader_of skipped)) ((before ++ take n (bytes_of grown)) ++ bytes_of skipped)
+  consumed_after remaining first reader seen =
+      subst (λ (r : R). Consumes first (remaining r) ((before ++ take n (bytes_of grown)) ++ bytes_of skipped))
+      (sym (reader ∙ same.reader))
+      (subst (λ (t : List ℕ). Consumes first (remaining (reader_of grown)) t) (sym bytes_slid) seen)
+
+  pub agrees_before : (input : Input) → flow_of skipped ≡ flow_of held
+      → Agrees ((before ++ take n (bytes_of grown)) ++ bytes_of skipped) (flow_of skipped) input
+      → Agrees (before ++ bytes_of grown) (flow_of grown) input
+  agrees_before input flow agrees =
+      subst (λ (t : List ℕ). Agrees t (flow_of grown) input) bytes_slid
+      (subst (λ (f : Flow). Agrees ((before ++ take n (bytes_of grown)) ++ bytes_of skipped) f input)
+      (flow ∙ same.flow) agrees)
+
+-- what is held and what may come still, after a feed read more and n bytes were dropped
+pub room_after : {R : Type 0} (remaining : R → Option (List ℕ)) (old grown held skipped : Feed R) (limit place n : ℕ)
+    → Grows remaining old grown → SameFeed grown held → bytes_of skipped ≡ drop n (bytes_of held)
+    → allowance_of skipped ≡ allowance_of held → n ≤ length (bytes_of grown)
+    → place + length (bytes_of old) + allowance_of old ≡ limit
+    → place + n + length (bytes_of skipped) + allowance_of skipped ≡ limit
+room_after remaining old grown held skipped limit place n grew same bytes allowance le within =
+    let kept = ap length bytes in
+    let held_len = ap length same.bytes in
+    let more = ap length grew.bytes in
+    let left = same.allowance in
+    let left_old = grew.allowance in
+    omega (
+      arith,
+      kept,
+      held_len,
+      length-drop n (bytes_of held),
+      allowance,
+      left,
+      left_old,
+      more,
+      length-append (bytes_of old) grew.more,
+      within,
+      le,
+    )
+
+module _ {R : Type 0} (remaining : R → Option (List ℕ)) (units : ByteUnits) (settings : PegSettings) (old new : Feed R)
+    (was is : Option (List ℕ)) (result : Result Passed WriteFault)
+    (p : HasPassed remaining units settings old new was is result) (limit place : ℕ)
+    (within : place + length (bytes_of old) + allowance_of old ≡ limit) where
+  -- likewise, after units of m bytes were run
+  pub room_passed : (m : ℕ) → length p.gone ≡ m → place + m + length (bytes_of new) + allowance_of new ≡ limit
+  room_passed m count =
+      let now = ap length p.bytes in
+      let left = p.allowance in
+      omega (
+        arith,
+        now,
+        left,
+        length-append (bytes_of old) p.more,
+        length-append p.gone (bytes_of new),
+        count,
+        within,
+      )
+
+  -- all that is seen, where the feed began after these bytes
+  pub seen_fits : (before : List ℕ) → length before ≡ place
+      → allowance_of new + length (before ++ (bytes_of old ++ p.more)) ≡ limit
+  seen_fits before here =
+      let left = p.allowance in
+      omega (
+        arith,
+        left,
+        length-append (bytes_of old) p.more,
+        length-append before (bytes_of old ++ p.more),
+        here,
+        within,
+      )
 
 -- What was written so far of each input that agrees with what is seen: the units up to a place, what is kept of the
 -- last of them, and how many matches were asked for.

@@ -1,12 +1,12 @@
 -- One more unit, or the end.
 use Rattle.std.proofs.Common.{◌≡◌, false, [], ◌++◌, ◌+◌, ◌≤◌, ◌∙◌, length, take, refl, ap, rules, arith}
-use Rattle.std.proofs.Common.{length-append, length-drop}
+use Rattle.std.proofs.Common.{length-append}
 use Rattle.std.specs.Io.KnownBytes.{Consumes}
-use Rattle.feed.specs.Feed.{bytes_of, reader_of}
+use Rattle.feed.specs.Feed.{bytes_of, input_limit, reader_of}
 use Rattle.ruletable.proofs.AppendsLemmas.{Appends-same}
 use Rattle.feed.proofs.GrowsLemmas.{Consumes-same}
 use Rattle.pegrun.specs.Units.{none}
-use Rattle.toolrun.proofs.AgreesLemmas.{agrees_earlier, seen_more, slides-bytes, slides-len}
+use Rattle.toolrun.proofs.AgreesLemmas.{agrees_earlier, seen_more, slides-len}
 use Rattle.pegrun.proofs.CutLemmas.{one_more_unit, stops_at_place, fails_there, unit_kept}
 use Rattle.pegrun.proofs.FollowsLemmas.{follows_front, front_is_first}
 use Rattle.matchfailure.specs.NoMatches.{unit_before}
@@ -14,8 +14,9 @@ use Rattle.pegread.specs.PegViews.{rules_of}
 use Rattle.pegrun.specs.MatchCalls.{calls_of}
 use Rattle.pegrun.specs.PastUnits.{Follows}
 use Rattle.pegrun.specs.StopsExplained.{UnitBefore}
-use Rattle.pegrun.proofs.PassedCutLemmas.{consumed_now, cut_at_fault, cut_at_write_fault, none_more}
-use Rattle.pegrun.proofs.PassedCutLemmas.{not_asked, not_broken, written_on}
+use Rattle.pegrun.proofs.PassedCutLemmas.{agrees_before, consumed_after, consumed_now, cut_at_fault, cut_at_write_fault}
+use Rattle.pegrun.proofs.PassedCutLemmas.{none_more, not_asked, not_broken, room_after, room_passed, seen_fits}
+use Rattle.pegrun.proofs.PassedCutLemmas.{written_on}
 use Rattle.pegrun.proofs.engine.cut.Goals as goal
 
 pub loop-n-init : goal.loop-n-init
@@ -65,44 +66,17 @@ pass-requires-clause-stands g c = λ asked.
 -- the position after units of one byte
 pub overflow_add-start-in-Ok-Units : goal.overflow_add-start-in-Ok-Units
 overflow_add-start-in-Ok-Units g c =
-    let so_far = c.loop-n.invariant.written in
     let grew = c.in-Ok-Takes.ensures.grows in
     let same = c.pass.ensures.same in
-    let items = c.next_unit.new.feed.ring.items in
     let n = c.in-Ok-Takes.n in
     let fits = (rw c.in-Ok-Takes.field-0-is at c.in-Ok-Takes.ensures.fits) in
-    let le : n ≤ length items = omega (arith, fits.1) in
-    let first = so_far.0 ++ take n items in
-    let here : length first ≡ c.loop-n.start + n = slides-len so_far.0 items n c.loop-n.start so_far.1 le in
-    let seen : Consumes (g.R.Source.remaining (reader_of c.args.feed.now))
-    (g.R.Source.remaining (reader_of c.skip.new.self)) (first ++ bytes_of c.skip.new.self) =
-    rw (c.skip.ensures.reader, same.reader, c.skip.ensures.bytes, same.bytes, slides-bytes so_far.0 items n)
-    (seen_more _ _ _ grew so_far.0 _ so_far.3) in
-    let known = c.in-Ok-Takes.ensures.units c.loop-n.invariant.units in
+    let le : n ≤ length c.next_unit.new.feed.ring.items = omega (arith, fits.1) in
+    let room = room_after g.R.Source.remaining c.loop-n.feed c.next_unit.new.feed c.pass.new.feed c.skip.new.self
+    input_limit c.loop-n.start n grew same c.skip.ensures.bytes c.skip.ensures.allowance le
+    c.loop-n.invariant.within in
     let p = (rw c.in-Ok-Units.field-0-is at c.in-Ok-Units.ensures.passed) in
-    let p_count = p.count in
-    let kept = ap length c.skip.ensures.bytes in
-    let more = ap length grew.bytes in
-    let here_len = ap length same.bytes in
-    let now = ap length p.bytes in
-    omega (
-      arith,
-      kept,
-      here_len,
-      length-drop n c.pass.new.feed.ring.items,
-      c.skip.ensures.allowance,
-      same.allowance,
-      grew.allowance,
-      more,
-      length-append c.loop-n.feed.ring.items grew.more,
-      c.loop-n.invariant.within,
-      le,
-      now,
-      length-append c.skip.new.self.ring.items p.more,
-      length-append p.gone (bytes_of c.pass_known.new.feed),
-      p.allowance,
-      p_count,
-    )
+    let passed = room_passed _ _ _ _ _ _ _ _ p input_limit (c.loop-n.start + n) room c.in-Ok-Units.n p.count in
+    omega (arith, passed)
 
 pub loop-n-preserved : goal.loop-n-preserved
 loop-n-preserved g c =
@@ -115,38 +89,19 @@ loop-n-preserved g c =
     let le : n ≤ length items = omega (arith, fits.1) in
     let first = so_far.0 ++ take n items in
     let here : length first ≡ c.loop-n.start + n = slides-len so_far.0 items n c.loop-n.start so_far.1 le in
-    let seen : Consumes (g.R.Source.remaining (reader_of c.args.feed.now))
-    (g.R.Source.remaining (reader_of c.skip.new.self)) (first ++ bytes_of c.skip.new.self) =
-    rw (c.skip.ensures.reader, same.reader, c.skip.ensures.bytes, same.bytes, slides-bytes so_far.0 items n)
+    let seen = consumed_after c.next_unit.new.feed c.pass.new.feed c.skip.new.self so_far.0 n same c.skip.ensures.bytes
+    g.R.Source.remaining (g.R.Source.remaining (reader_of c.args.feed.now)) c.skip.ensures.reader
     (seen_more _ _ _ grew so_far.0 _ so_far.3) in
     let known = c.in-Ok-Takes.ensures.units c.loop-n.invariant.units in
+    let room = room_after g.R.Source.remaining c.loop-n.feed c.next_unit.new.feed c.pass.new.feed c.skip.new.self
+    input_limit c.loop-n.start n grew same c.skip.ensures.bytes c.skip.ensures.allowance le
+    c.loop-n.invariant.within in
     let p = (rw c.in-Ok-Units.field-0-is at c.in-Ok-Units.ensures.passed) in
     let m = c.in-Ok-Units.n in
     let p_count = p.count in
     record {
       capacity = p.capacity ∙ c.skip.ensures.capacity ∙ same.capacity ∙ grew.capacity ∙ c.loop-n.invariant.capacity;
-      within = let kept = ap length c.skip.ensures.bytes in
-          let more = ap length grew.bytes in
-          let here_len = ap length same.bytes in
-          let now = ap length p.bytes in
-          omega (
-            arith,
-            kept,
-            here_len,
-            length-drop n c.pass.new.feed.ring.items,
-            c.skip.ensures.allowance,
-            same.allowance,
-            grew.allowance,
-            more,
-            length-append c.loop-n.feed.ring.items grew.more,
-            c.loop-n.invariant.within,
-            le,
-            now,
-            length-append c.skip.new.self.ring.items p.more,
-            length-append p.gone (bytes_of c.pass_known.new.feed),
-            p.allowance,
-            p_count,
-          );
+      within = room_passed _ _ _ _ _ _ _ _ p input_limit (c.loop-n.start + n) room m p_count;
       told = c.in-Ok-Units.ensures.told;
       loan = c.in-Ok-Units.ensures.loan ∙ c.skip.ensures.loan ∙ same.loan ∙ c.in-Ok-Takes.ensures.loan
           ∙ c.loop-n.invariant.loan;
@@ -168,13 +123,8 @@ loop-n-preserved g c =
             λ asked. c.pass.ensures.follows asked so_far.0 (so_far.2 asked),
             seen,
             λ input b.
-                let a = rw (
-                  c.skip.ensures.bytes,
-                  same.bytes,
-                  slides-bytes so_far.0 items n,
-                  c.skip.ensures.flow,
-                  same.flow,
-                ) at b in
+                let a = agrees_before c.next_unit.new.feed c.pass.new.feed c.skip.new.self so_far.0 n same
+                c.skip.ensures.bytes input c.skip.ensures.flow b in
                 let front = so_far.4 input (agrees_earlier _ _ _ grew so_far.0 input a) in
                 let step = c.in-Ok-Takes.ensures.follows so_far.0 input so_far.1 a in
                 let is = (rw c.in-Ok-Takes.field-0-is at step.0) in
@@ -202,40 +152,20 @@ returns-in-Ok-Broken-clause-units g c =
     let le : n ≤ length items = omega (arith, fits.1) in
     let first = so_far.0 ++ take n items in
     let here : length first ≡ c.loop-n.start + n = slides-len so_far.0 items n c.loop-n.start so_far.1 le in
-    let seen : Consumes (g.R.Source.remaining (reader_of c.args.feed.now))
-    (g.R.Source.remaining (reader_of c.skip.new.self)) (first ++ bytes_of c.skip.new.self) =
-    rw (c.skip.ensures.reader, same.reader, c.skip.ensures.bytes, same.bytes, slides-bytes so_far.0 items n)
+    let seen = consumed_after c.next_unit.new.feed c.pass.new.feed c.skip.new.self so_far.0 n same c.skip.ensures.bytes
+    g.R.Source.remaining (g.R.Source.remaining (reader_of c.args.feed.now)) c.skip.ensures.reader
     (seen_more _ _ _ grew so_far.0 _ so_far.3) in
     let known = c.in-Ok-Takes.ensures.units c.loop-n.invariant.units in
+    let room = room_after g.R.Source.remaining c.loop-n.feed c.next_unit.new.feed c.pass.new.feed c.skip.new.self
+    input_limit c.loop-n.start n grew same c.skip.ensures.bytes c.skip.ensures.allowance le
+    c.loop-n.invariant.within in
     let p = (rw c.in-Ok-Broken.field-0-is at c.in-Ok-Broken.ensures.passed) in (
       first ++ (bytes_of c.skip.new.self ++ p.more),
       consumed_now _ _ _ _ _ _ _ _ p first _ seen,
-      let kept = ap length c.skip.ensures.bytes in
-          let more = ap length grew.bytes in
-          let here_len = ap length same.bytes in
-          let now = ap length p.bytes in
-          omega (
-            arith,
-            kept,
-            here_len,
-            length-drop n c.pass.new.feed.ring.items,
-            c.skip.ensures.allowance,
-            same.allowance,
-            grew.allowance,
-            more,
-            length-append c.loop-n.feed.ring.items grew.more,
-            c.loop-n.invariant.within,
-            le,
-            now,
-            length-append c.skip.new.self.ring.items p.more,
-            length-append p.gone (bytes_of c.pass_known.new.feed),
-            p.allowance,
-            length-append first (bytes_of c.skip.new.self ++ p.more),
-            here,
-          ),
+      seen_fits _ _ _ _ _ _ _ _ p input_limit (c.loop-n.start + n) room first here,
       λ input there.
-          let a = rw (c.skip.ensures.bytes, same.bytes, slides-bytes so_far.0 items n, c.skip.ensures.flow, same.flow)
-          at (p.earlier first input there) in
+          let a = agrees_before c.next_unit.new.feed c.pass.new.feed c.skip.new.self so_far.0 n same
+          c.skip.ensures.bytes input c.skip.ensures.flow (p.earlier first input there) in
           let front = so_far.4 input (agrees_earlier _ _ _ grew so_far.0 input a) in
           let step = c.in-Ok-Takes.ensures.follows so_far.0 input so_far.1 a in
           let is = (rw c.in-Ok-Takes.field-0-is at step.0) in
@@ -267,40 +197,20 @@ returns-in-Err-pass_known-clause-units g c =
     let le : n ≤ length items = omega (arith, fits.1) in
     let first = so_far.0 ++ take n items in
     let here : length first ≡ c.loop-n.start + n = slides-len so_far.0 items n c.loop-n.start so_far.1 le in
-    let seen : Consumes (g.R.Source.remaining (reader_of c.args.feed.now))
-    (g.R.Source.remaining (reader_of c.skip.new.self)) (first ++ bytes_of c.skip.new.self) =
-    rw (c.skip.ensures.reader, same.reader, c.skip.ensures.bytes, same.bytes, slides-bytes so_far.0 items n)
+    let seen = consumed_after c.next_unit.new.feed c.pass.new.feed c.skip.new.self so_far.0 n same c.skip.ensures.bytes
+    g.R.Source.remaining (g.R.Source.remaining (reader_of c.args.feed.now)) c.skip.ensures.reader
     (seen_more _ _ _ grew so_far.0 _ so_far.3) in
     let known = c.in-Ok-Takes.ensures.units c.loop-n.invariant.units in
+    let room = room_after g.R.Source.remaining c.loop-n.feed c.next_unit.new.feed c.pass.new.feed c.skip.new.self
+    input_limit c.loop-n.start n grew same c.skip.ensures.bytes c.skip.ensures.allowance le
+    c.loop-n.invariant.within in
     let p = c.in-Err-pass_known.ensures.passed in (
       first ++ (bytes_of c.skip.new.self ++ p.more),
       consumed_now _ _ _ _ _ _ _ _ p first _ seen,
-      let kept = ap length c.skip.ensures.bytes in
-          let more = ap length grew.bytes in
-          let here_len = ap length same.bytes in
-          let now = ap length p.bytes in
-          omega (
-            arith,
-            kept,
-            here_len,
-            length-drop n c.pass.new.feed.ring.items,
-            c.skip.ensures.allowance,
-            same.allowance,
-            grew.allowance,
-            more,
-            length-append c.loop-n.feed.ring.items grew.more,
-            c.loop-n.invariant.within,
-            le,
-            now,
-            length-append c.skip.new.self.ring.items p.more,
-            length-append p.gone (bytes_of c.pass_known.new.feed),
-            p.allowance,
-            length-append first (bytes_of c.skip.new.self ++ p.more),
-            here,
-          ),
+      seen_fits _ _ _ _ _ _ _ _ p input_limit (c.loop-n.start + n) room first here,
       λ input there.
-          let a = rw (c.skip.ensures.bytes, same.bytes, slides-bytes so_far.0 items n, c.skip.ensures.flow, same.flow)
-          at (p.earlier first input there) in
+          let a = agrees_before c.next_unit.new.feed c.pass.new.feed c.skip.new.self so_far.0 n same
+          c.skip.ensures.bytes input c.skip.ensures.flow (p.earlier first input there) in
           let front = so_far.4 input (agrees_earlier _ _ _ grew so_far.0 input a) in
           let step = c.in-Ok-Takes.ensures.follows so_far.0 input so_far.1 a in
           let is = (rw c.in-Ok-Takes.field-0-is at step.0) in
