@@ -1,6 +1,6 @@
 -- What a pair gives at once, and members that do so.
 -- Serves: Packrat::match_unit
-use Rattle.std.proofs.Common.{◌≡◌, inr, ℕ, ◌+◌, ◌≤◌, Bool, true, false, List, [], ◌∷◌, refl, sym, subst, arith}
+use Rattle.std.proofs.Common.{◌≡◌, inr, ℕ, ◌+◌, Bool, true, false, List, [], ◌∷◌, refl, sym, subst, arith}
 use Rattle.pegread.specs.PegViews.{rules_of}
 use Rattle.gramcheck.specs.Grammar.{Grammar}
 use Rattle.gramcheck.specs.Outcome.{Event}
