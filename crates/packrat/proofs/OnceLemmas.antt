@@ -1,6 +1,6 @@
 -- What a pair gives at once, and members that do so.
 -- Serves: Packrat::match_unit
-use Rattle.std.proofs.Common.{◌≡◌, inr, ℕ, ◌+◌, ◌≤◌, Bool, true, false, List, [], ◌∷◌, refl, sym, subst, arith}
+use Rattle.std.proofs.Common.{◌≡◌, inr, ℕ, ◌+◌, Bool, true, false, List, [], ◌∷◌, refl, sym, subst, arith}
 use Rattle.pegread.specs.PegViews.{rules_of}
 use Rattle.gramcheck.specs.Grammar.{Grammar}
 use Rattle.gramcheck.specs.Outcome.{Event}
@@ -8,7 +8,6 @@ use Rattle.memo.specs.declared.found.Found.{Found}
 use Rattle.memo.specs.declared.key_log.Given.{Given}
 use Rattle.memo.specs.declared.key_log.Stored.{Stored}
 use Rattle.memo.specs.declared.spot.Spot.{Spot}
-use Rattle.memo.specs.declared.spot.Spot.TheVariants.{Pair}
 use Rattle.pegnodes.specs.KeyLists.{Marks}
 use Rattle.pegnodes.specs.Nodes.{shapes_of}
 use Rattle.packrat.specs.Once.{IsOnce, IsWalk}
@@ -17,6 +16,7 @@ use Rattle.packrat.specs.SpotGives.{SpotYields}
 use Rattle.packrat.specs.SpotSteps.{IsFirst}
 use Rattle.packrat.specs.Spots.{Kids}
 use Rattle.packrat.specs.Stands.{Stands, key_of}
+use Rattle.packrat.specs.View.{weight}
 use Rattle.packrat.specs.declared.events.link.Link.{Link}
 use Rattle.packrat.specs.declared.frames.Frame.{Frame}
 use Rattle.packrat.specs.declared.frames.Wait.TheVariants.{First}
@@ -37,18 +37,18 @@ module _ (g : Grammar) (x : List ℕ) (more : Bool) (marks : Marks) where
   S root t ls st links n = Stands g x more marks root t ls st links n
 
   -- by its own comparison
-  pub leaf_once : (n p : ℕ) (f : Found) → key_of marks (Pair n p) ≡ false
-      → AfterNone g x more (Pair n p) (start.Gives f) → IsOnce g x more marks (Pair n p) f 1
-  leaf_once n p f plain h =
+  pub leaf_once : (a : Spot) (f : Found) → weight a ≡ 1 → key_of marks a ≡ false → AfterNone g x more a (start.Gives f)
+      → IsOnce g x more marks a f 1
+  leaf_once a f one plain h =
       let own : Given = record { found = f; events = 0 } in
       record {
         plain = plain;
         some = omega arith;
         yields = h.1;
-        answers = λ root ls st links m s. L.stands_leaf g x more marks root (Pair n p) ls st links m s
+        answers = λ root ls st links m s. subst (λ v. S root (Answer own) ls st links (m + v)) one
+            (L.stands_leaf g x more marks root a ls st links m s
             (λ t. absurd (cc (t, plain))) links own st (grown_same links) h.0
-            (L.given_none g x more marks links (Pair n p) f h.1)
-            (L.closed_plain g x more marks links (Pair n p) own st plain);
+            (L.given_none g x more marks links a f h.1) (L.closed_plain g x more marks links a own st plain));
       }
 
   led_down : (only : Bool) (a k : Spot) → IsLed g x more only a k → IsLed g x more false a k

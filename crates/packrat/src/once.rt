@@ -1,17 +1,16 @@
 //! Tasks that give something at once, and the members of a tail that do.
-ghost use Rattle.std.specs.Prelude.{IfSome};
+ghost use Rattle.std.specs.Prelude.{◌≡◌, IfSome};
 ghost use Rattle.gramcheck.specs.Grammar.{IsSoundGrammar};
 ghost use Rattle.pegmatch.specs.Answers.{WasEnough};
 ghost use Rattle.packrat.specs.Onward.{IsWell, IsLed, tail_of, member_of};
 ghost use Rattle.packrat.specs.Once.{IsOnceAfter, IsWalk};
+ghost use Rattle.packrat.specs.View.{weight};
 
 use crate::keys::is_key;
 use crate::onward::{Begun, Entering, Onward, begin, go_on};
 use gramcheck::SoundPeg;
 use memo::{Found, Spot};
-
-// How many more pairs than were begun must fit.
-const MOST_AT_ONCE: u128 = 65_536;
+use pegnodes::Node;
 
 /// What a task gives without events, and how many pairs are begun then.
 #[derive(Clone, Copy)]
@@ -35,7 +34,28 @@ pub(crate) struct Walked {
     pub(crate) begun: u128,
 }
 
-/// Returns what a task gives, if it is no key and its own comparison decides that.
+// Returns what a pair gives that is no key, if its own comparison decides that.
+#[inline(always)]
+fn leaf_at_once(peg: &SoundPeg, window: &[u8], more: bool, spot: Spot, begun: u128) -> Option<Once>
+    requires some { WasEnough window.now more 0 }
+    requires sound { IsSoundGrammar peg.now }
+    requires well { IsWell peg.now window.now spot }
+    requires pair { weight spot ≡ 1 }
+    ensures { IfSome result (λ once. IsOnceAfter peg.now window.now more peg.now.keys spot begun once) }
+{
+    if is_key(peg, spot) || begun == u128::MAX {
+        return None;
+    }
+    match begin(peg, window, more, spot) {
+        Begun::Gives(found) => Some(Once {
+            found,
+            begun: begun + 1,
+        }),
+        _ => None,
+    }
+}
+
+/// Returns what a task gives, if it is a leaf that is no key.
 #[inline(always)]
 pub(crate) fn at_once(
     peg: &SoundPeg,
@@ -51,18 +71,12 @@ pub(crate) fn at_once(
 {
     match spot {
         Spot::Tail { .. } => None,
-        Spot::Pair { .. } => {
-            if is_key(peg, spot) || u128::MAX - begun < MOST_AT_ONCE {
-                return None;
-            }
-            match begin(peg, window, more, spot) {
-                Begun::Gives(found) => Some(Once {
-                    found,
-                    begun: begun + 1,
-                }),
-                _ => None,
-            }
-        }
+        Spot::Pair { node, .. } => match peg.node(node) {
+            Node::Any | Node::Bytes(_) | Node::Set(_) => leaf_at_once(
+                peg, window, more, spot, begun,
+            ),
+            _ => None,
+        },
     }
 }
 

@@ -1,4 +1,4 @@
-use Rattle.std.proofs.Common.{◌≤◌, sym, subst, arith}
+use Rattle.std.proofs.Common.{◌≤◌, subst, arith}
 use Rattle.packrat.specs.Once.{AreLed, turn_of}
 use Rattle.packrat.specs.Onward.{tail_of}
 use Rattle.packrat.specs.Stands.{Stands}
