@@ -7,7 +7,7 @@ use Rattle.feed.proofs.GrowsLemmas.{Consumes-same}
 use Rattle.toolrun.proofs.AgreesLemmas.{agrees_earlier, seen_more, slides-bytes, slides-len}
 use Rattle.linejudge.specs.InputLines.{none}
 use Rattle.linejudge.specs.LineRefusals.{none_told}
-use Rattle.linejudge.proofs.GoesOnLemmas.{batch_goes}
+use Rattle.linejudge.proofs.JudgeFrontLemmas.{batch_goes}
 use Rattle.linejudge.proofs.LineRunLemmas.{fails_further, fails_there, more_lines, one_more_line, stops_there}
 use Rattle.linejudge.proofs.LinesLemmas.{refused_by-one}
 use Rattle.linejudge.proofs.NextLineLemmas.{held_taken, held_within}
