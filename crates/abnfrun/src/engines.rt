@@ -17,7 +17,6 @@ pub(crate) struct Engines {
 
 impl Engines {
     /// Returns whether a flat grammar derives symbols, no more than it serves. `Memory` if an allocation fails.
-    #[inline(always)]
     pub(crate) fn judge<L: Letter>(&mut self, flat: &Flat, line: &[L]) -> Result<bool, Memory>
         requires within { length line.now ≤ flat.now.limit }
         requires flat { IfSome self.old.automaton (λ a. a ≡ flat.now) }

@@ -75,7 +75,6 @@ pub fn lines_have_answers()
 }
 
 /// Returns the answer to the letters of a line, no more than the flat grammar serves. `Memory` if an allocation fails.
-#[inline(always)]
 fn judge_letters<L: Letter>(
     judges: &LineJudge<'_>,
     engines: &mut Engines,
@@ -195,7 +194,6 @@ impl Judge<Work> for LineJudge<'_> {
         × IfSome j.explainer (λ more. ExplainsLines (rules_of j.grammar.now.rules) j.grammar.now.judged j.letters
         j.flat.now.limit more.now) };
 
-    #[inline(always)]
     fn judge(&self, work: &mut Work, line: &[u8]) -> Result<Answer, Memory> {
         match self.letters {
             Alphabet::Bytes => judge_letters(self, &mut work.engines, line),

@@ -173,7 +173,6 @@ impl Automaton {
 
     /// Returns whether the flat grammar derives a line, as `earley::judge` does; `None` if that takes more time or
     /// memory than there is for states. `Memory` if an allocation fails; what earlier lines found out may be lost then.
-    #[inline(always)]
     pub fn judge<L: Letter>(&mut self, line: &[L]) -> Result<Option<bool>, Memory>
         ensures same { self.new ≡ self.old }
         ensures answer { IfOk result (λ told. IfSome told (λ yes. IsTrue yes ↔ DerivesLine self.old
@@ -186,7 +185,6 @@ impl Automaton {
     }
 
     /// Returns the verdict of the flat grammar on a line, as `earley::viable` does; `None` and `Memory` as `judge`.
-    #[inline(always)]
     pub fn viable<L: Letter>(&mut self, line: &[L]) -> Result<Option<Verdict>, Memory>
         ensures same { self.new ≡ self.old }
         ensures verdict { IfOk result (λ told. IfSome told (IsFlatVerdict self.old (map L.number line.now))) }

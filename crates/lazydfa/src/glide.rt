@@ -49,7 +49,6 @@ fn hop_on<L: Letter>(memo: &Memo, low: &[usize], samples: &[u32], line: &[L], fr
 
 /// Goes over letters of a line while what they lead to is known and no part is pushed or put back, and returns where
 /// that stops.
-#[inline(always)]
 pub(crate) fn glide<L: Letter>(
     memo: &Memo,
     low: &[usize],

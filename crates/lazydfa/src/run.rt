@@ -50,7 +50,6 @@ fn first_front(
 }
 
 /// Returns the number of the start, which is made if there is no state.
-#[inline(always)]
 fn begin(
     alloc: Global,
     tables: &Tables,
@@ -176,7 +175,6 @@ fn take_step(
 }
 
 /// Makes a memo ready for a line of so many letters.
-#[inline(always)]
 fn prepare(memo: &mut Memo, letters: usize)
     ensures conts { memo.new.cache.conts.items ≡ memo.old.cache.conts.items }
     ensures states { memo.new.cache.states ≡ memo.old.cache.states }
@@ -190,7 +188,6 @@ fn prepare(memo: &mut Memo, letters: usize)
 }
 
 // Returns the verdict of a run that came to a line's end.
-#[inline(always)]
 fn verdict_at_end(ended: bool, letters: usize) -> Verdict
     ensures { result ≡ (if ended then Verdict.Yes else Verdict.No letters) }
 {
@@ -203,7 +200,6 @@ fn verdict_at_end(ended: bool, letters: usize) -> Verdict
 
 /// Goes over a line, and returns whether the whole may end after it, or else how many of its letters lead to something;
 /// `None` if that takes more than there may be. `Memory` if an allocation fails.
-#[inline(always)]
 fn follow<L: Letter>(
     alloc: Global,
     tables: &Tables,
@@ -250,7 +246,6 @@ fn follow<L: Letter>(
 }
 
 /// Returns what `follow` returns. It forgets all if an allocation fails.
-#[inline(always)]
 pub(crate) fn run<L: Letter>(
     alloc: Global,
     tables: &Tables,

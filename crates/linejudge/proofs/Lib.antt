@@ -1,4 +1,4 @@
-pub mod GoesOnLemmas
+pub mod JudgeFrontLemmas
 pub mod LineRunLemmas
 pub mod LineStepLemmas
 pub mod LinesLemmas

@@ -28,7 +28,7 @@ use Rattle.linejudge.specs.InputLines.{LinesEnd, Lines, answer_text, at_front, b
 use Rattle.linejudge.specs.InputLines.{taken_at}
 use Rattle.linejudge.specs.LineRefusals.{LinesStates, MayLack, Refusals, Tells, WhyStopped, count_untold}
 use Rattle.linejudge.specs.LineRefusals.{IsLong, is_told, none_told, one_told, stop_lines}
-use Rattle.linejudge.specs.LineSteps.{GoesOn, IsStep, IsToldEnding}
+use Rattle.linejudge.specs.LineSteps.{AddsLines, IsStep, IsToldEnding}
 use Rattle.linejudge.specs.declared.answers.Answer.{Answer}
 use Rattle.linejudge.specs.declared.line.LineForm.{LineForm}
 use Rattle.linejudge.specs.declared.line_loop.Step.TheVariants.{Answers, Stops}
@@ -75,7 +75,7 @@ module _ (Told : List ℕ → Answer → Type 0) (asked : Bool) (Refusal : List 
 
     -- a batch of lines
     pub more_lines : (next : At) (new : Option (List ℕ)) (added : List ℕ)
-        → GoesOn Told asked Refusal form input at next added → Appends mid new added →
+        → AddsLines Told asked Refusal form input at next added → Appends mid new added →
         (longer : List ℕ) × Lines Told form input next longer
         × Refusals Told asked Refusal form input next told × Appends old new longer
     more_lines next new added goes writes = (
@@ -178,7 +178,7 @@ module _ (Told : List ℕ → Answer → Type 0) (asked : Bool) (Refusal : List 
           (one_told at told line n said adds.text refusals stands says adds.is) part
 
       pub fails_further : (next : At) (added : List ℕ) → at.place ≤ next.place
-          → GoesOn Told asked Refusal form input at next added → AppendsPart mid new added
+          → AddsLines Told asked Refusal form input at next added → AppendsPart mid new added
           → Runs taken old new (Err fault)
       fails_further next added le goes part =
           fails_at next added told le (goes.lines text lines) (goes.refusals told refusals) part

@@ -14,7 +14,7 @@ use Rattle.toolrun.specs.Stop.{message_of, status_of}
 use Rattle.toolrun.specs.declared.stop.Stop.{Stop}
 use Rattle.toolrun.specs.declared.stop.Stop.TheVariants.{Quiet, LongLine, Broken}
 use Rattle.linejudge.specs.InputLines.{HasNoEnd, answer_text, refused_by, status_after, behind, place_taken, taken_at}
-use Rattle.linejudge.specs.InputLines.{StandsAt, with_end, without_end, Lines, one_more, LinesEnd, broken}
+use Rattle.linejudge.specs.InputLines.{with_end, without_end, Lines, one_more, LinesEnd, broken}
 use Rattle.linejudge.specs.InputLines.{overlong, finished}
 use Rattle.linejudge.specs.declared.answers.Answer.{Answer}
 use Rattle.linejudge.specs.declared.answers.Answer.TheVariants.{Yes, No, NoAfter}

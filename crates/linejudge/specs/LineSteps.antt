@@ -52,7 +52,7 @@ module _ (Told : List ℕ → Answer → Type 0) (asked : Bool) (Refusal : List 
       × Adds (TellsLine Told asked Refusal at line said) told more × AppendsPart old new (answer_text said)
 
   -- The lines from one position to another are answered by a text, and none of them is explained.
-  pub record GoesOn (form : LineForm) (input : Input) (old new : At) (added : List ℕ) : Type 0 where
+  pub record AddsLines (form : LineForm) (input : Input) (old new : At) (added : List ℕ) : Type 0 where
     pub lines : (text : List ℕ) → Lines Told form input old text → Lines Told form input new (text ++ added)
     pub refusals : (told : List ℕ) → Refusals Told asked Refusal form input old told
         → Refusals Told asked Refusal form input new told

@@ -3,7 +3,7 @@ ghost use Rattle.std.specs.Prelude.{◌≡◌, ◌≤◌, ◌+◌, ℕ, List, �
 ghost use Rattle.feed.specs.Feed.{input_limit};
 ghost use Rattle.toolrun.specs.Input.{Input};
 ghost use Rattle.linejudge.specs.InputLines.{answer_text};
-ghost use Rattle.linejudge.specs.LineSteps.{GoesOn};
+ghost use Rattle.linejudge.specs.LineSteps.{AddsLines};
 
 use crate::answers::{Answer, Judge};
 use crate::line::LineForm;
@@ -61,7 +61,7 @@ pub(crate) fn judge_front<W, J: Judge<W>>(
     ensures counted { result.count ≤ result.place }
     ensures refused { result.refused ≤ result.count }
     ensures goes_on { (input : Input) (rest : List ℕ) → drop at.place input.bytes ≡ front.now ++ rest →
-        GoesOn (J.told judge.now) (J.explains judge.now) (J.refusal judge.now) form input at result text.new.items }
+        AddsLines (J.told judge.now) (J.explains judge.now) (J.refusal judge.now) form input at result text.new.items }
 {
     text.clear();
     if judge.is_explained() {

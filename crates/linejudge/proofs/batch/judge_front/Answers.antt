@@ -1,7 +1,7 @@
 -- One more line of the batch.
 use Rattle.std.proofs.Common.{arith, take, drop, sym, ◌∙◌, ◌+◌, length-drop}
 use Rattle.std.proofs.lemmas.List.{take_rest}
-use Rattle.linejudge.proofs.GoesOnLemmas.{found_stands, goes_one_on}
+use Rattle.linejudge.proofs.JudgeFrontLemmas.{found_stands, goes_one_on}
 use Rattle.linejudge.proofs.LinesLemmas.{refused_by-one}
 use Rattle.linejudge.proofs.batch.judge_front.Goals as goal
 

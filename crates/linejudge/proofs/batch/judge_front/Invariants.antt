@@ -1,7 +1,7 @@
 -- The lines before `len` have been judged, and their answers are the text.
 use Rattle.std.proofs.Common.{◌≡◌, ◌+◌, ◌-◌, ◌≤◌, ◌++◌, length, drop, ℕ, List}
 use Rattle.toolrun.specs.Input.{Input}
-use Rattle.linejudge.specs.LineSteps.{GoesOn}
+use Rattle.linejudge.specs.LineSteps.{AddsLines}
 use Rattle.linejudge.proofs.batch.judge_front.Given as goal
 
 abbrev pub invariant-loop-len : goal.invariant-loop-len
@@ -12,7 +12,7 @@ invariant-loop-len g l = record {
   counted : l.next.count ≤ l.next.place;
   refused : l.next.refused ≤ l.next.count;
   goes_on : (input : Input) (rest : List ℕ) → drop l.at.place input.bytes ≡ l.front ++ rest →
-      GoesOn (g.J.Judge.told l.judge) (g.J.Judge.explains l.judge) (g.J.Judge.refusal l.judge) l.form input l.at
+      AddsLines (g.J.Judge.told l.judge) (g.J.Judge.explains l.judge) (g.J.Judge.refusal l.judge) l.form input l.at
       l.next l.text.items;
 }
 

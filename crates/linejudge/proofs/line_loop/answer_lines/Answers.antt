@@ -7,7 +7,7 @@ use Rattle.feed.proofs.GrowsLemmas.{Consumes-same}
 use Rattle.toolrun.proofs.AgreesLemmas.{agrees_earlier, seen_more, slides-bytes, slides-len}
 use Rattle.linejudge.specs.InputLines.{none}
 use Rattle.linejudge.specs.LineRefusals.{none_told}
-use Rattle.linejudge.proofs.GoesOnLemmas.{batch_goes}
+use Rattle.linejudge.proofs.JudgeFrontLemmas.{batch_goes}
 use Rattle.linejudge.proofs.LineRunLemmas.{fails_further, fails_there, more_lines, one_more_line, stops_there}
 use Rattle.linejudge.proofs.LinesLemmas.{refused_by-one}
 use Rattle.linejudge.proofs.NextLineLemmas.{held_taken, held_within}
@@ -91,7 +91,8 @@ loop-feed-preserved-then-at-next g c =
       counted = on.counted;
       refused = on.refused;
       within = let kept = ap length c.skip.ensures.bytes in
-          omega (arith, kept, length-drop n items, c.skip.ensures.allowance, c.loop-feed.invariant.within, on.ahead, le);
+          let all = c.loop-feed.invariant.within in
+          omega (arith, kept, length-drop n items, c.skip.ensures.allowance, all, on.ahead, le);
       told = rw (c.skip.ensures.reader, c.skip.ensures.allowance, c.skip.ensures.flow) c.loop-feed.invariant.told;
       work = on.work;
       loan = c.skip.ensures.loan ∙ c.loop-feed.invariant.loan;
@@ -146,6 +147,7 @@ returns-in-Err g c =
 pub loop-feed-preserved : goal.loop-feed-preserved
 loop-feed-preserved g c =
     let so_far = c.loop-feed.invariant.written in
+    let slid = c.skip-in-Ok-Answers.ensures in
     let grew = c.in-Ok-Answers.ensures.grows in
     let items = c.next_step.new.feed.ring.items in
     let n : ℕ = c.in-Ok-Answers.len in
@@ -153,36 +155,36 @@ loop-feed-preserved g c =
     let some : 0 < n = fits.0 in
     let le : n ≤ length items = fits.1 in
     record {
-      capacity = c.skip-in-Ok-Answers.ensures.capacity ∙ grew.capacity ∙ c.loop-feed.invariant.capacity;
+      capacity = slid.capacity ∙ grew.capacity ∙ c.loop-feed.invariant.capacity;
       counted = rw (c.behind-reached.ensures, c.in-Ok-Answers.ensures.at)
           (omega (arith, c.loop-feed.invariant.counted, some));
       refused = rw (c.behind-reached.ensures, c.in-Ok-Answers.ensures.at)
           (omega (arith, c.loop-feed.invariant.refused, refused_by-one c.in-Ok-Answers.said));
-      within = let kept = ap length c.skip-in-Ok-Answers.ensures.bytes in
+      within = let kept = ap length slid.bytes in
           let more = ap length grew.bytes in
           rw (c.behind-reached.ensures, c.in-Ok-Answers.ensures.at) (omega (
             arith,
             kept,
             length-drop n items,
-            c.skip-in-Ok-Answers.ensures.allowance,
+            slid.allowance,
             grew.allowance,
             more,
             length-append c.loop-feed.feed.ring.items grew.more,
             c.loop-feed.invariant.within,
             le,
           ));
-      told = rw (c.skip-in-Ok-Answers.ensures.reader, c.skip-in-Ok-Answers.ensures.allowance, c.skip-in-Ok-Answers.ensures.flow) c.in-Ok-Answers.ensures.told;
+      told = rw (slid.reader, slid.allowance, slid.flow) c.in-Ok-Answers.ensures.told;
       work = c.in-Ok-Answers.ensures.work;
-      loan = c.skip-in-Ok-Answers.ensures.loan ∙ c.in-Ok-Answers.ensures.loan ∙ c.loop-feed.invariant.loan;
+      loan = slid.loan ∙ c.in-Ok-Answers.ensures.loan ∙ c.loop-feed.invariant.loan;
       flag = c.in-Ok-Answers.ensures.flag ∙ c.loop-feed.invariant.flag;
       written = (
         so_far.0 ++ take n items,
         rw (c.behind-reached.ensures, c.in-Ok-Answers.ensures.at)
             (let e = slides-len so_far.0 items n c.loop-feed.reached.at.place so_far.1 le in omega (arith, e)),
-        rw (c.skip-in-Ok-Answers.ensures.reader, c.skip-in-Ok-Answers.ensures.bytes, slides-bytes so_far.0 items n)
+        rw (slid.reader, slid.bytes, slides-bytes so_far.0 items n)
             (seen_more _ _ _ grew so_far.0 _ so_far.2),
         λ input b.
-            let a = rw (c.skip-in-Ok-Answers.ensures.bytes, slides-bytes so_far.0 items n, c.skip-in-Ok-Answers.ensures.flow) at b in
+            let a = rw (slid.bytes, slides-bytes so_far.0 items n, slid.flow) at b in
             let front = so_far.3 input (agrees_earlier _ _ _ grew so_far.0 input a) in
             let step = c.in-Ok-Answers.ensures.follows so_far.0 input so_far.1 a in
             rw (c.behind-reached.ensures, c.in-Ok-Answers.ensures.at) (one_more_line (g.J.Judge.told c.args.judge.now)

@@ -1,6 +1,6 @@
 -- A batch of lines, and the run after it.
 -- Serves: run_lines
-use Rattle.std.proofs.Common.{◌≡◌, ℕ, suc, ◌+◌, ◌≤◌, Bool, false, Option, Some, List, [], ◌∷◌, ◌++◌, length, take, drop}
+use Rattle.std.proofs.Common.{◌≡◌, ℕ, suc, ◌+◌, ◌≤◌, Bool, false, Some, List, [], ◌∷◌, ◌++◌, length, take, drop}
 use Rattle.std.proofs.Common.{refl, sym, ◌∙◌, ap, arith, subst, append_assoc}
 use Rattle.std.proofs.lemmas.List.{append-nil, drop-append-le, drop-drop}
 use Rattle.memchr.specs.Find.{IsFirstByte, is_byte}
@@ -12,7 +12,7 @@ use Rattle.toolrun.proofs.AgreesLemmas.{rest_is}
 use Rattle.toolrun.proofs.ExplainedIfLemmas.{if_not_asked}
 use Rattle.linejudge.specs.InputLines.{Lines, StandsAt, answer_text, behind, one_more, with_end}
 use Rattle.linejudge.specs.LineRefusals.{Refusals, is_told, one_told}
-use Rattle.linejudge.specs.LineSteps.{GoesOn}
+use Rattle.linejudge.specs.LineSteps.{AddsLines}
 use Rattle.linejudge.specs.declared.answers.Answer.{Answer}
 use Rattle.linejudge.specs.declared.line.LineForm.{LineForm}
 use Rattle.linejudge.specs.declared.reached.At.{At}
@@ -38,12 +38,12 @@ found_stands form input start len n s front rest is here within (before, found) 
 
 module _ (Told : List ℕ → Answer → Type 0) (asked : Bool) (Refusal : List ℕ → ℕ → List ℕ → Type 0) (form : LineForm)
     (input : Input) where
-  pub goes_nowhere : (at : At) → GoesOn Told asked Refusal form input at at []
+  pub goes_nowhere : (at : At) → AddsLines Told asked Refusal form input at at []
   goes_nowhere at = record { lines = λ text l. rw append-nil l; refusals = λ told r. r }
 
   pub goes_one_on : asked ≡ false → (old at : At) (added line : List ℕ) (n : ℕ) (said : Answer)
-      → GoesOn Told asked Refusal form input old at added → StandsAt form input at.place line n → Told line said
-      → GoesOn Told asked Refusal form input old (behind at n said) (added ++ answer_text said)
+      → AddsLines Told asked Refusal form input old at added → StandsAt form input at.place line n → Told line said
+      → AddsLines Told asked Refusal form input old (behind at n said) (added ++ answer_text said)
   goes_one_on not old at added line n said goes stands says = record {
     lines = λ text l. subst (λ t. Lines Told form input (behind at n said) t)
         (append_assoc text added (answer_text said))
@@ -57,7 +57,7 @@ module _ (Told : List ℕ → Answer → Type 0) (asked : Bool) (Refusal : List 
   pub batch_goes : {flow : Flow} (before items front added : List ℕ) (at next : At) → length before ≡ at.place
       → IsBeginning front items → Agrees (before ++ items) flow input →
       ((input : Input) (rest : List ℕ) → drop at.place input.bytes ≡ front ++ rest
-      → GoesOn Told asked Refusal form input at next added) → GoesOn Told asked Refusal form input at next added
+      → AddsLines Told asked Refusal form input at next added) → AddsLines Told asked Refusal form input at next added
   batch_goes before items front added at next here (rest, is) agrees goes =
       goes input (rest ++ agrees.more) (rest_is before items here agrees ∙ ap (λ t. t ++ agrees.more) is
       ∙ append_assoc front rest agrees.more)
