@@ -7,10 +7,7 @@ use ruletable::Memory;
 use std::alloc::Global;
 
 /// Returns the tokens of a text, in order. `Memory` if an allocation fails.
-pub(crate) fn kept_tokens<K: Kind>(
-    alloc: Global,
-    text: &[u8],
-) -> Result<Vec<Token<'_, K>>, Memory>
+pub(crate) fn kept_tokens<K: Kind>(alloc: Global, text: &[u8]) -> Result<Vec<Token<'_, K>>, Memory>
     ensures { IfOk result (λ kept. AreTokens K.white K.first K.is_end (length text.now) text.now
         (map tok_of kept.items)) }
 {

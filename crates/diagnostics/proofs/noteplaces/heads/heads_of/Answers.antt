@@ -4,6 +4,7 @@ use Rattle.lexer.specs.TokenLists.{tok_of}
 use Rattle.diagnostics.proofs.KeptTokenLemmas.{AreFrom, from-end, from-next}
 use Rattle.diagnostics.proofs.HeadsTakenLemmas.{none-taken, token-taken, head-taken, opens-behind, all-taken}
 use Rattle.diagnostics.proofs.noteplaces.heads.heads_of.Goals as goal
+use Rattle.diagnostics.proofs.noteplaces.heads.heads_of.Goals.{in-Some+in_ok-name+in_ok-push, in_default}
 
 pub loop-token-init : goal.loop-token-init
 loop-token-init g c =
@@ -18,10 +19,25 @@ loop-token-preserved g c =
     let h = c.loop-token.invariant in
     let given = from-next c.args.tokens.now c.loop-token.token-index h.are_left c.token-item.result
     c.loop-token-test.true c.token-item.is in
-    let none = (let n = c.in_default.ensures in rw c.sign.ensures at n) in
-    rw c.sign.ensures (token-taken g.K.Kind.white g.K.Kind.first g.K.Kind.is_end g.S.Signs.sign_of c.args.rule
-    c.args.text.now h (AreFrom c.args.tokens.now (c.loop-token.token-index + 1))
-    (tok_of c.token-item.result) given.0 given.1 given.2 none)
+    elim c.match-opening.branch [
+      | in-Some+in_ok-name+in_ok-push w ↦ (
+          let o = (let k = w.in-Some.ensures in rw c.sign.ensures at k) in
+          let pushed = w.in_ok-push.ensures.items in
+          let name = w.in_ok-name.ensures.items in
+          rw (w.heads-is, w.at-is, w.line-is, c.sign.ensures, pushed, map-append, name)
+          (head-taken g.K.Kind.white g.K.Kind.first g.K.Kind.is_end g.S.Signs.sign_of c.args.rule
+          c.args.text.now h (AreFrom c.args.tokens.now (c.loop-token.token-index + 1))
+          (tok_of c.token-item.result) given.0 given.1 given.2 _ _ _ o w.line_behind-line.result
+          w.line_behind-line.ensures)
+          )
+      | in_default w ↦ (
+          let none = (let n = w.in_default.ensures in rw c.sign.ensures at n) in
+          rw (w.heads-is, w.at-is, w.line-is, c.sign.ensures)
+          (token-taken g.K.Kind.white g.K.Kind.first g.K.Kind.is_end g.S.Signs.sign_of c.args.rule
+          c.args.text.now h (AreFrom c.args.tokens.now (c.loop-token.token-index + 1))
+          (tok_of c.token-item.result) given.0 given.1 given.2 none)
+          )
+    ]
 
 pub line_behind-line-requires-clause-line : goal.line_behind-line-requires-clause-line
 line_behind-line-requires-clause-line g c = c.loop-token.invariant.line_is
@@ -31,7 +47,7 @@ line_behind-line-requires-clause-order g c =
     let h = c.loop-token.invariant in
     let given = from-next c.args.tokens.now c.loop-token.token-index h.are_left c.token-item.result
     c.loop-token-test.true c.token-item.is in
-    let o = (let k = c.in-Some-opening.ensures in rw c.sign.ensures at k) in
+    let o = (let k = c.in-Some.ensures in rw c.sign.ensures at k) in
     (opens-behind g.K.Kind.white g.K.Kind.first g.K.Kind.is_end g.S.Signs.sign_of c.args.rule
     c.args.text.now h (AreFrom c.args.tokens.now (c.loop-token.token-index + 1))
     (tok_of c.token-item.result) given.0 given.1 given.2 _ _ _ o).0
@@ -41,23 +57,10 @@ line_behind-line-requires-clause-within g c =
     let h = c.loop-token.invariant in
     let given = from-next c.args.tokens.now c.loop-token.token-index h.are_left c.token-item.result
     c.loop-token-test.true c.token-item.is in
-    let o = (let k = c.in-Some-opening.ensures in rw c.sign.ensures at k) in
+    let o = (let k = c.in-Some.ensures in rw c.sign.ensures at k) in
     (opens-behind g.K.Kind.white g.K.Kind.first g.K.Kind.is_end g.S.Signs.sign_of c.args.rule
     c.args.text.now h (AreFrom c.args.tokens.now (c.loop-token.token-index + 1))
     (tok_of c.token-item.result) given.0 given.1 given.2 _ _ _ o).1
-
-pub loop-token-preserved-in-Continue-branch-2 : goal.loop-token-preserved-in-Continue-branch-2
-loop-token-preserved-in-Continue-branch-2 g c =
-    let h = c.loop-token.invariant in
-    let given = from-next c.args.tokens.now c.loop-token.token-index h.are_left c.token-item.result
-    c.loop-token-test.true c.token-item.is in
-    let o = (let k = c.in-Some-opening.ensures in rw c.sign.ensures at k) in
-    let pushed = c.in_ok-push.ensures.items in
-    let name = c.in_ok-name.ensures.items in
-    rw (c.sign.ensures, pushed, map-append, name)
-    (head-taken g.K.Kind.white g.K.Kind.first g.K.Kind.is_end g.S.Signs.sign_of c.args.rule
-    c.args.text.now h (AreFrom c.args.tokens.now (c.loop-token.token-index + 1))
-    (tok_of c.token-item.result) given.0 given.1 given.2 _ _ _ o c.line_behind-line.result c.line_behind-line.ensures)
 
 pub returns : goal.returns
 returns g c =

@@ -1,4 +1,4 @@
-use Rattle.std.proofs.Common.{[], ◌∷◌, ◌++◌, ap, ◌∙◌, map}
+use Rattle.std.proofs.Common.{[], ◌∷◌, ◌++◌, ap, ◌∙◌}
 use Rattle.std.proofs.lemmas.List.{map-append}
 use Rattle.lexer.specs.TokenLists.{tok_of}
 use Rattle.lexer.proofs.TokenListLemmas.{leads-first, leads-snoc, leads-end}

@@ -6,6 +6,8 @@ use Rattle.diagnostics.specs.DefinitionHeads.{signed_at}
 use Rattle.diagnostics.proofs.MentionsTakenLemmas.{none-mentioned, all-mentioned, first-mentioned, last-behind}
 use Rattle.diagnostics.proofs.MentionsTakenLemmas.{name-mentioned, token-mentioned}
 use Rattle.diagnostics.proofs.noteplaces.mentions.mentions_of.Goals as goal
+use Rattle.diagnostics.proofs.noteplaces.mentions.mentions_of.Goals.{in-Some+in-Some-opening, in_default}
+use Rattle.diagnostics.proofs.noteplaces.mentions.mentions_of.Goals.{in-Some+in-None+in_ok-push_mention-in-None}
 
 pub loop-token-init : goal.loop-token-init
 loop-token-init g c =
@@ -26,11 +28,29 @@ loop-token-preserved g c =
     let h = c.loop-token.invariant in
     let given = from-next c.args.tokens.now c.loop-token.token-index h.are_left c.token-item.result
     c.loop-token-test.true c.token-item.is in
-    rw c.sign.ensures (first-mentioned
-    g.K.Kind.white g.K.Kind.first g.K.Kind.is_end g.S.Signs.sign_of c.args.rule c.args.text.now
-    c.loop-token.invariant (AreFrom c.args.tokens.now (c.loop-token.token-index + 1))
-    (tok_of c.token-item.result) given.0 given.1 given.2
-    (ap (option_map signed_at) c.in_default.is))
+    elim c.match-last.branch [
+      | in-Some+in-Some-opening w ↦ (
+          let o = (let k = w.in-Some-opening.ensures in rw c.sign.ensures at k) in
+          rw (w.found-is, w.at-is, w.line-is, w.within-is, c.sign.ensures) (name-mentioned g.K.Kind.white g.K.Kind.first g.K.Kind.is_end g.S.Signs.sign_of
+          c.args.rule c.args.text.now h (AreFrom c.args.tokens.now (c.loop-token.token-index + 1))
+          (tok_of c.token-item.result) given.0 given.1 given.2
+          (signed_at w.in-Some.last) (ap (option_map signed_at) w.in-Some.is) _ _ _
+          w.line_behind-line.result o w.line_behind-line.ensures)
+          )
+      | in-Some+in-None+in_ok-push_mention-in-None w ↦ (
+          let none = (let k = w.in-None.ensures in rw c.sign.ensures at k) in
+          let pushed = w.in_ok-push_mention-in-None.ensures in
+          rw (w.found-is, w.at-is, w.line-is, w.within-is, c.sign.ensures, pushed) (token-mentioned g.K.Kind.white g.K.Kind.first g.K.Kind.is_end g.S.Signs.sign_of
+          c.args.rule c.args.text.now h (AreFrom c.args.tokens.now (c.loop-token.token-index + 1))
+          (tok_of c.token-item.result) given.0 given.1 given.2
+          (signed_at w.in-Some.last) (ap (option_map signed_at) w.in-Some.is)
+          w.line_behind-line.result _ none w.line_behind-line.ensures refl)
+          )
+      | in_default w ↦ rw (w.found-is, w.at-is, w.line-is, w.within-is, c.sign.ensures) (first-mentioned g.K.Kind.white g.K.Kind.first g.K.Kind.is_end g.S.Signs.sign_of
+          c.args.rule c.args.text.now h (AreFrom c.args.tokens.now (c.loop-token.token-index + 1))
+          (tok_of c.token-item.result) given.0 given.1 given.2
+          (ap (option_map signed_at) w.in_default.is))
+    ]
 
 pub line_behind-line-requires-clause-line : goal.line_behind-line-requires-clause-line
 line_behind-line-requires-clause-line g c = c.loop-token.invariant.line_is
@@ -43,7 +63,7 @@ line_behind-line-requires-clause-order g c =
     (last-behind g.K.Kind.white g.K.Kind.first g.K.Kind.is_end g.S.Signs.sign_of c.args.rule c.args.text.now
     c.loop-token.invariant (AreFrom c.args.tokens.now (c.loop-token.token-index + 1))
     (tok_of c.token-item.result) given.0 given.1 given.2
-    (signed_at c.in-Some-last.last) (ap (option_map signed_at) c.in-Some-last.is)).0
+    (signed_at c.in-Some.last) (ap (option_map signed_at) c.in-Some.is)).0
 
 pub line_behind-line-requires-clause-within : goal.line_behind-line-requires-clause-within
 line_behind-line-requires-clause-within g c =
@@ -53,31 +73,4 @@ line_behind-line-requires-clause-within g c =
     (last-behind g.K.Kind.white g.K.Kind.first g.K.Kind.is_end g.S.Signs.sign_of c.args.rule c.args.text.now
     c.loop-token.invariant (AreFrom c.args.tokens.now (c.loop-token.token-index + 1))
     (tok_of c.token-item.result) given.0 given.1 given.2
-    (signed_at c.in-Some-last.last) (ap (option_map signed_at) c.in-Some-last.is)).1
-
-pub loop-token-preserved-in-Some-opening : goal.loop-token-preserved-in-Some-opening
-loop-token-preserved-in-Some-opening g c =
-    let h = c.loop-token.invariant in
-    let given = from-next c.args.tokens.now c.loop-token.token-index h.are_left c.token-item.result
-    c.loop-token-test.true c.token-item.is in
-    let o = (let k = c.in-Some-opening.ensures in rw c.sign.ensures at k) in
-    rw c.sign.ensures (name-mentioned
-    g.K.Kind.white g.K.Kind.first g.K.Kind.is_end g.S.Signs.sign_of c.args.rule c.args.text.now
-    c.loop-token.invariant (AreFrom c.args.tokens.now (c.loop-token.token-index + 1))
-    (tok_of c.token-item.result) given.0 given.1 given.2
-    (signed_at c.in-Some-last.last) (ap (option_map signed_at) c.in-Some-last.is) _ _ _
-    c.line_behind-line.result o c.line_behind-line.ensures)
-
-pub loop-token-preserved-in-Continue-1 : goal.loop-token-preserved-in-Continue-1
-loop-token-preserved-in-Continue-1 g c =
-    let h = c.loop-token.invariant in
-    let given = from-next c.args.tokens.now c.loop-token.token-index h.are_left c.token-item.result
-    c.loop-token-test.true c.token-item.is in
-    let none = (let k = c.in-None-opening.ensures in rw c.sign.ensures at k) in
-    let pushed = c.in_ok-push_mention-in-None-opening.ensures in
-    rw (c.sign.ensures, pushed) (token-mentioned
-    g.K.Kind.white g.K.Kind.first g.K.Kind.is_end g.S.Signs.sign_of c.args.rule c.args.text.now
-    c.loop-token.invariant (AreFrom c.args.tokens.now (c.loop-token.token-index + 1))
-    (tok_of c.token-item.result) given.0 given.1 given.2
-    (signed_at c.in-Some-last.last) (ap (option_map signed_at) c.in-Some-last.is)
-    c.line_behind-line.result _ none c.line_behind-line.ensures refl)
+    (signed_at c.in-Some.last) (ap (option_map signed_at) c.in-Some.is)).1
