@@ -51,7 +51,8 @@ PASSED = {
 # The parameters that only a contract reads, each with what the contract says by it.
 UNREAD = {
     # how many evaluations have begun is bounded by the numbers of nodes and of bytes
-    "matchfailure: one_more.length", "matchfailure: one_more.nodes", "packrat: counted.length", "packrat: counted.nodes",
+    "matchfailure: one_more.length", "matchfailure: one_more.nodes", "packrat: counted.length",
+    "packrat: counted.nodes",
     # what the result says of the node that has these members or alternatives
     "pegnodes: by_alternatives.n", "pegnodes: by_members.n",
     # of which cells and in which of how many buckets the result is the last one
@@ -61,8 +62,8 @@ UNREAD = {
     "packrat: begin_tail.window", "packrat: close.peg", "packrat: close.window", "packrat: go_on_node.window",
     "packrat: go_on_tail.window", "packrat: put_operands.window", "packrat: put_turns.window",
     # of which tables, sets or rows the lists are
-    "earley: complete_rest.places", "earley: keep_set.places", "earley: predict_row.row", "earleyitems: add_linked.room",
-    "lazydfa: look.tables", "lazydfa: write.tables",
+    "earley: complete_rest.places", "earley: keep_set.places", "earley: predict_row.row",
+    "earleyitems: add_linked.room", "lazydfa: look.tables", "lazydfa: write.tables",
     # of which grammar, form or letters the result is true
     "abnfhints: is_barren.hinted", "abnftexts: write_text.form", "prune: prune_name.alphabet",
 }
