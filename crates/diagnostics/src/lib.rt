@@ -6,7 +6,7 @@ mod picture;
 
 pub use noteplaces::{
     Head, Mention, MentionKind, Places, Sign, Signs, add_number, explain_note, first_mention,
-    mention_lines, numbers_of, places_by, places_of, push_more,
+    mention_lines, numbers_of, places_of, push_more,
 };
 pub use picture::{
     Fact, LineAround, line_around, push_cut, push_fact, push_number, push_phrases, push_picture,

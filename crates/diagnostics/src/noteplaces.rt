@@ -14,7 +14,7 @@ mod prose;
 mod sign;
 mod uses;
 
-pub use explained::{explain_note, places_by, places_of};
+pub use explained::{explain_note, places_of};
 pub use heads::Head;
 pub use laws::first_mention;
 pub use lines::push_more;

@@ -7,7 +7,8 @@ use Rattle.diagnostics.proofs.noteplaces.kept.kept_tokens.Goals as goal
 pub loop-token-init : goal.loop-token-init
 loop-token-init g c = record {
   leads = rw c.into_iter-token-iterator.ensures.into_iter_gives
-      (leads-first g.K.Kind.white g.K.Kind.first g.K.Kind.is_end c.tokens-token-items.result c.tokens-token-items.ensures);
+      (leads-first g.K.Kind.white g.K.Kind.first g.K.Kind.is_end c.tokens-token-items.result
+      c.tokens-token-items.ensures);
   kept = c.new-kept.ensures.items;
 }
 

@@ -31,8 +31,9 @@ loop-token-preserved g c =
     elim c.match-last.branch [
       | in-Some+in-Some-opening w ↦ (
           let o = (let k = w.in-Some-opening.ensures in rw c.sign.ensures at k) in
-          rw (w.found-is, w.at-is, w.line-is, w.within-is, c.sign.ensures) (name-mentioned g.K.Kind.white g.K.Kind.first g.K.Kind.is_end g.S.Signs.sign_of
-          c.args.rule c.args.text.now h (AreFrom c.args.tokens.now (c.loop-token.token-index + 1))
+          rw (w.found-is, w.at-is, w.line-is, w.within-is, c.sign.ensures) (name-mentioned
+          g.K.Kind.white g.K.Kind.first g.K.Kind.is_end g.S.Signs.sign_of c.args.rule
+          c.args.text.now h (AreFrom c.args.tokens.now (c.loop-token.token-index + 1))
           (tok_of c.token-item.result) given.0 given.1 given.2
           (signed_at w.in-Some.last) (ap (option_map signed_at) w.in-Some.is) _ _ _
           w.line_behind-line.result o w.line_behind-line.ensures)
@@ -40,14 +41,16 @@ loop-token-preserved g c =
       | in-Some+in-None+in_ok-push_mention-in-None w ↦ (
           let none = (let k = w.in-None.ensures in rw c.sign.ensures at k) in
           let pushed = w.in_ok-push_mention-in-None.ensures in
-          rw (w.found-is, w.at-is, w.line-is, w.within-is, c.sign.ensures, pushed) (token-mentioned g.K.Kind.white g.K.Kind.first g.K.Kind.is_end g.S.Signs.sign_of
-          c.args.rule c.args.text.now h (AreFrom c.args.tokens.now (c.loop-token.token-index + 1))
+          rw (w.found-is, w.at-is, w.line-is, w.within-is, c.sign.ensures, pushed) (token-mentioned
+          g.K.Kind.white g.K.Kind.first g.K.Kind.is_end g.S.Signs.sign_of c.args.rule
+          c.args.text.now h (AreFrom c.args.tokens.now (c.loop-token.token-index + 1))
           (tok_of c.token-item.result) given.0 given.1 given.2
           (signed_at w.in-Some.last) (ap (option_map signed_at) w.in-Some.is)
           w.line_behind-line.result _ none w.line_behind-line.ensures refl)
           )
-      | in_default w ↦ rw (w.found-is, w.at-is, w.line-is, w.within-is, c.sign.ensures) (first-mentioned g.K.Kind.white g.K.Kind.first g.K.Kind.is_end g.S.Signs.sign_of
-          c.args.rule c.args.text.now h (AreFrom c.args.tokens.now (c.loop-token.token-index + 1))
+      | in_default w ↦ rw (w.found-is, w.at-is, w.line-is, w.within-is, c.sign.ensures) (first-mentioned
+          g.K.Kind.white g.K.Kind.first g.K.Kind.is_end g.S.Signs.sign_of c.args.rule
+          c.args.text.now h (AreFrom c.args.tokens.now (c.loop-token.token-index + 1))
           (tok_of c.token-item.result) given.0 given.1 given.2
           (ap (option_map signed_at) w.in_default.is))
     ]
