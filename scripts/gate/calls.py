@@ -14,6 +14,9 @@ if there is one, and where `PASSED` has one in vain. With -l it lists them all, 
 - only forwards: its body is one call with its own parameters, in their order;
 - binds and returns: it has `let x = e?; Ok(x)`;
 - discards: it has `let _ = x.f();`.
+
+It also finds parameters that the code never reads, which serve contracts alone, and holds them to `UNREAD` in the same
+way. The name of a parameter that a trait asks for in vain begins with `_`, and does not count.
 """
 import collections
 import dataclasses
@@ -44,6 +47,25 @@ PASSED = {
     # The contract of `start` says that the grammar is sound, and how its nodes are numbered.
     "matchfailure: Desk.step: discards", "matchfailure: FailureSearch.explain_no_match: discards",
     "matchfailure: rule_name: discards", "pegrun: run_units: discards",
+}
+# The parameters that only a contract reads, each with what the contract says by it.
+UNREAD = {
+    # how many evaluations have begun is bounded by the numbers of nodes and of bytes
+    "matchfailure: one_more.length", "matchfailure: one_more.nodes", "packrat: counted.length",
+    "packrat: counted.nodes",
+    # what the result says of the node that has these members or alternatives
+    "pegnodes: by_alternatives.n", "pegnodes: by_members.n",
+    # of which cells and in which of how many buckets the result is the last one
+    "memo: last_of.cells", "memo: last_of.count",
+    # what is evaluated, and on which bytes
+    "matchfailure: FailureSearch.failure_in.unit", "packrat: Machine.run_turns.more", "packrat: begin_tail.more",
+    "packrat: begin_tail.window", "packrat: close.peg", "packrat: close.window", "packrat: go_on_node.window",
+    "packrat: go_on_tail.window", "packrat: put_operands.window", "packrat: put_turns.window",
+    # of which tables, sets or rows the lists are
+    "earley: complete_rest.places", "earley: keep_set.places", "earley: predict_row.row",
+    "earleyitems: add_linked.room", "lazydfa: look.tables", "lazydfa: write.tables",
+    # of which grammar, form or letters the result is true
+    "abnfhints: is_barren.hinted", "abnftexts: write_text.form", "prune: prune_name.alphabet",
 }
 HEAD = re.compile(r"^( *)(?:pub(?:\(crate\))? )?(?:const )?fn (\w+)", re.M)
 OWNER = re.compile(r"^(impl|pub trait|trait)(?:<.*?>)? (?:(?:\w+::)*(\w+)(?:<.*>)? for )?&?(?:'\w+ )?(?:mut )?(\w+)")
@@ -125,6 +147,15 @@ def functions_in(crate, file, text):
         head = text[found.end():start.start()]
         body = text[start.start():closing(text, start.start())] if start.group() == "{" else ""
         yield Function(crate, file, owner, trait, found.group(2), *parameters_of(head), body)
+
+
+def unread(functions):
+    """Returns the parameters that the code of their function never reads."""
+    for it in functions:
+        words = set(re.findall(r"\w+", it.body))
+        for name in it.parameters:
+            if it.body and name != "self" and not name.startswith("_") and name not in words:
+                yield f"{it}.{name}"
 
 
 class Code:
@@ -218,10 +249,13 @@ def idle(functions):
 def main(*words):
     code, status = Code(), 0
     found = [*idle(code.functions)]
+    vain = [*unread(code.functions)]
     if words == ("-l",):
-        print(*found, sep="\n")
+        print(*found, *(f"{it}: only a contract reads it" for it in vain), sep="\n")
         return 0
     wrong = [it for it in found if it not in PASSED] + [f"{it}, not so: PASSED has it" for it in PASSED - {*found}]
+    wrong += [f"{it}: only a contract reads it" for it in vain if it not in UNREAD]
+    wrong += [f"{it}, not so: UNREAD has it" for it in UNREAD - {*vain}]
     for it in sorted(wrong):
         print(f"calls.py: {it}")
     for tool, (crate, loop, most) in LOOPS.items():

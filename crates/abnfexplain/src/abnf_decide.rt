@@ -1,11 +1,13 @@
 //! The token that decides that a text is no grammar in ABNF.
-ghost use Rattle.std.specs.Prelude.{IfOk, MatchOption, ◌≡◌};
+ghost use Rattle.std.specs.Prelude.{IfOk, List, MatchOption, ◌≡◌};
+ghost use Rattle.lexer.specs.TokenLists.{Tok};
+ghost use Rattle.abnfread.specs.MarkedTokens.{AreTokens};
 ghost use Rattle.abnfexplain.specs.AbnfDecisions.{Decides, NoneDecides};
 
 use crate::abnf_stand::{Form, Place};
 use crate::large::is_large;
 use abnfread::{AbnfKind, MarkedToken, abnf_tokens};
-use lexer::{MAX_OPEN, have_tokens};
+use lexer::MAX_OPEN;
 use ruletable::Memory;
 use std::alloc::Global;
 
@@ -45,9 +47,9 @@ fn form_of(token: MarkedToken<'_>) -> Form
 /// # Errors
 /// `Memory` if an allocation fails.
 pub(crate) fn deciding_token(alloc: Global, text: &[u8]) -> Result<Option<Decision<'_>>, Memory>
+    requires { (ts : List (Tok AbnfKind)) × AreTokens text.now ts }
     ensures { IfOk result (λ o. MatchOption o (NoneDecides text.now) (λ d. Decides text.now d)) }
 {
-    have_tokens::<AbnfKind>(text);
     let mut place = Place::start(alloc);
     let mut origin = None;
     let mut before = None;

@@ -2,11 +2,12 @@
 ghost use Rattle.std.specs.Prelude.{◌≡◌, ℕ, ◌≤◌, ◌++◌, ◌&&◌, List, Some, true, length, map, codes, OnOk, IfOk};
 ghost use Rattle.std.specs.Option.{option_map};
 ghost use Rattle.lexer.specs.GrammarLimits.{max_grammar};
+ghost use Rattle.lexer.specs.TokenLists.{Tok};
 ghost use Rattle.diagnostics.specs.FactRows.{row_of};
 ghost use Rattle.diagnostics.specs.PhraseLists.{listed};
 ghost use Rattle.diagnostics.specs.ToldPhrases.{AreTold};
 ghost use Rattle.abnfread.specs.AbnfReading.{IsFaultOf};
-ghost use Rattle.abnfread.specs.MarkedTokens.{marked_of};
+ghost use Rattle.abnfread.specs.MarkedTokens.{AreTokens, marked_of};
 ghost use Rattle.abnfexplain.specs.AbnfDecisions.{NoneDecides};
 ghost use Rattle.abnfexplain.specs.AbnfExpected.{phrases};
 ghost use Rattle.abnfexplain.specs.AbnfExplained.{bad_rows, token_place, bad_fact, indent, line_fact, name_fact};
@@ -259,6 +260,7 @@ fn limit_lines(
 // The lines on the token that decides.
 fn explain_token(alloc: Global, text: &[u8]) -> Result<Vec<u8>, Memory>
     requires within { length text.now ≤ max_grammar }
+    requires tokens { (ts : List (Tok AbnfKind)) × AreTokens text.now ts }
     requires decided { NoneDecides text.now → ⊥ }
     ensures { IfOk result (λ why. Why text.now why.items) }
 {

@@ -205,9 +205,8 @@ fn equals_token(tail: &[u8]) -> (AbnfKind, &[u8])
 }
 
 // Returns the token of a text after `%s` or `%i`.
-fn cased_token(c: u8, tail: &[u8]) -> Option<(AbnfKind, &[u8])>
-    requires { is_case_letter c ≡ true }
-    ensures { MatchOption result (NoToken Stands (37 ∷ c ∷ tail.now))
+fn cased_token(tail: &[u8]) -> Option<(AbnfKind, &[u8])>
+    ensures { (c : ℕ) → is_case_letter c ≡ true → MatchOption result (NoToken Stands (37 ∷ c ∷ tail.now))
         (λ token. Longest Stands token.0 (37 ∷ c ∷ tail.now) token.1.now) }
 {
     let quoted = after_byte(tail, b'"')?;
@@ -233,7 +232,7 @@ fn percent_token(tail: &[u8]) -> Option<(AbnfKind, &[u8])>
 {
     let (c, behind) = tail.split_first()?;
     if is_case(*c) {
-        cased_token(*c, behind)
+        cased_token(behind)
     } else {
         based_token(*c, behind)
     }

@@ -6,6 +6,7 @@ pub mod OneToldLemmas
 pub mod TellAllLemmas
 pub mod ReportTreeLemmas
 mod LineEndsLemmas
+mod KeptTokenLemmas
 mod HeadsTakenLemmas
 mod MentionsTakenLemmas
 pub mod AgainLinesLemmas

@@ -2,6 +2,7 @@
 
 mod explained;
 mod heads;
+mod kept;
 mod laws;
 mod lines;
 mod lines_of_kind;

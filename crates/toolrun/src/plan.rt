@@ -6,6 +6,7 @@ ghost use Rattle.toolrun.specs.Stop.{unread};
 ghost use Rattle.toolrun.specs.Tasks.{IsTask, task_does};
 ghost use Rattle.toolrun.specs.ToldNotes.{AreHintedBefore, AreToldBefore};
 ghost use Rattle.toolrun.specs.declared.settings.Mode.TheVariants.{Print};
+ghost use Rattle.toolrun.specs.declared.settings.Settings.{Settings as AllSettings};
 
 use crate::language::{Checked, Language};
 use crate::opening::open;
@@ -101,14 +102,12 @@ fn plan_stop<G, S>(alloc: Global, fault: ReadFault) -> Plan<G, S>
 fn plan_explained<L: Language>(
     alloc: Global,
     text: &[u8],
-    settings: &Settings<'_, L::Options>,
     fault: ReadFault,
 ) -> Plan<L::Grammar, L::Sound>
     requires fault { L.has_fault text.now fault }
     requires other { fault ≢ ReadFault.Memory }
-    requires asked { settings.now.explain ≡ true }
-    ensures { IsPlanned (L.states text.now settings.now) (first_text result.first)
-        (λ t. task_does L.canonical L.runs t settings.now) result.task }
+    ensures { (settings : AllSettings L.Options) → settings.explain ≡ true → IsPlanned (L.states text.now settings)
+        (first_text result.first) (λ t. task_does L.canonical L.runs t settings) result.task }
 {
     L::follows();
     match L::explain_fault(alloc, text, fault) {
@@ -144,7 +143,7 @@ fn plan_fault<L: Language>(
     if !settings.explain {
         return plan_stop(alloc, fault);
     }
-    plan_explained::<L>(alloc, text, settings, fault)
+    plan_explained::<L>(alloc, text, fault)
 }
 
 /// Returns the plan that writes notes before a task, each explained if settings ask for that. Where an allocation fails

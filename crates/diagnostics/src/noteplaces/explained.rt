@@ -1,5 +1,6 @@
 //! What a grammar's text explains of notes.
-ghost use Rattle.std.specs.Prelude.{◌≡◌, ◌++◌, map, IfOk, OnOk, option_copied};
+ghost use Rattle.std.specs.Prelude.{◌≡◌, ◌++◌, length, map, IfOk, OnOk, option_copied};
+ghost use Rattle.lexer.specs.TokenLists.{AreTokens, tok_of};
 ghost use Rattle.ruletable.specs.Notes.{said_of};
 ghost use Rattle.diagnostics.specs.BodyMentions.{mentioned_at};
 ghost use Rattle.diagnostics.specs.DefinitionHeads.{defined_at};
@@ -7,6 +8,7 @@ ghost use Rattle.diagnostics.specs.ExplainedNotes.{ArePlaces, told_by};
 ghost use Rattle.diagnostics.specs.UseLines.{lines_by};
 
 use crate::noteplaces::heads::heads_of;
+use crate::noteplaces::kept::kept_tokens;
 use crate::noteplaces::lines::{heads_named, push_by_heads};
 use crate::noteplaces::mentions::mentions_of;
 use crate::noteplaces::name_index::index_names;
@@ -14,11 +16,36 @@ use crate::noteplaces::places::Places;
 use crate::noteplaces::prose::push_first_prose;
 use crate::noteplaces::sign::Signs;
 use crate::noteplaces::uses::push_used;
-use lexer::{Kind, one_list};
+use lexer::{Kind, Token, one_list};
 use ruletable::{LineRule, Memory, NameCase, Note, NoteKind};
 use std::alloc::Global;
 
-/// Returns where a text defines its rules, and what their bodies mention.
+// Returns where a text with these tokens defines its rules, and what their bodies mention. `Memory` if an allocation
+// fails.
+fn places_by<K: Kind, S: Signs<K>>(
+    alloc: Global,
+    text: &[u8],
+    tokens: &[Token<'_, K>],
+    rule: LineRule,
+    names: NameCase,
+) -> Result<Places, Memory>
+    requires { AreTokens K.white K.first K.is_end (length text.now) text.now (map tok_of tokens.now) }
+    ensures { IfOk result (λ places. ArePlaces K.white K.first K.is_end S.sign_of rule names text.now places) }
+{
+    K::are_cut();
+    one_list::<K>();
+    let heads = heads_of::<K, S>(alloc, text, tokens, rule)?;
+    let mentions = mentions_of::<K, S>(alloc, text, tokens, rule)?;
+    let index = index_names(alloc, &heads, &mentions, names)?;
+    Ok(Places {
+        names,
+        heads,
+        mentions,
+        index,
+    })
+}
+
+/// Returns where a text defines its rules, and what their bodies mention. It cuts the text into tokens once.
 ///
 /// # Errors
 /// `Memory` if an allocation fails.
@@ -30,17 +57,8 @@ pub fn places_of<K: Kind, S: Signs<K>>(
 ) -> Result<Places, Memory>
     ensures { IfOk result (λ places. ArePlaces K.white K.first K.is_end S.sign_of rule names text.now places) }
 {
-    K::are_cut();
-    one_list::<K>();
-    let heads = heads_of::<K, S>(alloc, text, rule)?;
-    let mentions = mentions_of::<K, S>(alloc, text, rule)?;
-    let index = index_names(alloc, &heads, &mentions, names)?;
-    Ok(Places {
-        names,
-        heads,
-        mentions,
-        index,
-    })
+    let tokens = kept_tokens::<K>(alloc, text)?;
+    places_by::<K, S>(alloc, text, &tokens, rule, names)
 }
 
 // Adds the lines that explain a note of the kind on a name.

@@ -1,11 +1,12 @@
 //! The definitions of a grammar's text.
 ghost use Rattle.std.specs.Prelude.{◌≡◌, ◌≤◌, length, map, IfOk, MatchOption, None, option_map};
+ghost use Rattle.lexer.specs.TokenLists.{AreTokens, tok_of};
 ghost use Rattle.ruletable.specs.Lines.{line_at};
 ghost use Rattle.diagnostics.specs.DefinitionHeads.{AreDefinitions, defined_at, signed_at};
 ghost use Rattle.diagnostics.specs.Openings.{BeginsHead, opens};
 
 use crate::noteplaces::sign::{Sign, Signs};
-use lexer::{Kind, have_tokens, tokens, tokens_make_up};
+use lexer::{Kind, Token, tokens_make_up};
 use ruletable::{LineRule, Memory, line_of};
 use std::alloc::Global;
 
@@ -72,22 +73,23 @@ pub(crate) fn line_behind(
     line + (line_of(&text[at..], offset - at, rule) - 1)
 }
 
-/// Returns the heads of the definitions of a text, in order. `Memory` if an allocation fails.
+/// Returns the heads of the definitions of a text with these tokens, in order. `Memory` if an allocation fails.
 pub(crate) fn heads_of<K: Kind, S: Signs<K>>(
     alloc: Global,
     text: &[u8],
+    tokens: &[Token<'_, K>],
     rule: LineRule,
 ) -> Result<Vec<Head>, Memory>
+    requires { AreTokens K.white K.first K.is_end (length text.now) text.now (map tok_of tokens.now) }
     ensures { IfOk result (λ heads. AreDefinitions K.white K.first K.is_end S.sign_of rule text.now
         (map defined_at heads.items)) }
 {
-    have_tokens::<K>(text);
     tokens_make_up::<K>();
     let mut heads = Vec::new(alloc);
     let mut at = 0;
     let mut line = 1;
     let mut before: Option<Signed<'_>> = None;
-    for token in tokens::<K>(text) {
+    for token in tokens {
         let signed = Signed {
             sign: S::sign(token.kind),
             slice: token.slice,

@@ -1,12 +1,13 @@
 //! What the bodies of a grammar's rules mention: names, prose, repetitions, numbers and literals.
-ghost use Rattle.std.specs.Prelude.{◌≡◌, ◌++◌, map, IfOk, OnOk, option_map};
+ghost use Rattle.std.specs.Prelude.{◌≡◌, ◌++◌, length, map, IfOk, OnOk, option_map};
+ghost use Rattle.lexer.specs.TokenLists.{AreTokens, tok_of};
 ghost use Rattle.ruletable.specs.Lines.{line_at};
 ghost use Rattle.diagnostics.specs.BodyMentions.{AreMentions, is_kind as same_kind, mention_of, mentioned_at};
 ghost use Rattle.diagnostics.specs.DefinitionHeads.{signed_at};
 
 use crate::noteplaces::heads::{Signed, line_behind, opening_of};
 use crate::noteplaces::sign::{Sign, Signs};
-use lexer::{Kind, have_tokens, tokens, tokens_make_up};
+use lexer::{Kind, Token, tokens_make_up};
 use ruletable::{LineRule, Memory};
 use std::alloc::Global;
 
@@ -77,23 +78,24 @@ fn push_mention(
     Ok(())
 }
 
-/// Returns what the bodies of a text mention, in order. `Memory` if an allocation fails.
+/// Returns what the bodies of a text with these tokens mention, in order. `Memory` if an allocation fails.
 pub(crate) fn mentions_of<K: Kind, S: Signs<K>>(
     alloc: Global,
     text: &[u8],
+    tokens: &[Token<'_, K>],
     rule: LineRule,
 ) -> Result<Vec<Mention>, Memory>
+    requires { AreTokens K.white K.first K.is_end (length text.now) text.now (map tok_of tokens.now) }
     ensures { IfOk result (λ found. AreMentions K.white K.first K.is_end S.sign_of rule text.now
         (map mentioned_at found.items)) }
 {
-    have_tokens::<K>(text);
     tokens_make_up::<K>();
     let mut found = Vec::new(alloc);
     let mut at = 0;
     let mut line = 1;
     let mut within: Option<usize> = None;
     let mut before: Option<Signed<'_>> = None;
-    for token in tokens::<K>(text) {
+    for token in tokens {
         let signed = Signed {
             sign: S::sign(token.kind),
             slice: token.slice,

@@ -23,7 +23,7 @@ returns-then-not-allows c =
     let t = c.loop-token.invariant in
     let m = c.in-Some.token in
     let there = reading.one-there t.taken (marked_of m) (AreLeft c.next.new.self) c.in-Some.ensures.steps.first
-    c.have_tokens.ensures in
+    c.requires in
     refused-there t m.token.kind m.token.slice.now m.token.span m.gap m.first there.0 there.1 _ refl refl refl
     (let a = c.allows.ensures in sym (rw c.form_of-form.ensures at a) ∙ c.if-not-allows.true)
 
@@ -32,7 +32,7 @@ returns-then-is_large c =
     let t = c.loop-token.invariant in
     let m = c.in-Some.token in
     let there = reading.one-there t.taken (marked_of m) (AreLeft c.next.new.self) c.in-Some.ensures.steps.first
-    c.have_tokens.ensures in
+    c.requires in
     large-there t m.token.kind m.token.slice.now m.token.span m.gap m.first there.0 there.1
     (let a = c.allows.ensures in sym (rw c.form_of-form.ensures at a) ∙ c.if-not-allows.false)
     (λ s says. c.if-is_large.ensures s says)
@@ -42,7 +42,7 @@ returns-then-len-gt-MAX_OPEN c =
     let t = c.loop-token.invariant in
     let m = c.in-Some.token in
     let there = reading.one-there t.taken (marked_of m) (AreLeft c.next.new.self) c.in-Some.ensures.steps.first
-    c.have_tokens.ensures in
+    c.requires in
     deep-there t m.token.kind m.token.slice.now m.token.span m.gap m.first there.0 there.1
     (let a = c.allows.ensures in sym (rw c.form_of-form.ensures at a) ∙ c.if-not-allows.false) c.advance.new.self
     (let a = c.in_ok-advance.ensures in rw c.form_of-form.ensures at a)
@@ -53,7 +53,7 @@ loop-token-preserved c =
     let t = c.loop-token.invariant in
     let m = c.in-Some.token in
     let gives = c.in-Some.ensures.steps in
-    let there = reading.one-there t.taken (marked_of m) (AreLeft c.next.new.self) gives.first c.have_tokens.ensures in
+    let there = reading.one-there t.taken (marked_of m) (AreLeft c.next.new.self) gives.first c.requires in
     let next = one-more t m.token.kind m.token.slice.now m.token.span m.gap m.first there.0 there.1
     (let a = c.allows.ensures in sym (rw c.form_of-form.ensures at a) ∙ c.if-not-allows.false) c.advance.new.self
     (let a = c.in_ok-advance.ensures in rw c.form_of-form.ensures at a) (AreLeft c.next.new.self)

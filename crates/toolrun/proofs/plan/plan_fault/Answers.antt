@@ -1,5 +1,5 @@
 -- The fault is told alone.
-use Rattle.std.proofs.Common.{◌≡◌, false, rules}
+use Rattle.std.proofs.Common.{◌≡◌, true, false, rules}
 use Rattle.ruletable.specs.declared.fault.ReadFault.TheVariants.{Memory}
 use Rattle.toolrun.proofs.IsPlanLemmas.{plan_unread, plan_without_memory}
 use Rattle.toolrun.proofs.plan.plan_fault.Goals as goal
@@ -15,3 +15,8 @@ returns-then-not-settings g c =
     let plain : c.args.settings.now.explain ≡ false = search rules in
     rw (c.plan_stop-then-not-settings.ensures.first, c.plan_stop-then-not-settings.ensures.task)
     (plan_unread c.follows.ensures c.args.text.now c.args.settings.now plain c.args.fault c.requires)
+
+pub returns : goal.returns
+returns g c =
+    let asked : c.args.settings.now.explain ≡ true = search rules in
+    c.plan_explained.ensures c.args.settings.now asked

@@ -1,29 +1,43 @@
+use Rattle.std.proofs.Common.{◌+◌, map, refl}
 use Rattle.std.proofs.lemmas.List.{map-append}
-use Rattle.lexer.specs.TokenLists.{AreLeft, tok_of}
-use Rattle.lexer.proofs.TokenListLemmas.{left-at_start}
+use Rattle.lexer.specs.TokenLists.{tok_of}
+use Rattle.diagnostics.proofs.KeptTokenLemmas.{AreFrom, from-end, from-next}
 use Rattle.diagnostics.proofs.HeadsTakenLemmas.{none-taken, token-taken, head-taken, opens-behind, all-taken}
 use Rattle.diagnostics.proofs.noteplaces.heads.heads_of.Goals as goal
+use Rattle.diagnostics.proofs.noteplaces.heads.heads_of.Goals.{in-Some+in_ok-name+in_ok-push, in_default}
 
 pub loop-token-init : goal.loop-token-init
 loop-token-init g c =
-    let all = c.have_tokens.ensures in
+    let all = map tok_of c.args.tokens.now in
     rw c.new-heads.ensures.items (none-taken g.K.Kind.white g.K.Kind.first g.K.Kind.is_end g.S.Signs.sign_of
-    c.args.rule c.args.text.now
-    (AreLeft g.K.Kind.white g.K.Kind.first g.K.Kind.is_end c.into_iter-token-iterator.result) all.0
-    (rw c.into_iter-token-iterator.ensures.into_iter_gives
-    (left-at_start g.K.Kind.white g.K.Kind.first g.K.Kind.is_end c.tokens-token-items.result
-    c.tokens-token-items.ensures all.1)) all.1
-    (c.tokens_make_up.ensures.slices c.args.text.now all.0 all.1)
-    (c.tokens_make_up.ensures.order c.args.text.now all.0 all.1))
+    c.args.rule c.args.text.now (AreFrom c.args.tokens.now 0) all refl c.requires
+    (c.tokens_make_up.ensures.slices c.args.text.now all c.requires)
+    (c.tokens_make_up.ensures.order c.args.text.now all c.requires))
 
 pub loop-token-preserved : goal.loop-token-preserved
 loop-token-preserved g c =
     let h = c.loop-token.invariant in
-    let given = c.in-Some.ensures.steps.first h.rest h.are_left in
-    let none = (let n = c.in_default.ensures in rw c.sign.ensures at n) in
-    rw c.sign.ensures (token-taken g.K.Kind.white g.K.Kind.first g.K.Kind.is_end g.S.Signs.sign_of c.args.rule
-    c.args.text.now h (AreLeft g.K.Kind.white g.K.Kind.first g.K.Kind.is_end c.next.new.self)
-    (tok_of c.in-Some.token) given.0 given.1 given.2 none)
+    let given = from-next c.args.tokens.now c.loop-token.token-index h.are_left c.token-item.result
+    c.loop-token-test.true c.token-item.is in
+    elim c.match-opening.branch [
+      | in-Some+in_ok-name+in_ok-push w ↦ (
+          let o = (let k = w.in-Some.ensures in rw c.sign.ensures at k) in
+          let pushed = w.in_ok-push.ensures.items in
+          let name = w.in_ok-name.ensures.items in
+          rw (w.heads-is, w.at-is, w.line-is, c.sign.ensures, pushed, map-append, name)
+          (head-taken g.K.Kind.white g.K.Kind.first g.K.Kind.is_end g.S.Signs.sign_of c.args.rule
+          c.args.text.now h (AreFrom c.args.tokens.now (c.loop-token.token-index + 1))
+          (tok_of c.token-item.result) given.0 given.1 given.2 _ _ _ o w.line_behind-line.result
+          w.line_behind-line.ensures)
+          )
+      | in_default w ↦ (
+          let none = (let n = w.in_default.ensures in rw c.sign.ensures at n) in
+          rw (w.heads-is, w.at-is, w.line-is, c.sign.ensures)
+          (token-taken g.K.Kind.white g.K.Kind.first g.K.Kind.is_end g.S.Signs.sign_of c.args.rule
+          c.args.text.now h (AreFrom c.args.tokens.now (c.loop-token.token-index + 1))
+          (tok_of c.token-item.result) given.0 given.1 given.2 none)
+          )
+    ]
 
 pub line_behind-line-requires-clause-line : goal.line_behind-line-requires-clause-line
 line_behind-line-requires-clause-line g c = c.loop-token.invariant.line_is
@@ -31,35 +45,25 @@ line_behind-line-requires-clause-line g c = c.loop-token.invariant.line_is
 pub line_behind-line-requires-clause-order : goal.line_behind-line-requires-clause-order
 line_behind-line-requires-clause-order g c =
     let h = c.loop-token.invariant in
-    let given = c.in-Some.ensures.steps.first h.rest h.are_left in
-    let o = (let k = c.in-Some-opening.ensures in rw c.sign.ensures at k) in
+    let given = from-next c.args.tokens.now c.loop-token.token-index h.are_left c.token-item.result
+    c.loop-token-test.true c.token-item.is in
+    let o = (let k = c.in-Some.ensures in rw c.sign.ensures at k) in
     (opens-behind g.K.Kind.white g.K.Kind.first g.K.Kind.is_end g.S.Signs.sign_of c.args.rule
-    c.args.text.now h (AreLeft g.K.Kind.white g.K.Kind.first g.K.Kind.is_end c.next.new.self)
-    (tok_of c.in-Some.token) given.0 given.1 given.2 _ _ _ o).0
+    c.args.text.now h (AreFrom c.args.tokens.now (c.loop-token.token-index + 1))
+    (tok_of c.token-item.result) given.0 given.1 given.2 _ _ _ o).0
 
 pub line_behind-line-requires-clause-within : goal.line_behind-line-requires-clause-within
 line_behind-line-requires-clause-within g c =
     let h = c.loop-token.invariant in
-    let given = c.in-Some.ensures.steps.first h.rest h.are_left in
-    let o = (let k = c.in-Some-opening.ensures in rw c.sign.ensures at k) in
+    let given = from-next c.args.tokens.now c.loop-token.token-index h.are_left c.token-item.result
+    c.loop-token-test.true c.token-item.is in
+    let o = (let k = c.in-Some.ensures in rw c.sign.ensures at k) in
     (opens-behind g.K.Kind.white g.K.Kind.first g.K.Kind.is_end g.S.Signs.sign_of c.args.rule
-    c.args.text.now h (AreLeft g.K.Kind.white g.K.Kind.first g.K.Kind.is_end c.next.new.self)
-    (tok_of c.in-Some.token) given.0 given.1 given.2 _ _ _ o).1
-
-pub loop-token-preserved-in-Continue-branch-2 : goal.loop-token-preserved-in-Continue-branch-2
-loop-token-preserved-in-Continue-branch-2 g c =
-    let h = c.loop-token.invariant in
-    let given = c.in-Some.ensures.steps.first h.rest h.are_left in
-    let o = (let k = c.in-Some-opening.ensures in rw c.sign.ensures at k) in
-    let pushed = c.in_ok-push.ensures.items in
-    let name = c.in_ok-name.ensures.items in
-    rw (c.sign.ensures, pushed, map-append, name)
-    (head-taken g.K.Kind.white g.K.Kind.first g.K.Kind.is_end g.S.Signs.sign_of c.args.rule
-    c.args.text.now h (AreLeft g.K.Kind.white g.K.Kind.first g.K.Kind.is_end c.next.new.self)
-    (tok_of c.in-Some.token) given.0 given.1 given.2 _ _ _ o c.line_behind-line.result c.line_behind-line.ensures)
+    c.args.text.now h (AreFrom c.args.tokens.now (c.loop-token.token-index + 1))
+    (tok_of c.token-item.result) given.0 given.1 given.2 _ _ _ o).1
 
 pub returns : goal.returns
 returns g c =
     let h = c.loop-token.invariant in
     all-taken g.K.Kind.white g.K.Kind.first g.K.Kind.is_end g.S.Signs.sign_of c.args.rule c.args.text.now h
-    (c.in-None.ensures.steps.first h.rest h.are_left)
+    (from-end c.args.tokens.now c.loop-token.token-index h.are_left c.loop-token-test.false)

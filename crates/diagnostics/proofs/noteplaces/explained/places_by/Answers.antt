@@ -5,7 +5,7 @@ use Rattle.diagnostics.specs.BodyMentions.{mentions_in}
 use Rattle.diagnostics.specs.DefinitionHeads.{defined_at, sign_at}
 use Rattle.diagnostics.specs.NameIndexes.{Rises}
 use Rattle.diagnostics.proofs.RisingStartsLemmas.{starts-rise}
-use Rattle.diagnostics.proofs.noteplaces.explained.places_of.Goals as goal
+use Rattle.diagnostics.proofs.noteplaces.explained.places_by.Goals as goal
 
 pub returns : goal.returns
 returns g c =
