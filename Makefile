@@ -49,7 +49,7 @@ examples: programs
 	@sh scripts/docs/run_examples.sh
 	@python3 -B scripts/docs/man_examples.py
 
-# The programs, their manual pages, completions for shells, README and examples, below PREFIX; and the library for C with
+# The programs, their manual pages, completions for shells, README, LICENSE and examples, below PREFIX; and the library for C with
 # its header, its manual page and what pkg-config reads, if `make lib` made it. `put` and `put-lib` take all from bin/ as it
 # is.
 PREFIX ?= /usr/local
@@ -65,7 +65,7 @@ put:
 	install -m 644 completions/bash/* $(SHARE)/bash-completion/completions
 	install -m 644 completions/zsh/* $(SHARE)/zsh/site-functions
 	install -m 644 completions/fish/* $(SHARE)/fish/vendor_completions.d
-	install -m 644 README.md $(SHARE)/doc/fanquber
+	install -m 644 README.md LICENSE $(SHARE)/doc/fanquber
 	cp -R examples $(SHARE)/doc/fanquber
 
 put-lib:

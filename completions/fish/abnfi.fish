@@ -6,7 +6,7 @@ function __abnfi_rules
     set -l at 2
     while test $at -le (count $words)
         switch $words[$at]
-            case -m -l -s -u
+            case -m --mode -s --rule -l --limit -u --letters
                 set at (math $at + 1)
             case '-*'
             case '*'
@@ -19,11 +19,12 @@ function __abnfi_rules
     end
 end
 
-complete -c abnfi -s m -x -a 'run check print' -d 'What to do with the grammar'
-complete -c abnfi -s l -x -d 'How many bytes a line may have, from 1 to 16777216'
-complete -c abnfi -s s -x -a '(__abnfi_rules)' -d 'The judged rule [default: the first rule]'
-complete -c abnfi -s u -x -a 'bytes utf8' -d 'What the letters of a line are: its bytes, or the code points of UTF-8'
-complete -c abnfi -s w -d 'Write how far a refused line goes: no N'
-complete -c abnfi -s z -d 'Cut the input at NUL bytes in place of line feeds'
-complete -c abnfi -s x -d 'Explain messages in more lines'
-complete -c abnfi -s h -l help -f -d 'Print help'
+complete -c abnfi -s m -l mode -x -a 'run check print' -d 'Choose what to do with the grammar'
+complete -c abnfi -s s -l rule -x -a '(__abnfi_rules)' -d 'Judge by this rule [default: the first rule]'
+complete -c abnfi -s l -l limit -x -d 'Take lines of at most N bytes, from 1 to 16777216'
+complete -c abnfi -s u -l letters -x -a 'bytes utf8' -d 'Take bytes or code points of UTF-8 as letters'
+complete -c abnfi -s z -l null-data -d 'Cut the input at NUL bytes in place of line feeds'
+complete -c abnfi -s w -l viable -d 'Write how far a refused line goes: no N'
+complete -c abnfi -s x -l explain -d 'Explain messages in more lines'
+complete -c abnfi -s h -l help -f -d 'Print this help'
+complete -c abnfi -l version -f -d 'Print the version'

@@ -6,7 +6,7 @@ function __pegi_rules
     set -l at 2
     while test $at -le (count $words)
         switch $words[$at]
-            case -m -l -s
+            case -m --mode -s --rule -l --limit
                 set at (math $at + 1)
             case '-*'
             case '*'
@@ -19,9 +19,10 @@ function __pegi_rules
     end
 end
 
-complete -c pegi -s m -x -a 'run check print' -d 'What to do with the grammar'
-complete -c pegi -s l -x -d 'How many bytes a unit may look at, from 1 to 16777216'
-complete -c pegi -s s -x -a '(__pegi_rules)' -d 'The start rule [default: the first rule]'
-complete -c pegi -s r -d 'Print actions verbatim'
-complete -c pegi -s x -d 'Explain messages in more lines'
-complete -c pegi -s h -l help -f -d 'Print help'
+complete -c pegi -s m -l mode -x -a 'run check print' -d 'Choose what to do with the grammar'
+complete -c pegi -s s -l rule -x -a '(__pegi_rules)' -d 'Start from this rule [default: the first rule]'
+complete -c pegi -s l -l limit -x -d 'Look at no more than N bytes in a unit, from 1 to 16777216'
+complete -c pegi -s r -l raw -d 'Print actions verbatim'
+complete -c pegi -s x -l explain -d 'Explain messages in more lines'
+complete -c pegi -s h -l help -f -d 'Print this help'
+complete -c pegi -l version -f -d 'Print the version'

@@ -4,8 +4,8 @@
 usage: completions.py [--check]
 
 With --check it compares the files with what it would write, and writes nothing. The description of the options is here,
-once for all shells; completions_test.py compares it with what the programs print for -h. Behind -s the rules of the
-grammar are offered if it stands on the line already: they come from `-m print`.
+once for all shells; completions_test.py compares it with what the programs print for -h. As the value of --rule the
+rules of the grammar are offered if it stands on the line already: they come from `-m print`.
 """
 import dataclasses
 import pathlib
@@ -17,17 +17,23 @@ FOLDER = TOP / "completions"
 
 @dataclasses.dataclass(frozen=True)
 class Option:
-    """An option: its letter, the word for its value, the values that it may have, and what the help says."""
+    """An option: its letter, if it has one, its long name, the word for its value, the values that it may have, and
+    what the help says."""
 
     letter: str
+    name: str
     value: str
     values: tuple
     text: str
 
+    def typed(self):
+        """Returns its names, as they are typed."""
+        return [*([f"-{self.letter}"] if self.letter else []), f"--{self.name}"]
+
 
 @dataclasses.dataclass(frozen=True)
 class Program:
-    """A program: its options, what stands behind a rule's name where the grammar is printed, and what the help says of
+    """A program: its options, what stands after a rule's name where the grammar is printed, and what the help says of
     its file. A program without that sign takes any number of texts."""
 
     name: str
@@ -37,37 +43,40 @@ class Program:
 
     def valued(self):
         """Returns the options that take a value, as they are typed."""
-        return [f"-{it.letter}" for it in self.options if it.value]
+        return [name for it in self.options if it.value for name in it.typed()]
 
 
 GRAMMAR = "The file of the grammar, at most 1048576 bytes"
-MODE = Option("m", "MODE", ("run", "check", "print"), "What to do with the grammar")
-EXPLAIN = Option("x", "", (), "Explain messages in more lines")
-HELP = Option("h", "", (), "Print help")
+MODE = Option("m", "mode", "MODE", ("run", "check", "print"), "Choose what to do with the grammar")
+EXPLAIN = Option("x", "explain", "", (), "Explain messages in more lines")
+HELP = Option("h", "help", "", (), "Print this help")
+VERSION = Option("", "version", "", (), "Print the version")
 PROGRAMS = (
     Program("pegi", (
         MODE,
-        Option("l", "N", (), "How many bytes a unit may look at, from 1 to 16777216"),
-        Option("s", "RULE", (), "The start rule [default: the first rule]"),
-        Option("r", "", (), "Print actions verbatim"),
+        Option("s", "rule", "RULE", (), "Start from this rule [default: the first rule]"),
+        Option("l", "limit", "N", (), "Look at no more than N bytes in a unit, from 1 to 16777216"),
+        Option("r", "raw", "", (), "Print actions verbatim"),
         EXPLAIN,
         HELP,
+        VERSION,
     ), "<-", GRAMMAR),
     Program("abnfi", (
         MODE,
-        Option("l", "N", (), "How many bytes a line may have, from 1 to 16777216"),
-        Option("s", "RULE", (), "The judged rule [default: the first rule]"),
-        Option("u", "MODE", ("bytes", "utf8"),
-               "What the letters of a line are: its bytes, or the code points of UTF-8"),
-        Option("w", "", (), "Write how far a refused line goes: no N"),
-        Option("z", "", (), "Cut the input at NUL bytes in place of line feeds"),
+        Option("s", "rule", "RULE", (), "Judge by this rule [default: the first rule]"),
+        Option("l", "limit", "N", (), "Take lines of at most N bytes, from 1 to 16777216"),
+        Option("u", "letters", "MODE", ("bytes", "utf8"), "Take bytes or code points of UTF-8 as letters"),
+        Option("z", "null-data", "", (), "Cut the input at NUL bytes in place of line feeds"),
+        Option("w", "viable", "", (), "Write how far a refused line goes: no N"),
         EXPLAIN,
         HELP,
+        VERSION,
     ), "=", GRAMMAR),
     Program("abnfx", (
-        Option("c", "", (), "Write the canonical text of the grammar"),
-        Option("l", "", (), "List the rules, and what becomes of each"),
+        Option("c", "canonical", "", (), "Write the canonical text of the grammar"),
+        Option("l", "list", "", (), "List the rules, and what becomes of each"),
         HELP,
+        VERSION,
     ), "", "The texts of RFCs, each at most 16777216 bytes"),
 )
 
@@ -79,7 +88,10 @@ _@NAME@_rules() {
     for ((at = 1; at < ${#COMP_WORDS[@]}; at++)); do
         word=${COMP_WORDS[at]}
         case $word in
-            @VALUED@) ((++at)) ;;
+            @VALUED@)
+                ((++at))
+                [[ ${COMP_WORDS[at]} != = ]] || ((++at))
+                ;;
             -*) ;;
             *)
                 word=${word//\\/}
@@ -94,18 +106,25 @@ _@NAME@_rules() {
 _@NAME@() {
     local current=${COMP_WORDS[COMP_CWORD]} before=${COMP_WORDS[COMP_CWORD - 1]} option words
     COMPREPLY=()
+    # bash cuts --mode=check into three words
+    if [[ $current == = ]]; then
+        current=
+    elif [[ $before == = ]]; then
+        before=${COMP_WORDS[COMP_CWORD - 2]}
+    fi
     case $before in
 @VALUES@
-        -s)
+        -s | --rule)
             mapfile -t COMPREPLY < <(compgen -W "$(_@NAME@_rules "${1/#\~\//$HOME/}")" -- "$current")
             return
             ;;
-        -l) return ;;
+        -l | --limit) return ;;
     esac
     if [[ $current == -* ]]; then
         # each option may stand once
         for option in @OPTIONS@; do
-            [[ " ${COMP_WORDS[*]} " == *" $option "* && $option != "$current" ]] || words+=" $option"
+            [[ ,$option, == *",$current,"* || " ${COMP_WORDS[*]} " != *" ${option%,*} "* &&
+                " ${COMP_WORDS[*]} " != *" ${option#*,} "* ]] && words+=" ${option/,/ }"
         done
         mapfile -t COMPREPLY < <(compgen -W "$words" -- "$current")
     else
@@ -124,7 +143,8 @@ _@NAME@() {
     if [[ $current == -* ]]; then
         # each option may stand once
         for option in @OPTIONS@; do
-            [[ " ${COMP_WORDS[*]} " == *" $option "* && $option != "$current" ]] || words+=" $option"
+            [[ ,$option, == *",$current,"* || " ${COMP_WORDS[*]} " != *" ${option%,*} "* &&
+                " ${COMP_WORDS[*]} " != *" ${option#*,} "* ]] && words+=" ${option/,/ }"
         done
         mapfile -t COMPREPLY < <(compgen -W "$words" -- "$current")
     else
@@ -148,7 +168,7 @@ FISH_TEXTS = r"""# Completes the command line of @NAME@ in fish. scripts/build/c
 @OPTIONS@
 """
 
-BASH_VALUES = """        -@LETTER@)
+BASH_VALUES = """        @NAMES@)
             mapfile -t COMPREPLY < <(compgen -W '@VALUES@' -- "$current")
             return
             ;;"""
@@ -215,9 +235,10 @@ def filled(template, **words):
 def for_bash(program):
     """Returns the file for bash."""
     values = [
-        filled(BASH_VALUES, LETTER=it.letter, VALUES=" ".join(it.values)) for it in program.options if it.values
+        filled(BASH_VALUES, NAMES=" | ".join(it.typed()), VALUES=" ".join(it.values))
+        for it in program.options if it.values
     ]
-    options = " ".join(f"-{it.letter}" for it in program.options) + " --help"
+    options = " ".join(",".join(it.typed()) for it in program.options)
     return filled(BASH if program.sign else BASH_TEXTS, NAME=program.name, SIGN=program.sign,
                   VALUED=" | ".join(program.valued()), VALUES="\n".join(values), OPTIONS=options)
 
@@ -226,10 +247,13 @@ def for_zsh(program):
     """Returns the file for zsh."""
     def spec(it):
         text = it.text.replace("[", "(").replace("]", ")").replace(":", "\\:")
-        if it is HELP:
-            return f"    '(- 1)'{{-h,--help}}'[{text}]' \\"
+        if it is VERSION:
+            return f"    '(- 1)--version[{text}]' \\"
+        names = it.typed()
+        others = "- 1" if it is HELP else " ".join(names)
+        typed = ",".join(names) + ("=" if it.value else "")
         action = f"({' '.join(it.values)})" if it.values else f"_{program.name}_rules" if it.letter == "s" else " "
-        return f"    '-{it.letter}[{text}]" + (f":{it.value.lower()}:{action}' \\" if it.value else "' \\")
+        return f"    '({others})'{{{typed}}}'[{text}]" + (f":{it.value.lower()}:{action}' \\" if it.value else "' \\")
     return filled(ZSH if program.sign else ZSH_TEXTS, NAME=program.name, SIGN=program.sign,
                   VALUED="|".join(program.valued()), OPTIONS="\n".join(map(spec, program.options)))
 
@@ -239,7 +263,7 @@ def for_fish(program):
     def line(it):
         offered = " ".join(it.values) or (f"(__{program.name}_rules)" if it.letter == "s" else "")
         values = (" -x" if it.value else "") + (f" -a '{offered}'" if offered else "")
-        name = f"-s {it.letter}" + (" -l help -f" if it is HELP else "")
+        name = (f"-s {it.letter} " if it.letter else "") + f"-l {it.name}" + (" -f" if it in (HELP, VERSION) else "")
         return f"complete -c {program.name} {name}{values} -d '{it.text}'"
     return filled(FISH if program.sign else FISH_TEXTS, NAME=program.name, SIGN=program.sign,
                   VALUED=" ".join(program.valued()), OPTIONS="\n".join(map(line, program.options)))

@@ -5,9 +5,10 @@ for Debian. `make put` says what goes where.
 usage: package.py dist|deb
 
 The archive fanquber-VERSION-x86_64-linux.tar.gz holds the folders bin/ and share/, the file PROVED, which says what was
-proved with which kit, and SHA256SUMS. Beside it stands its own sum. The same sources and kit give the same archive.
-VERSION is the date of the last commit. Both programs need the C library and no other: the script refuses to pack them
-otherwise. It needs readelf (Debian: binutils) and for `deb` dpkg-deb.
+proved with which kit, the file LICENSE, and SHA256SUMS. Beside it stands its own sum. The same sources and kit give the
+same archive. VERSION is what `--version` writes, and the date of the last commit: 1.2+20261128. The programs need the C
+library and no other: the script refuses to pack them otherwise. It needs readelf (Debian: binutils) and for `deb`
+dpkg-deb.
 """
 import gzip
 import hashlib
@@ -23,6 +24,8 @@ TOP = pathlib.Path(__file__).resolve().parents[2]
 NAME = "fanquber"
 PROGRAMS = ("pegi", "abnfi", "abnfx")
 LIBRARIES = {"libc.so.6", "ld-linux-x86-64.so.2"}
+# The one place of the version's number.
+VERSION_FILE = "crates/cli/src/command.rt"
 CONTROL = """Package: {name}
 Version: {version}
 Architecture: amd64
@@ -48,11 +51,17 @@ def output(*words):
         sys.exit(f"package.py: {words[0]}: {getattr(fault, 'stderr', '') or fault}")
 
 
+def number():
+    """Returns the number that the programs write for --version."""
+    text = (TOP / VERSION_FILE).read_text(encoding="utf-8")
+    return re.search(r'^const VERSION: &str = "\(Fanquber\) ([\d.]+)";$', text, re.M)[1]
+
+
 def commit():
-    """Returns the date of the last commit in seconds, and as a word, and what the sources are."""
+    """Returns the date of the last commit in seconds, the version of a package, and what the sources are."""
     when, day, name = output("git", "log", "-1", "--format=%ct %cd %h", "--date=format:%Y%m%d").split()
     changed = " with changes that are not committed" if output("git", "status", "--porcelain", "-uno") else ""
-    return int(when), day, f"commit {name}{changed}"
+    return int(when), f"{number()}+{day}", f"commit {name}{changed}"
 
 
 def libc_version():
@@ -96,7 +105,8 @@ def dist():
         folder = pathlib.Path(made) / base
         folder.mkdir()
         lay_out(folder, "")
-        (folder / f"share/doc/{NAME}/PROVED").rename(folder / "PROVED")
+        for it in ("PROVED", "LICENSE"):
+            (folder / f"share/doc/{NAME}" / it).rename(folder / it)
         (folder / "SHA256SUMS").write_text(sums_of(folder, files_below(folder)))
 
         def plain(entry):
@@ -122,6 +132,8 @@ def deb():
         for it in (folder / "usr/share/man/man1").iterdir():
             (it.parent / f"{it.name}.gz").write_bytes(gzip.compress(it.read_bytes(), mtime=when))
             it.unlink()
+        # Debian wants the licence in a file of this name
+        (folder / f"usr/share/doc/{NAME}/LICENSE").rename(folder / f"usr/share/doc/{NAME}/copyright")
         # Debian's zsh looks here for what packages complete
         (folder / "usr/share/zsh/site-functions").rename(folder / "usr/share/zsh/vendor-completions")
         size = sum(it.stat().st_size for it in files_below(folder)) // 1024

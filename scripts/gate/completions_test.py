@@ -28,20 +28,29 @@ GRAMMARS = {
     "g.peg": "line <- word ' ' word\nword <- [a-z]+\nother_1 <- 'x'\n",
     "g.abnf": "line = word SP word\nword = 1*ALPHA\nother-1 = %x41\n",
 }
-# For each program the words behind its name, the last of which is to be completed, and what is to be offered.
+# For each program the words after its name, the last of which is to be completed, and what is to be offered. bash cuts
+# a word at its `=`, so a row does.
 ROWS = (
     ("pegi", "-m ", {"run", "check", "print"}),
     ("pegi", "-m c", {"check"}),
     ("pegi", "-s  g.peg", {"line", "word", "other_1"}),
     ("pegi", "-l 70 g.peg -s o", {"other_1"}),
     ("pegi", "g.p", {"g.peg"}),
+    ("pegi", "--mode ", {"run", "check", "print"}),
+    ("pegi", "--mode = c", {"check"}),
+    ("pegi", "--limit 70 g.peg --rule o", {"other_1"}),
+    ("pegi", "--r", {"--rule", "--raw"}),
     ("abnfi", "-m p", {"print"}),
     ("abnfi", "-u ", {"bytes", "utf8"}),
     ("abnfi", "-w g.abnf -s ", {"line", "word", "other-1"}),
     ("abnfi", "-u utf8 g.abnf -s w", {"word"}),
     ("abnfi", "g.a", {"g.abnf"}),
+    ("abnfi", "--letters u", {"utf8"}),
+    ("abnfi", "--letters = utf8 g.abnf --rule = w", {"word"}),
+    ("abnfi", "--v", {"--viable", "--version"}),
     ("abnfx", "-c g.p", {"g.peg"}),
     ("abnfx", "g.peg g.a", {"g.abnf"}),
+    ("abnfx", "-c --", {"--list", "--help", "--version"}),
 )
 # The last of these words may be offered only where a row says so.
 EVERY = {it for _, _, wanted in ROWS for it in wanted}
@@ -54,21 +63,21 @@ def environment(folder):
 
 
 def shown(program):
-    """Returns what -h says of the options: for each its letter, the word for its value, the text and the values; and
-    what it says of the grammar."""
+    """Returns what -h says of the options: for each its letter, its long name, the word for its value, the text and the
+    values; and what it says of the grammar."""
     text = subprocess.run([TOP / "bin" / program.name, "-h"], check=True, capture_output=True, text=True).stdout
     found = set()
-    for letter, value, said in re.findall(r"(?m)^  -(\w)(?:, --help)?(?: <(\w+)>)? +(.*)$", text):
+    for letter, name, value, said in re.findall(r"(?m)^  (?:-(\w), |    )--([\w-]+)(?: <(\w+)>)? +(.*)$", text):
         values = re.search(r" \[possible values: (.*)\]", said)
         said = re.sub(r" \[(possible values|default: (run|bytes|65536)\]).*", "", said)
-        found.add((letter, value, said, tuple(values[1].split(", ")) if values else ()))
+        found.add((letter, name, value, said, tuple(values[1].split(", ")) if values else ()))
     return found, re.search(r"(?m)^  <(?:GRAMMAR|TEXT)>(?:\.\.\.)? +(.*)$", text)[1]
 
 
 def faults_of_help(program):
     """Returns in what -h and the description differ."""
     options, file = shown(program)
-    described = {(it.letter, it.value, it.text, it.values) for it in program.options}
+    described = {(it.letter, it.name, it.value, it.text, it.values) for it in program.options}
     faults = [f"{program.name} -h and scripts/build/completions.py differ in {it}" for it in options ^ described]
     return faults + ([] if file == program.file else [f"{program.name} -h says of its file: {file}"])
 
@@ -96,11 +105,11 @@ def by_bash(program, typed, folder):
 def by_fish(program, typed, folder):
     """Returns the words that fish would offer. It completes the end of a line, so the words behind go to the front."""
     words, at = words_of(typed)
-    line = f"{shlex.join([program, *words[at + 1:], *words[:at]])} {words[at]}"
+    line = f"{shlex.join([program, *words[at + 1:], *words[:at]])} {words[at]}".replace(" = ", "=")
     command = f"source {FOLDER}/fish/{program}.fish; complete -C {shlex.quote(line)}"
     ran = subprocess.run(["fish", "--no-config", "-c", command], cwd=folder, env=environment(folder), check=True,
                          capture_output=True, text=True)
-    return {line.partition("\t")[0] for line in ran.stdout.splitlines()}
+    return {line.partition("\t")[0].rpartition("=")[2] for line in ran.stdout.splitlines()}
 
 
 def at_tab(shell, setup, line, wanted, folder):

@@ -16,7 +16,7 @@ import tarfile
 import tempfile
 
 sys.path.insert(0, str(pathlib.Path(__file__).resolve().parents[1]))  # scripts/, for what groups share
-from build.package import NAME, deb, dist
+from build.package import NAME, PROGRAMS, deb, dist, number
 
 TOP = pathlib.Path(__file__).resolve().parents[2]
 
@@ -40,6 +40,16 @@ def faults_of_examples(prefix, pages):
     return found
 
 
+def faults_of_version(programs):
+    """Returns which programs of a folder do not write the version that the packages have."""
+    found = []
+    for it in PROGRAMS:
+        told = subprocess.run([programs / it, "--version"], capture_output=True, text=True, check=False).stdout
+        if told != f"{it} (Fanquber) {number()}\n":
+            found.append(f"{it} --version writes {told!r}")
+    return found
+
+
 def faults_of_archive(folder):
     """Unpacks the archive and returns what is wrong with it."""
     archive = dist()
@@ -50,7 +60,9 @@ def faults_of_archive(folder):
     found += run("sha256sum", "-c", "SHA256SUMS", folder=top)
     if "by rattle-kit" not in (top / "PROVED").read_text():
         found.append("PROVED does not name the kit")
-    return found + faults_of_examples(top, top / "share/man/man1")
+    if not (top / "LICENSE").read_text().startswith("MIT License\n"):
+        found.append("LICENSE is not the MIT licence")
+    return found + faults_of_version(top / "bin") + faults_of_examples(top, top / "share/man/man1")
 
 
 def faults_of_package(folder):

@@ -31,11 +31,11 @@ is_whole m by =
     let is = is_command c app (by.3 ∙ by.1.4) refl refl refl in
     let d = first_arg c app.top.rules is (omega arith) in
     record {
-      limit = limit_is c app.top.rules is m by.4 d 1 (record { within = omega arith; at = λ q. refl; only = refl });
-      explain = flag_is c app.top.rules is m by.4 d 6 (codes "explain") 120
+      limit = limit_is c app.top.rules is m by.4 d 2 (record { within = omega arith; at = λ q. refl; only = refl });
+      explain = flag_is c app.top.rules is m by.4 d 4 (codes "explain") 120
           (record { named = λ n. cc; help = refl; version = refl })
           (record { within = omega arith; at = λ q. refl; only = refl });
-      grammar = grammar_is c app.top.rules is m by.4 d 7 (record { within = omega arith; at = λ q. refl; only = refl });
+      grammar = grammar_is c app.top.rules is m by.4 d 5 (record { within = omega arith; at = λ q. refl; only = refl });
     }
 
 -- what the getters read of the options is what the rows ask for
@@ -50,11 +50,11 @@ options_are m options by read =
     record {
       letters = read.letters ∙ ap alphabet_named (first_found f (rows_of f) refl (codes "letters"));
       viable = flag_found f (rows_of f) refl (codes "viable") options.viable
-          (flag_is c app.top.rules is m by.4 d 4 (codes "viable") 119
+          (flag_is c app.top.rules is m by.4 d 7 (codes "viable") 119
           (record { named = λ n. cc; help = refl; version = refl })
           (record { within = omega arith; at = λ q. refl; only = refl })) read.viable;
-      nul = flag_found f (rows_of f) refl (codes "nul") options.nul
-          (flag_is c app.top.rules is m by.4 d 5 (codes "nul") 122
+      nul = flag_found f (rows_of f) refl (codes "null-data") options.nul
+          (flag_is c app.top.rules is m by.4 d 8 (codes "null-data") 122
           (record { named = λ n. cc; help = refl; version = refl })
           (record { within = omega arith; at = λ q. refl; only = refl })) read.nul;
     }

@@ -2,13 +2,13 @@
 use Prim.Native.Char.{code}
 use Rattle.std.specs.Prelude.{◌≡◌, ℕ, List, [], ◌∷◌, Option, Some, None, codes, map, if◌then◌else◌}
 use Rattle.std.specs.Str.{bytes_eq}
-use Rattle.clap.specs.Words.{App, Row, Rule, Text, first_of, first_value, new_app, new_rule, one_of, one_text}
+use Rattle.clap.specs.Words.{App, Row, Rule, Text, first_of, first_value, new_rule, one_of, one_text}
 use Rattle.clap.specs.Words.{with_rule}
 use Rattle.clap.specs.declared.builder.value_parser.ValueParser.TheVariants as vp
 use Rattle.clap.specs.declared.parser.matches.Found.{Found}
 use Rattle.abnfrun.specs.declared.options.AbnfOptions.{AbnfOptions}
 use Rattle.cli.specs.Asked.{IsFlagOf, is_flagged}
-use Rattle.cli.specs.Command.{AreModes, Names, explain_rule, flag_rule, grammar_rule, with_options}
+use Rattle.cli.specs.Command.{AreModes, Names, flag_rule, long_named, tool_app}
 use Rattle.letters.specs.declared.alphabet.Alphabet.{Alphabet}
 use Rattle.letters.specs.declared.alphabet.Alphabet.TheVariants.{Bytes, Utf8}
 
@@ -35,13 +35,13 @@ viable_rule = flag_rule (codes "viable") (code "w")
 
 -- `-z`
 abbrev pub nul_rule : Rule
-nul_rule = flag_rule (codes "nul") (code "z")
+nul_rule = flag_rule (codes "null-data") (code "z")
 
 -- `abnfi [-m MODE] [-l N] [-s RULE] [-u MODE] [-w] [-z] [-x] GRAMMAR`
 abbrev pub abnfi_app : Names → Names → App
 abnfi_app names alphabets =
-    with_rule (with_rule (with_rule (with_rule (with_rule (with_options names (new_app (codes "abnfi")))
-    (letters_rule alphabets)) viable_rule) nul_rule) explain_rule) grammar_rule
+    with_rule (with_rule (with_rule (tool_app names (codes "abnfi")) (long_named (letters_rule alphabets))) viable_rule)
+    nul_rule
 
 -- this is the command of the program
 abbrev pub IsAbnfiApp : App → Type 0
@@ -57,10 +57,10 @@ alphabet_named (Some name) = if bytes_eq name (codes "utf8") then Utf8 else Byte
 pub record ReadsAbnfi (f : Found) (options : AbnfOptions) : Type 0 where
   pub letters : options.letters ≡ alphabet_named (first_value f (codes "letters"))
   pub viable : IsFlagOf (one_text f (codes "viable")) options.viable
-  pub nul : IsFlagOf (one_text f (codes "nul")) options.nul
+  pub nul : IsFlagOf (one_text f (codes "null-data")) options.nul
 
 -- the matches ask for these options
 pub record AsksAbnfi (rows : List Row) (options : AbnfOptions) : Type 0 where
   pub letters : options.letters ≡ alphabet_named (first_of (codes "letters") rows)
   pub viable : options.viable ≡ is_flagged (one_of (codes "viable") rows)
-  pub nul : options.nul ≡ is_flagged (one_of (codes "nul") rows)
+  pub nul : options.nul ≡ is_flagged (one_of (codes "null-data") rows)

@@ -7,7 +7,7 @@ ghost use Rattle.clap.specs.Words.{first_value, found_of, rule_of};
 
 use abnfrun::{AbnfOptions, AbnfSettings, Alphabet, run_abnf};
 use clap::{Arg, ArgMatches, Command};
-use cli::{Program, explain_arg, flag_arg, grammar_arg, limit_arg, mode_arg, start_arg};
+use cli::{Program, add_flag, add_option, tool_command};
 use feed::Source;
 use ruletable::Sink;
 use std::alloc::{AllocError, Global};
@@ -16,8 +16,33 @@ use toolrun::Status;
 /// The names of the alphabets of a line.
 static ALPHABETS: [&str; 2] = ["bytes", "utf8"];
 
-/// The end of the help.
-const AFTER: &str = "Exit status:
+/// The text of the help.
+const HELP: &str =
+    "Judge each line of standard input by an ABNF grammar (RFC 5234, RFC 7405): yes or no
+
+Usage: abnfi [OPTIONS] <GRAMMAR>
+
+Arguments:
+  <GRAMMAR>  The file of the grammar, at most 1048576 bytes
+
+Grammar:
+  -m, --mode <MODE>  Choose what to do with the grammar [default: run] [possible values: run, check, print]
+  -s, --rule <RULE>  Judge by this rule [default: the first rule]
+
+Input:
+  -l, --limit <N>       Take lines of at most N bytes, from 1 to 16777216 [default: 65536]
+  -u, --letters <MODE>  Take bytes or code points of UTF-8 as letters [default: bytes] [possible values: bytes, utf8]
+  -z, --null-data       Cut the input at NUL bytes in place of line feeds
+
+Output:
+  -w, --viable   Write how far a refused line goes: no N
+  -x, --explain  Explain messages in more lines
+
+Other options:
+  -h, --help     Print this help
+      --version  Print the version
+
+Exit status:
   0  all lines are yes, or nothing was refused
   1  some line is no
   2  the grammar or the arguments are refused
@@ -35,7 +60,6 @@ fn letters_arg<'a>(alloc: Global) -> Arg<'a>
     Arg::new(alloc, "letters")
         .short('u')
         .value_name("MODE")
-        .help("What the letters of a line are: its bytes, or the code points of UTF-8")
         .value_parser(ALPHABETS.as_slice())
         .default_value("bytes")
 }
@@ -64,39 +88,18 @@ impl Program for Abnfi {
     ghost states = { AbnfStates };
 
     fn command<'a>(alloc: Global) -> Result<Command<'a>, AllocError> {
-        let args = vec![in alloc;
-            mode_arg(alloc),
-            limit_arg(alloc, "How many bytes a line may have, from 1 to 16777216"),
-            start_arg(alloc, "The judged rule [default: the first rule]"),
-            letters_arg(alloc),
-            flag_arg(
-                alloc,
-                "viable",
-                'w',
-                "Write how far a refused line goes: no N"
-            ),
-            flag_arg(
-                alloc,
-                "nul",
-                'z',
-                "Cut the input at NUL bytes in place of line feeds"
-            ),
-            explain_arg(alloc),
-            grammar_arg(alloc),
-        ]?;
-        Command::new(alloc, "abnfi")
-            .about(
-                "Judges each line of standard input by an ABNF grammar (RFC 5234, RFC 7405): yes or no",
-            )
-            .after_help(AFTER)
-            .args(args)
+        let letters = letters_arg(alloc);
+        let command = tool_command(alloc, "abnfi", HELP)?;
+        let command = add_option(command, letters)?;
+        let command = add_flag(command, alloc, "viable", 'w')?;
+        add_flag(command, alloc, "null-data", 'z')
     }
 
     fn options(matches: &ArgMatches<'_>) -> AbnfOptions {
         AbnfOptions {
             letters: letters_of(matches),
             viable: matches.get_flag("viable"),
-            nul: matches.get_flag("nul"),
+            nul: matches.get_flag("null-data"),
         }
     }
 

@@ -20,10 +20,10 @@ flags_are c e m p =
     let is = is_command c abnfx_app e refl refl refl in
     let d = first_arg c rs is (omega arith) in
     record {
-      canonical = flag_is c rs is m p d 0 (codes "canonical") 99
+      canonical = flag_is c rs is m p d 1 (codes "canonical") 99
           (record { named = λ n. cc; help = refl; version = refl })
           (record { within = omega arith; at = λ q. refl; only = refl });
-      list = flag_is c rs is m p d 1 (codes "list") 108 (record { named = λ n. cc; help = refl; version = refl })
+      list = flag_is c rs is m p d 2 (codes "list") 108 (record { named = λ n. cc; help = refl; version = refl })
           (record { within = omega arith; at = λ q. refl; only = refl });
     }
 

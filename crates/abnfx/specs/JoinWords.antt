@@ -2,13 +2,13 @@
 use Prim.Native.Char.{code}
 use Rattle.std.specs.Prelude.{List, [], Bool, Option, Some, None, codes, true, if◌then◌else◌, unwrap_or}
 use Rattle.clap.specs.Lexer.{usize_max}
-use Rattle.clap.specs.Words.{App, Row, Rule, Text, all_of, new_app, new_rule, one_of, one_text, with_rule}
+use Rattle.clap.specs.Words.{App, Row, Rule, Text, all_of, new_rule, one_of, one_text, with_rule}
 use Rattle.clap.specs.declared.builder.action.ArgAction.TheVariants.{Append}
 use Rattle.clap.specs.declared.parser.matches.Found.{Found}
 use Rattle.abnftexts.specs.declared.run.JoinForm.{JoinForm}
 use Rattle.abnftexts.specs.declared.run.JoinForm.TheVariants.{Plain, Canonical, Listed}
 use Rattle.cli.specs.Asked.{IsFlagText, is_flagged}
-use Rattle.cli.specs.Command.{flag_rule}
+use Rattle.cli.specs.Command.{flag_rule, program_app}
 
 -- `-c`
 abbrev pub canonical_rule : Rule
@@ -29,7 +29,7 @@ texts_rule = record (new_rule (codes "text")) {
 
 -- `abnfx [-c | -l] TEXT..`
 abbrev pub abnfx_app : App
-abnfx_app = with_rule (with_rule (with_rule (new_app (codes "abnfx")) canonical_rule) list_rule) texts_rule
+abnfx_app = with_rule (with_rule (with_rule (program_app (codes "abnfx")) canonical_rule) list_rule) texts_rule
 
 -- the paths of the texts
 abbrev pub paths_asked : List Row → List Text

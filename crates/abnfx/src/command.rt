@@ -6,11 +6,26 @@ ghost use Rattle.cli.specs.Parsing.{Parses};
 
 use abnftexts::JoinForm;
 use clap::{Arg, ArgAction, ArgMatches, Command, Error};
-use cli::flag_arg;
+use cli::{add_flag, program_command};
 use std::alloc::{AllocError, Global};
 
-/// The end of the help.
-const AFTER: &str = "Exit status:
+/// The text of the help.
+const HELP: &str = "Join the grammars in ABNF (RFC 5234, RFC 7405) that texts of RFCs give
+
+Usage: abnfx [OPTIONS] <TEXT>...
+
+Arguments:
+  <TEXT>...  The texts of RFCs, each at most 16777216 bytes
+
+Output:
+  -c, --canonical  Write the canonical text of the grammar
+  -l, --list       List the rules, and what becomes of each
+
+Other options:
+  -h, --help     Print this help
+      --version  Print the version
+
+Exit status:
   0  the grammar is written
   1  no text gives a rule
   2  a name has two definitions, the grammar is too long, or the arguments are refused
@@ -30,7 +45,6 @@ fn text_arg<'a>(alloc: Global) -> Arg<'a>
         .value_name("TEXT")
         .action(ArgAction::Append)
         .num_args(1..)
-        .help("The texts of RFCs, each at most 16777216 bytes")
         .required(true)
 }
 
@@ -38,25 +52,10 @@ fn text_arg<'a>(alloc: Global) -> Arg<'a>
 pub(crate) fn abnfx_command<'a>(alloc: Global) -> Result<Command<'a>, AllocError>
     ensures app { IfOk result (λ c. app_of c ≡ abnfx_app) }
 {
-    let args = vec![in alloc;
-        flag_arg(
-            alloc,
-            "canonical",
-            'c',
-            "Write the canonical text of the grammar"
-        ),
-        flag_arg(
-            alloc,
-            "list",
-            'l',
-            "List the rules, and what becomes of each"
-        ),
-        text_arg(alloc),
-    ]?;
-    Command::new(alloc, "abnfx")
-        .about("Joins the grammars in ABNF (RFC 5234, RFC 7405) that texts of RFCs give")
-        .after_help(AFTER)
-        .args(args)
+    let command = program_command(alloc, "abnfx", HELP)?;
+    let command = add_flag(command, alloc, "canonical", 'c')?;
+    let command = add_flag(command, alloc, "list", 'l')?;
+    command.arg(text_arg(alloc))
 }
 
 /// Parses the words, the program's name first.

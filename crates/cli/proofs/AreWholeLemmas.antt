@@ -28,7 +28,7 @@ use Rattle.clap.proofs.SimpleLemmas.{is_false, is_nil, plain_fields}
 use Rattle.clap.proofs.WalkLemmas.{both}
 use Rattle.cli.proofs.EntryLemmas.{IsAlone, default_reads, no_auto, some_reads}
 use Rattle.cli.specs.Asked.{IsFlagText, IsLimitText}
-use Rattle.cli.specs.Command.{flag_rule, grammar_rule, limit_rule}
+use Rattle.cli.specs.Command.{flag_rule, grammar_rule, limit_rule, long_named}
 
 is_none : {X : Type 0} (o : Option X) → not (is_some o) ≡ true → o ≡ None
 is_none None e = refl
@@ -223,10 +223,10 @@ bool_text v e = go (bytes_eq v (codes "true")) refl e
 -- ---- one argument of a program
 
 pub limit_is : (c : Command) (rs : List Rule) → IsCommand c rs → (m : ArgMatches) → IsParsedFrom c m → (d : Arg) (k : ℕ)
-    → HasAt rs k limit_rule
+    → HasAt rs k (long_named limit_rule)
     → (text : Text) × (one_text (found_of m) (codes "limit") ≡ Some text) × IsLimitText text
 limit_is c rs is m p d k has =
-    let by = arg_of c rs is k d limit_rule has (record { named = λ n. cc; help = refl; version = refl }) in
+    let by = arg_of c rs is k d (long_named limit_rule) has (record { named = λ n. cc; help = refl; version = refl }) in
     let a = slice_index_or (args_of c) k d in
     let many = sym (ap (λ (r : Rule). length r.defaults) by.rule) ∙ length-map (items_of a.default_vals) (λ s. s.now) in
     let defaults : 0 < length (items_of a.default_vals) = subst (λ n. 0 < n) many (omega arith) in

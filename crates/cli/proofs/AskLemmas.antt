@@ -27,7 +27,7 @@ pub words_ask : {O : Type 0} (Asks : List Row → O → Type 0) (f : Found) (row
     → AreWhole f → (a : Asked O) (path : Option (Bor Text))
     → a.settings.mode ≡ mode_named (first_value f (codes "mode"))
     → IsLimitOf (one_text f (codes "limit")) a.settings.limit
-    → option_map (λ s. s.now) a.settings.start ≡ first_value f (codes "start")
+    → option_map (λ s. s.now) a.settings.start ≡ first_value f (codes "rule")
     → IsFlagOf (one_text f (codes "explain")) a.settings.explain
     → Asks (rows_of f) a.settings.options
     → option_map (λ s. s.now) path ≡ first_value f (codes "grammar") → path ≡ Some a.path
@@ -38,7 +38,7 @@ words_ask Asks f rows e whole a path mode limit start explain options word is =
     record {
       mode = mode ∙ ap mode_named (first_found f rows e (codes "mode"));
       limit = (w.0, sym (one_found f rows e (codes "limit")) ∙ w.1, w.2, number w.2.0 w.2.1 w.2.2);
-      start = start ∙ first_found f rows e (codes "start");
+      start = start ∙ first_found f rows e (codes "rule");
       explain = flag_found f rows e (codes "explain") a.settings.explain whole.explain explain;
       options = subst (λ r. Asks r a.settings.options) e options;
       grammar = sym (first_found f rows e (codes "grammar"))

@@ -52,7 +52,7 @@ pub record Ask {O : Type 0} (Asks : List Row → O → Type 0) (rows : List Row)
   pub mode : asked.settings.mode ≡ mode_named (first_of (codes "mode") rows)
   pub limit : (text : Text) × (one_of (codes "limit") rows ≡ Some text) × IsLimitText text
       × (asked.settings.limit ≡ digits_value 10 (without_leading_plus text))
-  pub start : option_map (λ s. s.now) asked.settings.start ≡ first_of (codes "start") rows
+  pub start : option_map (λ s. s.now) asked.settings.start ≡ first_of (codes "rule") rows
   pub explain : asked.settings.explain ≡ is_flagged (one_of (codes "explain") rows)
   pub options : Asks rows asked.settings.options
   pub grammar : first_of (codes "grammar") rows ≡ Some asked.path.now

@@ -1,30 +1,30 @@
-//! The arguments that the commands of both tools have.
-ghost use Rattle.std.specs.Prelude.{◌≡◌, false};
-ghost use Rattle.clap.specs.Words.{rule_of};
-ghost use Rattle.cli.specs.Command.{AreModes, explain_rule, flag_rule, grammar_rule, limit_rule, mode_rule, start_rule};
+//! The commands of the programs: the options that both tools have, and those that a program adds.
+ghost use Rattle.std.specs.Prelude.{◌≡◌, IfOk, false};
+ghost use Rattle.clap.specs.Words.{app_of, rule_of, with_rule};
+ghost use Rattle.cli.specs.Command.{AreModes, flag_rule, grammar_rule, limit_rule, long_named, mode_rule};
+ghost use Rattle.cli.specs.Command.{program_app, tool_app};
 
-use crate::help;
-use clap::{Arg, ArgAction, value_parser};
-use std::alloc::Global;
+use clap::{Arg, ArgAction, Command, value_parser};
+use std::alloc::{AllocError, Global};
+
+/// The version of the programs. `--version` writes the program's name before it.
+const VERSION: &str = "(Fanquber) 1.2";
 
 /// The names of the modes.
 static MODES: [&str; 3] = ["run", "check", "print"];
 
-/// Returns the argument `-m MODE`.
-pub fn mode_arg<'a>(alloc: Global) -> Arg<'a>
+fn mode_arg<'a>(alloc: Global) -> Arg<'a>
     ensures rule { (names : _) × AreModes names × (rule_of result ≡ mode_rule names) }
     ensures local { result.global ≡ false }
 {
     Arg::new(alloc, "mode")
         .short('m')
         .value_name("MODE")
-        .help(help::MODE)
         .value_parser(MODES.as_slice())
         .default_value("run")
 }
 
-/// Returns the argument `-l N`, with its help.
-pub fn limit_arg<'a>(alloc: Global, help: &'a str) -> Arg<'a>
+fn limit_arg<'a>(alloc: Global) -> Arg<'a>
     ensures rule { rule_of result ≡ limit_rule }
     ensures local { result.global ≡ false }
 {
@@ -32,50 +32,83 @@ pub fn limit_arg<'a>(alloc: Global, help: &'a str) -> Arg<'a>
         .short('l')
         .value_name("N")
         .action(ArgAction::Set)
-        .help(help)
         .value_parser(value_parser!(u32).range(1..=16_777_216))
         .default_value("65536")
 }
 
-/// Returns the argument `-s RULE`, with its help.
-pub fn start_arg<'a>(alloc: Global, help: &'a str) -> Arg<'a>
-    ensures rule { rule_of result ≡ start_rule }
-    ensures local { result.global ≡ false }
-{
-    Arg::new(alloc, "start")
-        .short('s')
-        .value_name("RULE")
-        .help(help)
-}
-
-/// Returns the argument `-x`.
-pub fn explain_arg<'a>(alloc: Global) -> Arg<'a>
-    ensures rule { rule_of result ≡ explain_rule }
-    ensures local { result.global ≡ false }
-{
-    flag_arg(alloc, "explain", 'x', help::EXPLAIN)
-}
-
-/// Returns the argument of a flag of one letter, with its help.
-pub fn flag_arg<'a>(alloc: Global, name: &'a str, short: char, help: &'a str) -> Arg<'a>
-    ensures rule { rule_of result ≡ flag_rule name.entry.now short }
-    ensures local { result.global ≡ false }
-{
-    Arg::new(alloc, name)
-        .short(short)
-        .action(ArgAction::SetTrue)
-        .value_parser(value_parser!(bool))
-        .help(help)
-}
-
-/// Returns the argument GRAMMAR, the one word that is no option.
-pub fn grammar_arg<'a>(alloc: Global) -> Arg<'a>
+fn grammar_arg<'a>(alloc: Global) -> Arg<'a>
     ensures rule { rule_of result ≡ grammar_rule }
     ensures local { result.global ≡ false }
 {
     Arg::new(alloc, "grammar")
         .value_name("GRAMMAR")
         .action(ArgAction::Set)
-        .help(help::GRAMMAR)
         .required(true)
+}
+
+/// Adds an option that has its id as a long name too. `AllocError` if an allocation fails.
+///
+/// The name is an alias: messages name the option by its letter.
+pub fn add_option<'a>(command: Command<'a>, option: Arg<'a>) -> Result<Command<'a>, AllocError>
+    ensures { option.entry.global ≡ false →
+        IfOk result (λ c. app_of c ≡ with_rule (app_of command.entry) (long_named (rule_of option.entry))) }
+{
+    let name = option.get_id();
+    let named = option.alias(name)?;
+    command.arg(named)
+}
+
+/// Adds a flag that has a letter and a long name, which is its id. `AllocError` if an allocation fails.
+pub fn add_flag<'a>(
+    command: Command<'a>,
+    alloc: Global,
+    name: &'a str,
+    letter: char,
+) -> Result<Command<'a>, AllocError>
+    ensures { IfOk result (λ c. app_of c ≡ with_rule (app_of command.entry) (flag_rule name.entry.now letter)) }
+{
+    let flag = Arg::new(alloc, name)
+        .short(letter)
+        .action(ArgAction::SetTrue)
+        .value_parser(value_parser!(bool));
+    add_option(command, flag)
+}
+
+/// Returns the command of a program, which has `--version` alone. `-h` writes the help. `AllocError` if an allocation
+/// fails.
+pub fn program_command<'a>(
+    alloc: Global,
+    name: &'a str,
+    help: &'a str,
+) -> Result<Command<'a>, AllocError>
+    ensures { IfOk result (λ c. app_of c ≡ program_app name.entry.now) }
+{
+    // peg(1) has `-V`
+    let version = Arg::new(alloc, "version")
+        .long("version")
+        .action(ArgAction::Version);
+    Command::new(alloc, name)
+        .override_help(help)
+        .version(VERSION)
+        .disable_version_flag(true)
+        .arg(version)
+}
+
+/// Returns the command that both tools have: `[-m MODE] [-l N] [-s RULE] [-x] GRAMMAR`. `AllocError` if an allocation
+/// fails.
+pub fn tool_command<'a>(
+    alloc: Global,
+    name: &'a str,
+    help: &'a str,
+) -> Result<Command<'a>, AllocError>
+    ensures { (names : _) × AreModes names × IfOk result (λ c. app_of c ≡ tool_app names name.entry.now) }
+{
+    let mode = mode_arg(alloc);
+    let command = program_command(alloc, name, help)?;
+    let command = add_option(command, mode)?;
+    let command = add_option(command, limit_arg(alloc))?;
+    let rule = Arg::new(alloc, "rule").short('s').value_name("RULE");
+    let command = add_option(command, rule)?;
+    let command = add_flag(command, alloc, "explain", 'x')?;
+    command.arg(grammar_arg(alloc))
 }

@@ -4,14 +4,13 @@
 
 mod command;
 mod fault;
-mod help;
 mod program;
 mod reading;
 mod settings;
 mod start;
 mod tool;
 
-pub use command::{explain_arg, flag_arg, grammar_arg, limit_arg, mode_arg, start_arg};
+pub use command::{add_flag, add_option, program_command, tool_command};
 pub use fault::refuse_invalid_utf8;
 pub use program::{Program, parse};
 pub use reading::{Job, Unready, end_unready, read_job};

@@ -34,14 +34,14 @@ fn limit_of(matches: &ArgMatches<'_>) -> usize
 pub fn settings_of<'a, P: Program>(matches: &ArgMatches<'a>) -> Settings<'a, P::Options>
     ensures mode { result.mode ≡ mode_named (first_value (found_of matches.now) (codes "mode")) }
     ensures limit { IsLimitOf (one_text (found_of matches.now) (codes "limit")) result.limit }
-    ensures start { option_map (λ s. s.now) result.start ≡ first_value (found_of matches.now) (codes "start") }
+    ensures start { option_map (λ s. s.now) result.start ≡ first_value (found_of matches.now) (codes "rule") }
     ensures explain { IsFlagOf (one_text (found_of matches.now) (codes "explain")) result.explain }
     ensures options { P.reads (found_of matches.now) result.options }
 {
     Settings {
         mode: mode_of(matches),
         limit: limit_of(matches),
-        start: matches.get_str("start"),
+        start: matches.get_str("rule"),
         explain: matches.get_flag("explain"),
         options: P::options(matches),
     }

@@ -31,7 +31,7 @@ is_whole m by =
     let is = is_command c (pegi_app names) (by.3 ∙ by.1.2) refl refl refl in
     let d = first_arg c rs is (omega arith) in
     record {
-      limit = limit_is c rs is m by.4 d 1 (record { within = omega arith; at = λ q. refl; only = refl });
+      limit = limit_is c rs is m by.4 d 2 (record { within = omega arith; at = λ q. refl; only = refl });
       explain = flag_is c rs is m by.4 d 4 (codes "explain") 120
           (record { named = λ n. cc; help = refl; version = refl })
           (record { within = omega arith; at = λ q. refl; only = refl });
@@ -48,5 +48,5 @@ raw_is m by raw said =
     let is = is_command c (pegi_app names) (by.3 ∙ by.1.2) refl refl refl in
     let d = first_arg c rs is (omega arith) in
     flag_found (found_of m) (rows_of (found_of m)) refl (codes "raw") raw
-    (flag_is c rs is m by.4 d 3 (codes "raw") 114 (record { named = λ n. cc; help = refl; version = refl })
+    (flag_is c rs is m by.4 d 6 (codes "raw") 114 (record { named = λ n. cc; help = refl; version = refl })
     (record { within = omega arith; at = λ q. refl; only = refl })) said

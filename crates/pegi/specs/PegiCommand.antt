@@ -1,10 +1,10 @@
 -- The command of the program, as a parse reads it, and what its words ask for.
 use Prim.Native.Char.{code}
 use Rattle.std.specs.Prelude.{◌≡◌, List, codes}
-use Rattle.clap.specs.Words.{App, Row, Rule, new_app, one_of, one_text, with_rule}
+use Rattle.clap.specs.Words.{App, Row, Rule, one_of, one_text, with_rule}
 use Rattle.clap.specs.declared.parser.matches.Found.{Found}
 use Rattle.cli.specs.Asked.{IsFlagOf, is_flagged}
-use Rattle.cli.specs.Command.{AreModes, Names, explain_rule, flag_rule, grammar_rule, with_options}
+use Rattle.cli.specs.Command.{AreModes, Names, flag_rule, tool_app}
 use Rattle.pegrun.specs.declared.options.PegOptions.{PegOptions}
 
 -- `-r`
@@ -13,8 +13,7 @@ raw_rule = flag_rule (codes "raw") (code "r")
 
 -- `pegi [-m MODE] [-l N] [-s RULE] [-r] [-x] GRAMMAR`
 abbrev pub pegi_app : Names → App
-pegi_app names = with_rule (with_rule (with_rule (with_options names (new_app (codes "pegi"))) raw_rule) explain_rule)
-    grammar_rule
+pegi_app names = with_rule (tool_app names (codes "pegi")) raw_rule
 
 -- this is the command of the program
 abbrev pub IsPegiApp : App → Type 0

@@ -3,15 +3,36 @@ ghost use Rattle.pegi.specs.PegiCommand.{AsksPegi, IsPegiApp, ReadsPegi};
 ghost use Rattle.pegrun.specs.Answers.{States};
 
 use clap::{ArgMatches, Command};
-use cli::{Program, explain_arg, flag_arg, grammar_arg, limit_arg, mode_arg, start_arg};
+use cli::{Program, add_flag, tool_command};
 use feed::Source;
 use pegrun::{PegOptions, PegSettings, run_peg};
 use ruletable::Sink;
 use std::alloc::{AllocError, Global};
 use toolrun::Status;
 
-/// The end of the help.
-const AFTER: &str = "Exit status:
+/// The text of the help.
+const HELP: &str =
+    "Run a grammar in the syntax of peg(1) on standard input, and print its actions in order
+
+Usage: pegi [OPTIONS] <GRAMMAR>
+
+Arguments:
+  <GRAMMAR>  The file of the grammar, at most 1048576 bytes
+
+Grammar:
+  -m, --mode <MODE>  Choose what to do with the grammar [default: run] [possible values: run, check, print]
+  -s, --rule <RULE>  Start from this rule [default: the first rule]
+
+Input and output:
+  -l, --limit <N>  Look at no more than N bytes in a unit, from 1 to 16777216 [default: 65536]
+  -r, --raw        Print actions verbatim
+  -x, --explain    Explain messages in more lines
+
+Other options:
+  -h, --help     Print this help
+      --version  Print the version
+
+Exit status:
   0  all input was taken, or nothing was refused
   1  no match at some byte
   2  the grammar or the arguments are refused
@@ -37,23 +58,8 @@ impl Program for Pegi {
     ghost states = { States };
 
     fn command<'a>(alloc: Global) -> Result<Command<'a>, AllocError> {
-        let args = vec![in alloc;
-            mode_arg(alloc),
-            limit_arg(
-                alloc,
-                "How many bytes a unit may look at, from 1 to 16777216"
-            ),
-            start_arg(alloc, "The start rule [default: the first rule]"),
-            flag_arg(alloc, "raw", 'r', "Print actions verbatim"),
-            explain_arg(alloc),
-            grammar_arg(alloc),
-        ]?;
-        Command::new(alloc, "pegi")
-            .about(
-                "Runs a grammar in the syntax of peg(1) on standard input and prints its actions in order",
-            )
-            .after_help(AFTER)
-            .args(args)
+        let command = tool_command(alloc, "pegi", HELP)?;
+        add_flag(command, alloc, "raw", 'r')
     }
 
     fn options(matches: &ArgMatches<'_>) -> PegOptions {
