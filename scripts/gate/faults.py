@@ -102,11 +102,11 @@ TEXT = (b"Rules\n\n  a = b /\n      <x>\n\n\nOne [Page 1]\n\f\nTwo 2001\n\n"
         b'      / c\n  b = "x" ; y\n  B = "X"\nx = 1, 2\n')
 TAKEN_TOLD = b"grammar:14: not ABNF: line 14: syntax error\ngrammar:11: 'c' is not defined\n"
 TAKEN = taken("the rules of a text", TEXT, [b"; grammar:3\na = b /\n    <x>\n    / c\n", b'b = "x" ; y\n'],
-              TAKEN_TOLD)
+              TAKEN_TOLD, 1)
 TAKEN_PRINTED = taken("the rules of a text, printed", TEXT.replace(b"x = 1, 2", b"c = a"),
                       [b'a = b / <x> / c\nb = "x"\nc = a\n'], words=["-c"])
 TAKEN_LISTED = taken("the list of the rules of a text", TEXT, [b"grammar:3: 'a' stands\n", b"grammar:12: 'b' stands\n",
-                     b"grammar:13: 'B' is given at grammar:12\n"], TAKEN_TOLD, words=["-l"])
+                     b"grammar:13: 'B' is given at grammar:12\n"], TAKEN_TOLD, 1, words=["-l"])
 NONE_TAKEN = taken("a text without rules", b"Rules\n", [], b"no rules found\n", 1)
 
 # The runs in which each allocation fails.

@@ -27,7 +27,8 @@ LONG = [(f"{name}.txt", f'{name} = "x" ;'.encode() + b"c" * 600000) for name in 
 NAMES = ("a", "B", "b", "c-1", "Date", "date")
 PARTS = ("a", "b", "DIGIT", "2*3date", '"x"', '"Y z"', "%x41-5A", "%d13.10", "*c-1", "[ b ]", "<the other text>")
 PROSE = (
-    "Prose of a text.", "Where a = b, c it is so:", "2.  Rules", "a = ", "The date May 2001", "x = ( y", "; a comment"
+    "Prose of a text.", "Where a = b, c it is so:", "2.  Rules", "a = ", "The date May 2001", "x = ( y", "; a comment",
+    "/ c-1", "    / c-1", "| b", ") / a", "       Deeper prose, of two.", "a = b | c", "date =/ 1*\"x\" ]"
 )
 
 
@@ -55,7 +56,9 @@ def text(made):
     for _ in range(made.randrange(1, 8)):
         size = made.choice((0, 2, 2, 3, 6))
         for _ in range(made.randrange(1, 4)):
-            found += rule(made, size) + [""] * made.choice((0, 0, 1))
+            found += rule(made, size) + [made.choice(("", " ", "\t "))] * made.choice((0, 0, 1, 2))
+            if made.random() < 0.2:
+                found.append(" " * made.choice((0, size)) + made.choice(PROSE))
         if made.random() < 0.6:
             found += [""] * made.choice((0, 1)) + [" " * made.choice((0, 3)) + made.choice(PROSE)] + [""]
         if made.random() < 0.3:
@@ -63,7 +66,8 @@ def text(made):
             found += made.choice(([], [""], ["\f"])) + ["Rules of notes                      May 2001", "", ""]
             page += 1
     end = made.choice(("\n", "\n", "\r\n"))
-    return (end.join(found) + made.choice(("", end))).encode()
+    mark = made.choice((b"", b"", b"", b"\xEF\xBB\xBF"))
+    return mark + (end.join(found) + made.choice(("", end))).encode()
 
 
 class Trials:

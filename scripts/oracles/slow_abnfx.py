@@ -4,9 +4,9 @@ ABNF among them; and the grammar that several texts make up. It shares nothing w
 
 usage: slow_abnfx.py [TEXT ..]
 
-Prints what is found in each text: `FROM-TO` for the lines of a piece of ABNF, and `FROM not ABNF: ` with the fault for
-a line that looks like a rule and is none. Without texts it compares what is found in each of rfc_texts/*.txt with the
-file beside it, written by hand.
+Prints what is found in each text: `FROM-TO NAME` for the lines of a rule, and `FROM not ABNF: ` with the fault for a
+line that begins a rule of which nothing reads. Without texts it compares what is found in each of rfc_texts/*.txt with
+the file beside it, written by hand.
 """
 import pathlib
 import re
@@ -42,7 +42,7 @@ def kind(line, has_feed):
 
 def lines(text):
     """Returns the number, the bytes and the kind of each line."""
-    parts = re.split(rb"\r?\n", text)
+    parts = re.split(rb"\r?\n", text.removeprefix(b"\xEF\xBB\xBF"))
     if not parts[-1]:
         parts.pop()
     found = []
@@ -83,12 +83,13 @@ def opens(line):
     return bool(RULE.match(line.lstrip(MARGINS)))
 
 
-def block(some):
-    """Returns how many of these lines belong to the block that the first one opens."""
+def size_of(some):
+    """Returns how many of these lines the rule has that the first one begins."""
     size = margin(some[0][1])
-    for count, (_, line, it) in enumerate(some[1:], 1):
-        goes_on = it == "blank" or line.lstrip(MARGINS).startswith(b";") or margin(line) > size
-        if not goes_on and not (margin(line) == size and opens(line)):
+    for count, (before, (_, line, it)) in enumerate(zip(some, some[1:]), 1):
+        bare = line.lstrip(MARGINS)
+        inner = bare[:1] in (b"/", b"|", b")", b"]") and before[2] != "blank"
+        if opens(line) or not (it == "blank" or bare[:1] == b";" or margin(line) > size or inner):
             return count
     return len(some)
 
@@ -103,27 +104,17 @@ def fault(some):
     return told and told.partition("\n")[0]
 
 
+def is_cut(some, count):
+    """Returns whether the rule that has these lines can end after so many of them."""
+    if some[count - 1][2] == "blank":
+        return False
+    behind = [it for it in some[count:] if it[2] != "blank"]
+    return not behind or some[count][2] == "blank" and behind[0][1].lstrip(MARGINS)[:1] != b"/"
+
+
 def cuts(some):
-    """Returns the numbers of lines that the block has with its last paragraphs left out, ascending."""
-    ends = [it for it in range(1, len(some) + 1) if some[it - 1][2] != "blank"]
-    return [it for it in ends if it == len(some) or some[it][2] == "blank"]
-
-
-def found(text):
-    """Returns what is found: where a piece begins and ends, or where none begins, and the fault."""
-    rest, told = kept(lines(text)), []
-    while rest:
-        taken = 1
-        if opens(rest[0][1]):
-            whole = rest[:block(rest)]
-            read = [it for it in cuts(whole) if fault(whole[:it]) is None]
-            if read:
-                taken = read[-1]
-                told.append((rest[0][0], rest[taken - 1][0], None))
-            else:
-                told.append((rest[0][0], None, fault(whole[:cuts(whole)[0]])))
-        rest = rest[taken:]
-    return told
+    """Returns the numbers of lines after which the rule can end, ascending."""
+    return [it for it in range(1, len(some) + 1) if is_cut(some, it)]
 
 
 TOKEN = re.compile(rb'"[^"]*"|<[^>]*>|;[^\n]*|[][()/=]|[^][()/=;"<\s]+')
@@ -149,8 +140,9 @@ def folded(tokens):
 class Rule:
     """A rule as a text gives it: the name of the text, its lines without the margin, and what it says."""
 
-    def __init__(self, name, size, some):
-        self.text, self.first, self.last = name, some[0][0], some[-1][0]
+    def __init__(self, name, some, blanks):
+        size = margin(some[0][1])
+        self.text, self.first, self.last, self.blanks = name, some[0][0], some[-1][0], blanks
         self.written = b"".join(line[min(size, margin(line)):] + b"\n" for _, line, _ in some)
         tokens = tokens_of(self.written)
         self.name, self.key = tokens[0].decode(), tokens[0].lower()
@@ -172,28 +164,34 @@ class Rule:
         return self.key == other.key and not self.adds and not other.adds and self.is_prose and not other.is_prose
 
 
-def in_text(why, rest):
-    """Returns a fault of the first of these lines with the number that its line has in the text."""
+def in_text(why, some):
+    """Returns a fault of these lines with the number that its line has in the text."""
     at = re.match(r"line (\d+)(.*)", why, re.S)
-    return f"line {rest[min(int(at[1]), len(rest)) - 1][0]}{at[2]}" if at else why
+    return f"line {some[min(int(at[1]), len(some)) - 1][0]}{at[2]}" if at else why
+
+
+def found(name, text):
+    """Returns for each line of a text that begins a rule the rule, or its number and the fault."""
+    rest, told = kept(lines(text)), []
+    for place, (number, line, _) in enumerate(rest):
+        if opens(line):
+            some = rest[place:place + size_of(rest[place:])]
+            read = [it for it in cuts(some) if fault(some[:it]) is None]
+            if read:
+                behind = rest[place + read[-1]:]
+                blanks = next((it for it, row in enumerate(behind) if row[2] != "blank"), len(behind))
+                told.append(Rule(name, some[:read[-1]], blanks))
+            else:
+                whole = some[:cuts(some)[-1]]
+                told.append((number, in_text(fault(whole), whole)))
+    return told
 
 
 def given(name, text):
-    """Returns the rules of a text, and what is told of it."""
-    rest, rules, told = kept(lines(text)), [], ""
-    while rest:
-        taken = 1
-        if opens(rest[0][1]):
-            whole = rest[:block(rest)]
-            read = [it for it in cuts(whole) if fault(whole[:it]) is None]
-            if read:
-                taken, size = read[-1], margin(rest[0][1])
-                begins = [it for it in range(taken) if margin(rest[it][1]) == size and opens(rest[it][1])]
-                rules += [Rule(name, size, rest[a:b]) for a, b in zip(begins, begins[1:] + [taken])]
-            else:
-                told += f"{name}:{rest[0][0]}: not ABNF: {in_text(fault(whole[:cuts(whole)[0]]), rest)}\n"
-        rest = rest[taken:]
-    return rules, told
+    """Returns the rules of a text, and the reports on it."""
+    all_found = found(name, text)
+    rules = [it for it in all_found if isinstance(it, Rule)]
+    return rules, "".join(f"{name}:{it[0]}: not ABNF: {it[1]}\n" for it in all_found if not isinstance(it, Rule))
 
 
 def fates(rules):
@@ -213,6 +211,7 @@ def joined(texts):
     for name, text in texts:
         more, said = given(name, text)
         rules, told = rules + more, told + said
+    is_faulty = told != ""
     becomes = fates(rules)
     listed = "".join(f"{it.place()}: '{it.name}' {fate}\n" for it, fate in zip(rules, becomes))
     stand = [it for it, fate in zip(rules, becomes) if fate == "stands"]
@@ -231,7 +230,9 @@ def joined(texts):
             order.append(it)
     grammar, before = b"", None
     for it in order:
-        if before is None or before.text != it.text or before.last != it.first - 1:
+        if before is not None and before.text == it.text and before.last + before.blanks + 1 == it.first:
+            grammar += b"\n" * before.blanks
+        else:
             grammar += f"; {it.place()}\n".encode()
         grammar, before = grammar + it.written, it
     known = {it.key for it in stand} | set(CORE)
@@ -240,22 +241,23 @@ def joined(texts):
             if name.lower() not in known:
                 known.add(name.lower())
                 told += f"{it.text}:{number}: '{name.decode()}' is not defined\n"
-    status = 2 if clashes else 0 if stand else 1
+    status = 1 if is_faulty or clashes or not stand else 0
     return grammar, listed, told + ("" if stand else "no rules found\n"), status
 
 
 def shown(told):
-    return "".join(f"{first}-{last}\n" if last else f"{first} not ABNF: {why}\n" for first, last, why in told)
+    return "".join(f"{it.first}-{it.last} {it.name}\n" if isinstance(it, Rule) else f"{it[0]} not ABNF: {it[1]}\n"
+                   for it in told)
 
 
 def main():
     if sys.argv[1:]:
         for name in sys.argv[1:]:
-            sys.stdout.write(shown(found(pathlib.Path(name).read_bytes())))
+            sys.stdout.write(shown(found(name, pathlib.Path(name).read_bytes())))
         return 0
     wrong = 0
     for file in sorted((pathlib.Path(__file__).resolve().parent / "rfc_texts").glob("*.txt")):
-        want, is_found = file.with_suffix(".found").read_text(), shown(found(file.read_bytes()))
+        want, is_found = file.with_suffix(".found").read_text(), shown(found(file.name, file.read_bytes()))
         if is_found != want:
             wrong += 1
             print(f"{file.name}: found\n{is_found}wanted\n{want}", end="")

@@ -1,6 +1,6 @@
-pub mod BlockTextLemmas
-pub mod FrontLinesLemmas
-pub mod PieceLemmas
+pub mod LinesTextLemmas
+pub mod RuleCutLemmas
+pub mod FoundRuleLemmas
 pub mod OneFoundLemmas
 pub mod CutBlanksLemmas
 pub mod FurnitureLemmas

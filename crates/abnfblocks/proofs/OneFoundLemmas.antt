@@ -1,12 +1,15 @@
 -- What is found among lines is one list.
 -- Serves: one_finding
-use Rattle.std.proofs.Common.{◌≡◌, ◌≢◌, ℕ, ◌+◌, true, false, List, ◌∷◌, drop, refl, sym, ap, ◌∙◌, subst, inl, inr}
+use Rattle.std.proofs.Common.{◌≡◌, ◌≢◌, ℕ, true, false, List, ◌∷◌, Some, map, refl, sym, ap, ◌∙◌, inl, inr}
 use Rattle.std.proofs.lemmas.Bool.{cases_order}
 use Rattle.ruletable.specs.declared.fault.ReadFault.{ReadFault}
 use Rattle.ruletable.specs.declared.fault.ReadFault.TheVariants as faults
 use Rattle.abnfread.specs.AbnfReading.{IsFaultOf}
+use Rattle.abnfblocks.specs.RuleCuts.{cut_text}
 use Rattle.abnfblocks.specs.TextLines.{NumberedLine}
-use Rattle.abnfblocks.specs.FoundBlocks.{AreFound, none_left, no_rule, piece, no_piece, IsPiece, IsNoPiece}
+use Rattle.abnfblocks.specs.FoundRules.{AreFound, IsFoundOf, IsLongestCut, IsOutcome, none_left, no_rule}
+use Rattle.abnfblocks.specs.FoundRules.{a_rule, found_line, rule_starts}
+use Rattle.abnfblocks.specs.FoundRules.{it_reads, it_is_none}
 use Rattle.abnfblocks.specs.declared.found.Found.{Found}
 use Rattle.abnfblocks.specs.declared.found.Found.TheVariants as found
 
@@ -15,32 +18,37 @@ abbrev pub OneFault : Type 0
 OneFault = (text : List ℕ) (a b : ReadFault) → IsFaultOf text a → IsFaultOf text b → a ≢ faults.Memory
     → b ≢ faults.Memory → a ≡ b
 
-one-piece : (block : List NumberedLine) (n m : ℕ) → IsPiece block n → IsPiece block m → n ≡ m
-one-piece block n m h k = elim (cases_order n m) [
+one-longest : (rows : List NumberedLine) (n m : ℕ) → IsLongestCut rows n → IsLongestCut rows m → n ≡ m
+one-longest rows n m h k = elim (cases_order n m) [
   | inl e ↦ e
   | inr (inl lt) ↦ absurd (h.longest m lt k.cut k.reads)
   | inr (inr gt) ↦ absurd (k.longest n gt h.cut h.reads)
 ]
 
-one-fault : OneFault → (block : List NumberedLine) (f g : ReadFault) → IsNoPiece block f → IsNoPiece block g → f ≡ g
-one-fault one block f g h k = one _ f g h.fault_is.0 k.fault_is.0 h.fault_is.1 k.fault_is.1
+one-it : OneFault → {i : ℕ} {rows : List NumberedLine} {a b : Found} → IsFoundOf i rows a → IsFoundOf i rows b → a ≡ b
+one-it one {i} {rows} (it_reads {n} h) (it_reads {n = m} k) = ap (λ (x : ℕ). found.Rule i x) (one-longest rows n m h k)
+one-it one (it_reads h) (it_is_none k) = absurd (k.none _ h.cut h.reads)
+one-it one (it_is_none h) (it_reads k) = absurd (h.none _ k.cut k.reads)
+one-it one {i} {rows} (it_is_none {n} {fault = f} h) (it_is_none {n = m} {fault = g} k) =
+    let size : n ≡ m = h.size ∙ sym k.size in
+    let there : IsOutcome (cut_text rows n) (Some g) = rw size k.fault_is in
+    let here = h.fault_is in
+    let same : f ≡ g = one (cut_text rows n) f g here.0 there.0 here.1 there.1 in
+    ap (λ (x : ℕ). found.NotAbnf i x f) size ∙ ap (λ (x : ReadFault). found.NotAbnf i m x) same
+
+-- and has one entry for each line that begins a rule
+pub each-found : {i : ℕ} {lines : List NumberedLine} {all : List Found} → AreFound i lines all
+    → map found_line all ≡ rule_starts i lines
+each-found none_left = refl
+each-found (no_rule e h) = rw e (each-found h)
+each-found (a_rule {i} e (it_reads is) h) = rw e (ap (λ (ns : List ℕ). i ∷ ns) (each-found h))
+each-found (a_rule {i} e (it_is_none is) h) = rw e (ap (λ (ns : List ℕ). i ∷ ns) (each-found h))
 
 pub one-found : OneFault → {i : ℕ} {lines : List NumberedLine} {a b : List Found} → AreFound i lines a
     → AreFound i lines b → a ≡ b
 one-found one none_left none_left = refl
 one-found one (no_rule e h) (no_rule f k) = one-found one h k
-one-found one (no_rule e h) (piece f p k) = let t : true ≡ false = sym f ∙ e in cc
-one-found one (no_rule e h) (no_piece f p k) = let t : true ≡ false = sym f ∙ e in cc
-one-found one (piece e p h) (no_rule f k) = let t : true ≡ false = sym e ∙ f in cc
-one-found one (piece e p h) (no_piece f q k) = absurd (q.none _ p.cut p.reads)
-one-found one (piece {i} {n} {line} {lines} {others} e p h) (piece {n = m} {others = rest} f q k) =
-    let same : m ≡ n = one-piece _ m n q p in
-    let back : AreFound (i + n) (drop n (line ∷ lines)) rest =
-    subst (λ (x : ℕ). AreFound (i + x) (drop x (line ∷ lines)) rest) same k in
-    ap (λ (xs : List Found). found.Piece i n ∷ xs) (one-found one h back)
-    ∙ ap (λ (x : ℕ). found.Piece i x ∷ rest) (sym same)
-one-found one (no_piece e p h) (no_rule f k) = let t : true ≡ false = sym e ∙ f in cc
-one-found one (no_piece e p h) (piece f q k) = absurd (p.none _ q.cut q.reads)
-one-found one (no_piece {i} {fault = v} {others} e p h) (no_piece {fault = w} {others = rest} f q k) =
-    ap (λ (xs : List Found). found.NotAbnf i v ∷ xs) (one-found one h k)
-    ∙ ap (λ (x : ReadFault). found.NotAbnf i x ∷ rest) (one-fault one _ v w p q)
+one-found one (no_rule e h) (a_rule f it k) = let t : true ≡ false = sym f ∙ e in cc
+one-found one (a_rule e it h) (no_rule f k) = let t : true ≡ false = sym e ∙ f in cc
+one-found one (a_rule {it = a} {others = front} e x h) (a_rule {it = b} f y k) =
+    ap (λ (it : Found). it ∷ front) (one-it one x y) ∙ ap (λ (others : List Found). b ∷ others) (one-found one h k)

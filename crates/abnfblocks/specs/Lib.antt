@@ -1,6 +1,6 @@
-pub mod FoundBlocks
+pub mod FoundRules
 pub mod RuleLines
-pub mod TextBlocks
+pub mod RuleCuts
 pub mod Furniture
 pub mod KeptSteps
 pub mod LineKinds

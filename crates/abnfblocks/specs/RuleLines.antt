@@ -32,6 +32,15 @@ begins_letter (b ∷ bytes) = is_ascii_alphabetic b
 abbrev pub begins_comment : List ℕ → Bool
 begins_comment line = begins_by (code ";") (behind_margin line)
 
+-- after its margin the line begins with `/`
+abbrev pub begins_slash : List ℕ → Bool
+begins_slash line = begins_by (code "/") (behind_margin line)
+
+-- or with `/`, `|`, `)` or `]`
+abbrev pub begins_inner : List ℕ → Bool
+begins_inner line = begins_slash line || begins_by (code "|") (behind_margin line)
+    || begins_by (code ")") (behind_margin line) || begins_by (code "]") (behind_margin line)
+
 -- after its margin stand a rule's name and `=`, perhaps with spaces between
 abbrev pub begins_rule_line : List ℕ → Bool
 begins_rule_line line =

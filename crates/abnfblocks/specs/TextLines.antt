@@ -1,6 +1,6 @@
 -- The lines of a text: LF or CR LF ends each of them, and belongs to none; the last one may lack it.
 use Prim.Native.Char.{code}
-use Rattle.std.specs.Prelude.{ℕ, ◌+◌, ◌==◌, ◌&&◌, nat_lt, List, [], ◌∷◌, drop, if◌then◌else◌}
+use Rattle.std.specs.Prelude.{ℕ, ◌+◌, ◌==◌, ◌&&◌, nat_lt, bytes_eq, List, [], ◌∷◌, take, drop, if◌then◌else◌}
 use Rattle.std.specs.List.{prefix_len}
 use Rattle.abnfblocks.specs.declared.rfctext.line_kind.LineKind.{LineKind}
 use Rattle.abnfblocks.specs.declared.rfctext.text_line.TextLine.{TextLine}
@@ -41,3 +41,7 @@ lines_from number (part ∷ parts) = line_in number part ∷ lines_from (number 
 
 abbrev pub text_lines : List ℕ → List NumberedLine
 text_lines text = lines_from 1 (line_parts text)
+
+-- what stands after the byte order mark, if one begins the text; else the text
+abbrev pub behind_mark : List ℕ → List ℕ
+behind_mark text = if bytes_eq (take 3 text) (0xEF ∷ 0xBB ∷ 0xBF ∷ []) then drop 3 text else text

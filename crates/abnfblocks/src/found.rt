@@ -1,50 +1,65 @@
-//! What is found among the lines of a text.
+//! The rules that are found among the lines of a text.
 ghost use Rattle.std.specs.Prelude.{◌≡◌, ℕ, List, map, IfOk};
 ghost use Rattle.abnfblocks.specs.TextLines.{NumberedLine, numbered};
-ghost use Rattle.abnfblocks.specs.FoundBlocks.{AreFound};
+ghost use Rattle.abnfblocks.specs.FoundRules.{AreFound, found_line, rule_starts};
 
 use crate::look::look_at;
 use crate::rfctext::TextLine;
+use crate::rule::rule_size;
+use crate::rule_line::is_rule_line;
 use abnfread::one_reading;
 use ruletable::{Memory, ReadFault};
 use std::alloc::Global;
 
-/// What is found among the lines of a text. Lines count from 0, as they stand in the list.
+/// What is found at a line that begins a rule. Lines count from 0, as they stand in the list.
 #[derive(Clone, Copy)]
 pub enum Found {
     /// So many lines from the first one on are ABNF.
-    Piece { first: usize, count: usize },
-    /// The line looks like a rule, and nothing that it begins is ABNF. The fault is that of its first paragraph, where
-    /// the line itself is line 1.
-    NotAbnf { first: usize, fault: ReadFault },
+    Rule {
+        first: usize,
+        count: usize,
+    },
+    /// No cut of the rule is ABNF. Its longest cut has so many lines. The fault is that of these lines, where the first
+    /// one is line 1.
+    NotAbnf {
+        first: usize,
+        count: usize,
+        fault: ReadFault,
+    },
 }
 
-/// Returns what is found among the lines of a text, in order.
+/// Returns what is found among the lines of a text, in order: one entry for each line that begins a rule.
 ///
-/// A line opens a block if it begins, after its margin, with a rule's name and `=`. The block goes on over blank
-/// lines, comments, lines indented deeper and other rules at the same margin. It is read without its margin by
-/// `read_definitions`; if it does not read, its last paragraphs are left out one by one until it does. What is left
-/// out is looked at again. If nothing reads, the line looks like a rule and is none.
+/// A line begins a rule if a rule's name and `=` stand after its margin. The rule has all lines up to the next one that
+/// begins a rule, or that does not go on: blank lines, comments and lines of a larger margin do, and a line that begins
+/// with `/`, `|`, `)` or `]`, unless a blank line stands before it. A cut of the rule ends with a line that is not
+/// blank, and only blank lines follow it, or at least one and then a line without `/`. The longest cut that
+/// `read_definitions` reads without the margin is the rule. If none reads, the rule is no ABNF.
 ///
 /// # Errors
 /// `Memory` if an allocation fails.
-pub fn find_blocks(alloc: Global, lines: &[TextLine<'_>]) -> Result<Vec<Found>, Memory>
+pub fn find_rules(alloc: Global, lines: &[TextLine<'_>]) -> Result<Vec<Found>, Memory>
     ensures { IfOk result (λ found. AreFound 0 (map numbered lines.now) found.items) }
 {
     let mut found = Vec::new(alloc);
-    let mut first = 0;
-    while first < lines.len() {
-        let look = look_at(alloc, &lines[first..])?;
-        look.tell(&mut found, first)?;
-        first += look.size();
+    for first in 0..lines.len() {
+        if is_rule_line(lines[first].bytes) {
+            let rest = &lines[first..];
+            let size = rule_size(rest);
+            let it = look_at(alloc, first, &rest[..size])?;
+            found.push(it)?;
+        }
     }
     Ok(found)
 }
 
-/// Says that at most one list is found among lines, from a position on.
+/// Says that at most one list is found among lines, from a position on. It has one entry for each line that begins a
+/// rule, in their order.
 pub fn one_finding()
-    ensures { (i : ℕ) (lines : List NumberedLine) (a b : List Found) → AreFound i lines a → AreFound i lines b
+    ensures one { (i : ℕ) (lines : List NumberedLine) (a b : List Found) → AreFound i lines a → AreFound i lines b
         → a ≡ b }
+    ensures each { (i : ℕ) (lines : List NumberedLine) (found : List Found) → AreFound i lines found
+        → map found_line found ≡ rule_starts i lines }
 {
     one_reading();
 }

@@ -1,14 +1,14 @@
-//! The blocks of ABNF among the lines of a text.
+//! The rules of ABNF among the lines of a text.
 #![tactic(auto)]
 
-mod block;
 mod found;
 mod look;
 mod reading;
 mod rfctext;
+mod rule;
 mod rule_line;
 
-pub use block::{joined_text, rule_size};
-pub use found::{Found, find_blocks, one_finding};
-pub use rfctext::{LineKind, TextLine, is_blank, kept_lines, one_keeping};
+pub use found::{Found, find_rules, one_finding};
+pub use rfctext::{LineKind, TextLine, is_blank, kept_lines, one_keeping, without_mark};
+pub use rule::{blank_count, joined_text};
 pub use rule_line::margin;

@@ -1,109 +1,88 @@
-//! What a line of a text begins.
-ghost use Rattle.std.specs.Prelude.{◌≡◌, ◌<◌, ◌≤◌, ◌++◌, length, map, IfOk, OnOk};
+//! What of a rule is ABNF.
+ghost use Rattle.std.specs.Prelude.{◌≡◌, ◌<◌, ◌≤◌, length, map, IfOk};
 ghost use Rattle.abnfblocks.specs.TextLines.{numbered};
-ghost use Rattle.abnfblocks.specs.FoundBlocks.{IsLook, IsBlockLook, IsCutOutcome, size_of, look_tells};
+ghost use Rattle.abnfblocks.specs.RuleCuts.{margin_at};
+ghost use Rattle.abnfblocks.specs.FoundRules.{IsCutOutcome, IsFoundOf, IsShorter};
 
-use crate::block::{block_size, ends_paragraph, paragraph_size};
 use crate::found::Found;
 use crate::reading::fault_of;
 use crate::rfctext::TextLine;
-use crate::rule_line::{is_rule_line, margin};
+use crate::rule::{full_size, is_cut};
+use crate::rule_line::margin;
 use abnfread::one_reading;
-use ruletable::{Memory, ReadFault};
+use ruletable::Memory;
 use std::alloc::Global;
 
-/// What stands at a line.
-#[derive(Clone, Copy)]
-pub(crate) enum Look {
-    /// It opens no block.
-    NoRule,
-    /// It opens a block of which so many lines are ABNF.
-    Piece(usize),
-    /// It opens a block of which nothing is ABNF.
-    NotAbnf(ReadFault),
-}
-
-impl Look {
-    // How many lines it takes.
-    pub(crate) fn size(self) -> usize
-        ensures { result ≡ size_of self }
-    {
-        match self {
-            Look::Piece(count) => count,
-            Look::NoRule | Look::NotAbnf(_) => 1,
-        }
-    }
-
-    // Adds what is found there, where the line has that number.
-    pub(crate) fn tell(self, found: &mut Vec<Found>, first: usize) -> Result<(), Memory>
-        ensures { OnOk result (found.new.items ≡ found.old.items ++ look_tells first self) }
-    {
-        match self {
-            Look::NoRule => {}
-            Look::Piece(count) => found.push(Found::Piece { first, count })?,
-            Look::NotAbnf(fault) => found.push(Found::NotAbnf { first, fault })?,
-        }
-        Ok(())
-    }
-}
-
-// Returns whether a paragraph ends after so many lines of the block, and they read as ABNF without that margin.
+// Returns whether so many lines of a rule are a cut, and read as ABNF without that margin.
 fn is_abnf_cut(
     alloc: Global,
     margin_size: usize,
-    block: &[TextLine<'_>],
+    rule: &[TextLine<'_>],
     size: usize,
 ) -> Result<bool, Memory>
     requires some { 0 < size }
-    requires within { size ≤ length block.now }
-    ensures { IfOk result (λ reads. IsCutOutcome margin_size (map numbered block.now) size reads) }
+    requires within { size ≤ length rule.now }
+    requires margin { margin_size ≡ margin_at (map numbered rule.now) }
+    ensures { IfOk result (λ reads. IsCutOutcome (map numbered rule.now) size reads) }
 {
-    if !ends_paragraph(block, size) {
+    if !is_cut(rule, size) {
         return Ok(false);
     }
     one_reading();
-    let fault = fault_of(alloc, margin_size, &block[..size])?;
+    let fault = fault_of(alloc, margin_size, &rule[..size])?;
     Ok(fault.is_none())
 }
 
-// What of the block is ABNF.
-fn look_at_block(alloc: Global, block: &[TextLine<'_>]) -> Result<Look, Memory>
-    requires { 0 < length block.now }
-    ensures look { IfOk result (λ look. IsBlockLook (map numbered block.now) look) }
-    ensures some { IfOk result (λ look. 0 < size_of look) }
-    ensures within { IfOk result (λ look. size_of look ≤ length block.now) }
+// Returns the size of the longest cut of less than so many lines that reads, or 0.
+fn shorter_cut(
+    alloc: Global,
+    margin_size: usize,
+    rule: &[TextLine<'_>],
+    limit: usize,
+) -> Result<usize, Memory>
+    requires some { 0 < limit }
+    requires within { limit ≤ length rule.now }
+    requires margin { margin_size ≡ margin_at (map numbered rule.now) }
+    ensures { IfOk result (λ size. IsShorter (map numbered rule.now) limit size) }
 {
-    one_reading();
-    let margin_size = margin(block[0].bytes);
-    let shortest = paragraph_size(block);
-    let mut size = block.len();
-    while size > shortest {
-        let reads = is_abnf_cut(alloc, margin_size, block, size)?;
+    let mut size = limit - 1;
+    while size > 0 {
+        let reads = is_abnf_cut(alloc, margin_size, rule, size)?;
         if reads {
-            return Ok(Look::Piece(size));
+            return Ok(size);
         }
         size -= 1;
     }
-    let outcome = fault_of(alloc, margin_size, &block[..shortest])?;
-    match outcome {
-        Some(fault) => Ok(Look::NotAbnf(fault)),
-        None => Ok(Look::Piece(shortest)),
-    }
+    Ok(0)
 }
 
-/// Returns what stands at the first of these lines.
+/// Returns what is found of the rule that has these lines, where the first one has that number.
 ///
 /// # Errors
 /// `Memory` if an allocation fails.
-pub(crate) fn look_at(alloc: Global, lines: &[TextLine<'_>]) -> Result<Look, Memory>
-    requires { 0 < length lines.now }
-    ensures look { IfOk result (λ look. IsLook (map numbered lines.now) look) }
-    ensures some { IfOk result (λ look. 0 < size_of look) }
-    ensures within { IfOk result (λ look. size_of look ≤ length lines.now) }
+pub(crate) fn look_at(alloc: Global, first: usize, rule: &[TextLine<'_>]) -> Result<Found, Memory>
+    requires { 0 < length rule.now }
+    ensures { IfOk result (λ found. IsFoundOf first (map numbered rule.now) found) }
 {
-    if !is_rule_line(lines[0].bytes) {
-        return Ok(Look::NoRule);
+    one_reading();
+    let margin_size = margin(rule[0].bytes);
+    let longest = full_size(rule);
+    let outcome = fault_of(alloc, margin_size, &rule[..longest])?;
+    match outcome {
+        None => Ok(Found::Rule {
+            first,
+            count: longest,
+        }),
+        Some(fault) => {
+            let count = shorter_cut(alloc, margin_size, rule, longest)?;
+            if count > 0 {
+                return Ok(Found::Rule { first, count });
+            }
+            Ok(Found::NotAbnf {
+                first,
+                count: longest,
+                fault,
+            })
+        }
     }
-    let size = block_size(lines);
-    look_at_block(alloc, &lines[..size])
 }

@@ -1,11 +1,11 @@
-//! What the lines of a block read as.
+//! What the lines of a rule read as.
 ghost use Rattle.std.specs.Prelude.{map, IfOk};
 ghost use Rattle.abnfblocks.specs.TextLines.{numbered};
-ghost use Rattle.abnfblocks.specs.TextBlocks.{block_text};
-ghost use Rattle.abnfblocks.specs.FoundBlocks.{IsOutcome};
+ghost use Rattle.abnfblocks.specs.RuleCuts.{lines_text};
+ghost use Rattle.abnfblocks.specs.FoundRules.{IsOutcome};
 
-use crate::block::joined_text;
 use crate::rfctext::TextLine;
+use crate::rule::joined_text;
 use abnfread::read_definitions;
 use ruletable::{Memory, ReadFault};
 use std::alloc::Global;
@@ -19,7 +19,7 @@ pub(crate) fn fault_of(
     margin_size: usize,
     lines: &[TextLine<'_>],
 ) -> Result<Option<ReadFault>, Memory>
-    ensures { IfOk result (λ r. IsOutcome (block_text margin_size (map numbered lines.now)) r) }
+    ensures { IfOk result (λ r. IsOutcome (lines_text margin_size (map numbered lines.now)) r) }
 {
     let text = joined_text(alloc, margin_size, lines)?;
     match read_definitions(alloc, &text) {

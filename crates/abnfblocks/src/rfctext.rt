@@ -6,7 +6,8 @@ mod line_kind;
 mod line_tests;
 mod text_line;
 
-pub use kept::{kept_lines, one_keeping};
+pub(crate) use kept::bare_len;
+pub use kept::{kept_lines, one_keeping, without_mark};
 pub use line_kind::LineKind;
 pub use line_tests::is_blank;
 pub use text_line::TextLine;

@@ -3,6 +3,7 @@ ghost use Rattle.std.specs.Prelude.{◌≡◌, ◌≤◌, length};
 ghost use Rattle.std.specs.List.{prefix_len};
 ghost use Rattle.abnfread.specs.AbnfSlices.{continues_name};
 ghost use Rattle.abnfblocks.specs.RuleLines.{is_margin, margin_of, behind_margin, begins_rule_line, begins_comment};
+ghost use Rattle.abnfblocks.specs.RuleLines.{begins_inner, begins_slash};
 ghost use Rattle.abnfblocks.specs.RuleLines.{begins_by as begins, begins_letter as letter_begins, behind_name};
 
 // Whether the byte belongs to a margin: a space or a tab.
@@ -92,6 +93,21 @@ pub(crate) fn is_comment(line: &[u8]) -> bool
     ensures { result ≡ begins_comment line.now }
 {
     begins_by(after_margin(line), b';')
+}
+
+// Returns whether the line begins with `/`, after its margin.
+pub(crate) fn is_slash_line(line: &[u8]) -> bool
+    ensures { result ≡ begins_slash line.now }
+{
+    begins_by(after_margin(line), b'/')
+}
+
+// Returns whether the line begins with `/`, `|`, `)` or `]`, after its margin.
+pub(crate) fn is_inner_line(line: &[u8]) -> bool
+    ensures { result ≡ begins_inner line.now }
+{
+    let text = after_margin(line);
+    begins_by(text, b'/') || begins_by(text, b'|') || begins_by(text, b')') || begins_by(text, b']')
 }
 
 // Returns whether the line begins with a rule's name and `=`, after its margin.

@@ -12,10 +12,7 @@ pub mod SpelledRulesLemmas
 pub mod TextRulesLemmas
 pub mod UndefinedLemmas
 pub mod AllSameLemmas
-pub mod AloneRulesLemmas
 pub mod PlacedRulesLemmas
-pub mod SplitTextLemmas
-pub mod SplitWordLemmas
 pub mod FatesLemmas
 pub mod JoinedLemmas
 pub mod LineEndLemmas

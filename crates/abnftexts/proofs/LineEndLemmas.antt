@@ -285,23 +285,6 @@ module _ (b : List ℕ) where
         omega (arith, length-append r b, length-append y.rest b);
   }
 
-  pub longest-back : {k : AbnfKind} {t u r : List ℕ} → EndsLine t → u ≡ t ++ b → Longest Stands k u r
-      → Back (Longest Stands k) t b r
-  longest-back l e h =
-      let y = stands-back l e h.stands in
-      record {
-        rest = y.rest;
-        same = y.same;
-        holds = record {
-          stands = y.holds;
-          longest = λ other s g.
-              let le = h.longest other (s ++ b) (at-headed (Stands other) e (stands-on g)) in
-              let same = ap length y.same in
-              omega (arith, length-append s b, length-append y.rest b);
-        };
-        line = y.line;
-      }
-
   piece-on : {t m : List ℕ} → EndsLine t → Piece t m → Piece (t ++ b) (m ++ b)
   piece-on l (blank p) = blank p
   piece-on l crlf = crlf
@@ -333,72 +316,6 @@ pub white-line : {t m : List ℕ} → LeftLine t → White t m → LeftLine m
 white-line l no_more = l
 white-line (some_text l) (piece p w) = white-line (piece-line l p) w
 white-line no_text (piece p w) = elim p [ ]
-
--- what holds of the longer text and s holds of the text, up to a position where the text ends or LF ends what is left
-pub record LeftBack (P : List ℕ → List ℕ → Type 0) (t b s : List ℕ) : Type 0 where
-  pub rest : List ℕ
-  pub same : s ≡ rest ++ b
-  pub holds : P t rest
-  pub left : LeftLine rest
-
-stops-back : (f : ℕ → Bool) (b : List ℕ) {r : List ℕ} → EndsLine r → Stops f (r ++ b) → Stops f r
-stops-back f b lf h = h
-stops-back f b (behind_byte l) h = h
-
-piece-back : {b t u s : List ℕ} → EndsLine t → u ≡ t ++ b → Piece u s → LeftBack Piece t b s
-piece-back lf e (blank p) = record {
-  rest = [];
-  same = (let h = e in cc);
-  holds = blank refl;
-  left = no_text;
-}
-piece-back (behind_byte {b = d} {bytes} l) e (blank {b = c} p) = record {
-  rest = bytes;
-  same = (let h = e in cc);
-  holds = blank (let same : c ≡ d = cc in rw same at p);
-  left = some_text l;
-}
-piece-back lf e crlf = absurd (let h = e in cc)
-piece-back (behind_byte {b = d} lf) e crlf = record {
-  rest = [];
-  same = (let h = e in cc);
-  holds = (let same : d ≡ 13 = cc in rw same crlf);
-  left = no_text;
-}
-piece-back (behind_byte {b = d} (behind_byte {b = c} {bytes} l)) e crlf = record {
-  rest = bytes;
-  same = (let h = e in cc);
-  holds = (let same : d ≡ 13 = cc in let next : c ≡ 10 = cc in rw (same, next) crlf);
-  left = some_text l;
-}
-piece-back {b} l e (comment h stop) =
-    let x = first-back b refl l e in
-    let y = run-back refl b x.line x.tail h in
-    let same = y.same in
-    record {
-      rest = y.rest;
-      same = same;
-      holds = at-headed Piece x.is_headed (comment y.holds (stops-back is_inside b y.line (rw same at stop)));
-      left = some_text y.line;
-    }
-
--- White space of the longer text ends in the text, or takes all of it and ends there.
-pub data WhiteSplit (b t s : List ℕ) : Type 0 where
-  inside : {rest : List ℕ} → s ≡ rest ++ b → EndsLine rest → White t rest → WhiteSplit b t s
-  through : s ≡ b → White t [] → WhiteSplit b t s
-
-split-more : {b t m s : List ℕ} → Piece t m → WhiteSplit b m s → WhiteSplit b t s
-split-more p (inside e l w) = inside e l (piece p w)
-split-more p (through e w) = through e (piece p w)
-
-pub white-split : {b u s t : List ℕ} → ((r : List ℕ) → Piece b r → ⊥) → White u s → LeftLine t → u ≡ t ++ b
-    → WhiteSplit b t s
-white-split n no_more no_text e = through e no_more
-white-split n no_more (some_text l) e = inside e l no_more
-white-split n (piece p w) no_text e = absurd (n _ (rw e at p))
-white-split n (piece p w) (some_text l) e =
-    let y = piece-back l e p in
-    split-more y.holds (white-split n w y.left y.same)
 
 pub white-on : {t m : List ℕ} (b : List ℕ) → LeftLine t → White t m → White (t ++ b) (m ++ b)
 white-on b l no_more = no_more

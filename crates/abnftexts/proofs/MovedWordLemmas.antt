@@ -152,32 +152,6 @@ option-some (Some c) = inr (c, refl)
 abbrev pub run_behind : List Word → Option Config → Option Config
 run_behind us x = elim x [ None ↦ None | Some d ↦ run d us ]
 
-moves-leave : (c : Config) (w : Word) → (c ≡ start → ⊥) → step c w ≡ Some start → ⊥
-moves-leave c w q h = let moves = step-moves 0 [] c w q in rw h at moves
-
--- no step leads to the start
-step-leaves : (c : Config) (w : Word) (d : Config) → step c w ≡ Some d → d ≡ start → ⊥
-step-leaves start (word g true (Name z p)) d h e = cc
-step-leaves start (word g true _) d h e = cc
-step-leaves start (word g false s) d h e = cc
-step-leaves (named more z p) w d h e = moves-leave (named more z p) w (λ q. cc) (h ∙ ap Some e)
-step-leaves (body i o bs es l) w d h e = moves-leave (body i o bs es l) w (λ q. cc) (h ∙ ap Some e)
-step-leaves (done more) w d h e = moves-leave (done more) w (λ q. cc) (h ∙ ap Some e)
-
--- nor do several
-steps-leave : (ws : List Word) (c d : Config) → (c ≡ start → ⊥) → run c ws ≡ Some d → d ≡ start → ⊥
-steps-leave [] c d q h e = q (let same : c ≡ d = cc in same ∙ e)
-steps-leave (w ∷ ws) c d q h e = elim (option-some (step c w)) [
-  | inl x ↦ (let k : None ≡ Some d = sym (ap (run_behind ws) x) ∙ h in cc)
-  | inr x ↦ steps-leave ws x.0 d (step-leaves c w x.0 x.1) (sym (ap (run_behind ws) x.1) ∙ h) e
-]
-
-pub run-leaves : (w : Word) (ws : List Word) (c d : Config) → run c (w ∷ ws) ≡ Some d → d ≡ start → ⊥
-run-leaves w ws c d h e = elim (option-some (step c w)) [
-  | inl x ↦ (let k : None ≡ Some d = sym (ap (run_behind ws) x) ∙ h in cc)
-  | inr x ↦ steps-leave ws x.0 d (step-leaves c w x.0 x.1) (sym (ap (run_behind ws) x.1) ∙ h) e
-]
-
 -- Where the end of a text may follow, a rule may, and no bracket is open.
 record MayEnd (c : Config) (ds : List Definition) : Type 0 where
   next : (g : Bool) (z : List ℕ) (p : Span) → step c (word g true (Name z p)) ≡ Some (named ds z p)

@@ -1,28 +1,28 @@
--- A text of which the first token alone begins a rule spells one definition.
+-- A text of which no name but the first begins a rule spells one definition.
 -- Serves: joined_reading
 use Rattle.std.proofs.Common.{◌≡◌, ℕ, zero, suc, ◌+◌, ◌≤◌, ◌&&◌, Bool, true, false, not}
 use Rattle.std.proofs.Common.{Some, List, [], ◌∷◌, ◌++◌, length, drop, refl, sym, ap, ◌∙◌, arith}
-use Rattle.std.proofs.Common.{append_assoc, length-append}
+use Rattle.std.proofs.Common.{append_assoc, length-append, subst}
 use Rattle.std.proofs.lemmas.List.{drop_at}
-use Rattle.std.proofs.lemmas.Bool.Decides.{nat_tests}
 use Rattle.std.specs.Char.{is_ascii_alphabetic}
 use Rattle.ruletable.specs.declared.span.Span.{Span}
 use Rattle.lexer.specs.TokenLists as lexing
-use Rattle.lexer.specs.TokenLists.{Tok, tok, Next, last_one, one_more}
+use Rattle.lexer.specs.TokenLists.{Tok, tok, last_one, one_more}
 use Rattle.lexer.specs.Viability.{say_none, say_more}
 use Rattle.abnfread.specs.declared.kind.AbnfKind.{AbnfKind}
 use Rattle.abnfread.specs.AbnfKinds.{ends_list}
-use Rattle.abnfread.specs.AbnfSays.{SayAll}
-use Rattle.abnfread.specs.AbnfSlices.{White, First, Stands, name, is, adds, slash, lparen, rparen, lbrack, rbrack}
-use Rattle.abnfread.specs.AbnfSlices.{counted}
-use Rattle.abnfread.specs.AbnfSlices.{star, text, cased, num, prose}
+use Rattle.abnfread.specs.declared.kind.AbnfKind.TheVariants as kinds
+use Rattle.abnfread.specs.AbnfSays.{SayAll, SaysKind, says_name, says_is, says_adds, says_slash, says_lparen}
+use Rattle.abnfread.specs.AbnfSays.{says_rparen, says_lbrack, says_rbrack, says_repeat, says_text, says_cased}
+use Rattle.abnfread.specs.AbnfSays.{says_num, says_prose, says_end}
+use Rattle.abnfread.specs.AbnfSlices.{White, First, Stands, name}
 use Rattle.abnfread.specs.AbnfSpelling.{OneElement, parens, brackets, Repetition, once, repeated, Parts, one, further}
 use Rattle.abnfread.specs.AbnfSpelling.{Alternatives, only, others, Alternation, alternatives, Assigns, definition}
 use Rattle.abnfread.specs.AbnfSpelling.{Grammar}
 use Rattle.abnfread.specs.AbnfSpelling.{last_rule, more_rules}
 use Rattle.abnfread.specs.AbnfSpelling as spelling
-use Rattle.abnfread.specs.AbnfWords.{Word, word, Name}
-use Rattle.abnfread.specs.BaseDigits.{is_digit}
+use Rattle.abnfread.specs.AbnfWords.{Word, word, Said, Name}
+use Rattle.abnfread.specs.Numerals.{SaysNum, says_values, says_range}
 use Rattle.abnfread.specs.Element.{Definition, Element, Elements}
 use Rattle.abnfread.specs.MarkedTokens.{begins_rule, indented, indent_at, is_first, marks}
 use Rattle.abnfread.proofs.AbnfSliceLemmas.{first-less, white-ends}
@@ -31,9 +31,13 @@ use Rattle.abnftexts.proofs.LinkedTokenLemmas.{WordSaid, first-said, word-said}
 use Rattle.abnftexts.proofs.EachLemmas.{Each, each_none, each_next}
 use Rattle.abnftexts.proofs.OneRuleLemmas.{Later, is_dark, later-at}
 
--- the word is the first of no line that begins a rule
+abbrev pub IsName : Said → Type 0
+IsName (Name z p) = Unit {0}
+IsName s = ⊥
+
+-- if the word is a name, it is the first of no line that begins a rule
 abbrev pub NotFirst : Word → Type 0
-NotFirst (word g f s) = f ≡ false
+NotFirst (word g f s) = IsName s → f ≡ false
 
 module _ {P : Word → Type 0} where
   behind-one : {w : Word} {r : List Word} → Each P (w ∷ r) → Each P r
@@ -78,8 +82,8 @@ pub record OneSpelled (ws : List Word) (ds : List Definition) : Type 0 where
   pub is_one : ds ≡ definition assigns_more name span body ∷ []
 
 no_rule-first : {ws : List Word} {ds : List Definition} → Grammar ws ds → Each NotFirst ws → ⊥
-no_rule-first (last_rule a h) (each_next p k) = cc
-no_rule-first (more_rules a h g) (each_next p k) = cc
+no_rule-first (last_rule a h) (each_next p k) = let e : true ≡ false = p tt in cc
+no_rule-first (more_rules a h g) (each_next p k) = let e : true ≡ false = p tt in cc
 
 pub one-spelled : {w : Word} {vs : List Word} {ds : List Definition} → Grammar (w ∷ vs) ds → Each NotFirst vs
     → OneSpelled (w ∷ vs) ds
@@ -98,26 +102,31 @@ one-spelled (last_rule {g} {a = a} {n} {p} {w = v} {s = s} {x = x} y h) k = reco
 one-spelled (more_rules y h more) k = absurd (no_rule-first more (alternation-each h (behind-one k)))
 
 letter-not_dark : (c : ℕ) → is_ascii_alphabetic c ≡ true → is_dark c ≡ true → ⊥
-letter-not_dark c e f = grind (arith, nat_tests)
+letter-not_dark c e f = let bad : not true ≡ true = rw e at f in cc
 
-digit-not_dark : (c : ℕ) → is_digit 10 c ≡ true → is_dark c ≡ true → ⊥
-digit-not_dark c e f = grind (arith, nat_tests)
-
-dark-none : {k : AbnfKind} {c : ℕ} {v r : List ℕ} → is_dark c ≡ true → Stands k (c ∷ v) r → ⊥
+dark-none : {c : ℕ} {v r : List ℕ} → is_dark c ≡ true → Stands kinds.Name (c ∷ v) r → ⊥
 dark-none {c = c} e (name p h) = letter-not_dark c p e
-dark-none {c = c} e (counted p h) = digit-not_dark c p e
-dark-none e is = cc
-dark-none e adds = cc
-dark-none e slash = cc
-dark-none e lparen = cc
-dark-none e rparen = cc
-dark-none e lbrack = cc
-dark-none e rbrack = cc
-dark-none e (star h) = cc
-dark-none e (text h) = cc
-dark-none e (cased p h) = cc
-dark-none e (num p h) = cc
-dark-none e (prose h) = cc
+
+number-names : {z : List ℕ} {s : Said} → SaysNum z s → IsName s → ⊥
+number-names (says_values t l) i = i
+number-names (says_range t e l h) i = i
+
+-- a name is what a token of its kind says
+name-kind : {k : AbnfKind} {z : List ℕ} {p : Span} {s : Said} → SaysKind k z p s → IsName s → k ≡ kinds.Name
+name-kind says_name i = refl
+name-kind says_is i = absurd i
+name-kind says_adds i = absurd i
+name-kind says_slash i = absurd i
+name-kind says_lparen i = absurd i
+name-kind says_rparen i = absurd i
+name-kind says_lbrack i = absurd i
+name-kind says_rbrack i = absurd i
+name-kind (says_repeat h) i = absurd i
+name-kind (says_text e) i = absurd i
+name-kind (says_cased c e) i = absurd i
+name-kind (says_num h) i = absurd (number-names h i)
+name-kind (says_prose e) i = absurd i
+name-kind says_end i = absurd i
 
 false-or_true : (x : Bool) → (x ≡ true → ⊥) → x ≡ false
 false-or_true true f = absurd (f refl)
@@ -127,36 +136,38 @@ and-none : (x y : Bool) → y ≡ false → (x && y) ≡ false
 and-none true y e = e
 and-none false y e = refl
 
-not-first : {k : AbnfKind} {z : List ℕ} {p : Span} {g f : Bool} {w : Word} → WordSaid k z p g f w → f ≡ false
-    → NotFirst w
-not-first o e = let is = o.is in rw (is, e) refl
+not-first : {k : AbnfKind} {z : List ℕ} {p : Span} {g f : Bool} {w : Word} → WordSaid k z p g f w
+    → (k ≡ kinds.Name → f ≡ false) → NotFirst w
+not-first o e = let is = o.is in rw is (λ i. e (name-kind o.says_it i))
 
 module _ (b : ℕ) (rest : List ℕ) (later : Later (indented (Some 0) b) rest) where
   abbrev whole : List ℕ
   whole = b ∷ rest
 
-  -- no token after the first byte begins a rule
+  -- no name after the first byte begins a rule
   token-later : (front token : List ℕ) (n : ℕ) {k : AbnfKind} {r : List ℕ} → whole ≡ front ++ token → 1 ≤ n
-      → n + length token ≡ length whole → Stands k token r → begins_rule (Some 0) (indent_at whole n) ≡ false
-  token-later front token zero e le place s = absurd (omega arith)
-  token-later front [] (suc n) e le place s = absurd (nothing-stands s)
+      → n + length token ≡ length whole → Stands k token r → k ≡ kinds.Name
+      → begins_rule (Some 0) (indent_at whole n) ≡ false
+  token-later front token zero e le place s name_is = absurd (omega arith)
+  token-later front [] (suc n) e le place s name_is = absurd (nothing-stands s)
     where
       nothing-stands : {k : AbnfKind} {r : List ℕ} → Stands k [] r → ⊥
       nothing-stands s = elim s [ ]
-  token-later front (c ∷ v) (suc n) e le place s =
+  token-later front (c ∷ v) (suc n) {r = r} e le place s name_is =
       let size = ap length e in
       let there : drop n rest ≡ c ∷ v =
       (let at : length front ≡ suc n = omega (arith, length-append front (c ∷ v)) in
       ap (drop (suc n)) e ∙ drop_at front (c ∷ v) (suc n) at) in
       false-or_true (begins_rule (Some 0) (indent_at whole (suc n)))
-      (λ q. dark-none (later-at later n (begins-at_none (indent_at whole (suc n)) q) c v there) s)
+      (λ q. dark-none (later-at later n (begins-at_none (indent_at whole (suc n)) q) c v there)
+      (subst (λ (x : AbnfKind). Stands x (c ∷ v) r) name_is s))
 
   all-later : (front : List ℕ) {t : List ℕ} {ts : List (Tok AbnfKind)} {ws : List Word} (n : ℕ) → whole ≡ front ++ t
       → 1 ≤ length front → lexing.AreTokens White First ends_list (length whole) t ts
       → SayAll (marks whole (Some 0) n ts) ws → Each NotFirst ws
   all-later front n e le (last_one {x = tok k z p} h is_end) (say_more y say_none) =
       let first : is_first whole (Some 0) (tok k z p) ≡ false = rw is_end refl in
-      each_next (not-first (word-said y) first) each_none
+      each_next (not-first (word-said y) (λ e. first)) each_none
   all-later front {t} n e le (one_more {r = r} {x = tok k z p} h goes more) (say_more y says_more) =
       let o = word-said y in
       let longest = first-said goes o.says_it h.first in
@@ -171,7 +182,8 @@ module _ (b : ℕ) (rest : List ℕ) (later : Later (indented (Some 0) b) rest) 
       omega (arith, length-append before h.token)) in
       let le_next : 1 ≤ length (before ++ z) = omega (arith, length-append before z) in
       let none = token-later before h.token p.start whole_is start h.place longest.stands in
-      each_next (not-first o (and-none (not (ends_list k)) (begins_rule (Some 0) (indent_at whole p.start)) none))
+      each_next
+      (not-first o (λ e. and-none (not (ends_list k)) (begins_rule (Some 0) (indent_at whole p.start)) (none e)))
       (all-later (before ++ z) p.end next_is le_next more says_more)
 
   -- all words but the first

@@ -1,23 +1,25 @@
--- The lines of a rule spell one definition: no other line of them begins a rule.
+-- No line of a rule but the first begins with a name after the margin.
 -- Serves: joined_reading
 use Rattle.std.proofs.Common.{◌≡◌, ℕ, zero, suc, ◌+◌, ◌≤◌, ◌==◌, ◌||◌, nat_lt, Bool, true, false}
 use Rattle.std.proofs.Common.{not, Option, Some, None, List, [], ◌∷◌, ◌++◌, take, drop, refl, sym}
 use Rattle.std.proofs.Common.{arith, inl, inr, subst, append_assoc, min, cond}
 use Rattle.std.proofs.lemmas.Bool.{cases_Bool, eqb-true}
 use Rattle.std.proofs.lemmas.Bool.Decides.{nat_tests}
+use Rattle.std.specs.Char.{is_ascii_alphabetic}
 use Rattle.std.specs.List.{prefix_len}
 use Rattle.abnfblocks.specs.LineKinds.{is_blank as is_blank_byte}
 use Rattle.abnfblocks.specs.TextLines.{NumberedLine}
-use Rattle.abnfread.specs.AbnfSlices.{is_blank, is_inside}
+use Rattle.abnfread.specs.AbnfSlices.{is_inside}
 use Rattle.abnfread.specs.MarkedTokens.{plus, indented, indent_from}
-use Rattle.abnfblocks.specs.RuleLines.{begins_by, begins_comment, behind_margin, is_margin, margin_of}
-use Rattle.abnfblocks.specs.TextBlocks.{begins_rule_at, block_text, goes_on, is_empty_line}
+use Rattle.abnfblocks.specs.RuleLines.{begins_by, begins_comment, begins_inner, behind_margin, is_margin, margin_of}
+use Rattle.abnfblocks.specs.RuleCuts.{is_empty_line, lines_text}
 use Rattle.abnftexts.proofs.ClearLinesLemmas.{AreInside, IsClear}
 use Rattle.abnftexts.proofs.EachLemmas.{Each, each_none, each_next, each-drop}
+use Rattle.abnftexts.proofs.OwnLinesLemmas.{may_go_on}
 
--- a byte that begins no token where it begins a line: a blank, `;` or a form feed
+-- a byte that begins no name
 abbrev pub is_dark : ℕ → Bool
-is_dark c = is_blank c || (c == 59) || (c == 12)
+is_dark c = not (is_ascii_alphabetic c)
 
 -- after that indentation, each line but the one that goes on begins with such a byte
 pub data Later : Option ℕ → List ℕ → Type 0 where
@@ -87,46 +89,48 @@ comment-first : (bytes : List ℕ) → begins_by 59 bytes ≡ true → DarkFirst
 comment-first [] e = cc
 comment-first (b ∷ bytes) e = let same : b ≡ 59 = eqb-true b 59 e in rw same refl
 
-or-cases : (x y : Bool) → (x || y) ≡ true → (x ≡ false → ⊥) → x ≡ true
-or-cases true y e n = refl
-or-cases false y e n = absurd (n refl)
+inner-byte : (b : ℕ) → ((b == 47) || (b == 124) || (b == 41) || (b == 93)) ≡ true → is_dark b ≡ true
+inner-byte b e = grind (arith, nat_tests)
 
-or-second : (x y : Bool) → (x || y) ≡ true → x ≡ false → y ≡ true
-or-second true y e f = cc
-or-second false y e f = e
+inner-first : (bytes : List ℕ)
+    → (begins_by 47 bytes || begins_by 124 bytes || begins_by 41 bytes || begins_by 93 bytes) ≡ true → DarkFirst bytes
+inner-first [] e = cc
+inner-first (b ∷ bytes) e = inner-byte b e
 
--- a line with which a block goes on, and that begins no rule of it, begins with such a byte after the margin
-cut-dark : (m : ℕ) (line : NumberedLine) → IsClear line → goes_on m line ≡ true
-    → not (begins_rule_at m line) ≡ true → DarkFirst (drop (min m (margin_of line.bytes)) line.bytes)
-cut-dark m line clear goes none = elim (cases_Bool (is_empty_line line)) [
+-- after the margin, a line with which a rule may go on begins with such a byte
+cut-dark : (m : ℕ) (line : NumberedLine) → IsClear line → may_go_on m line ≡ true
+    → DarkFirst (drop (min m (margin_of line.bytes)) line.bytes)
+cut-dark m line clear goes = elim (cases_Bool (is_empty_line line)) [
   | inl e ↦ first-blank (each-drop (min m (margin_of line.bytes)) (clear.blank e))
   | inr e ↦ elim (cases_Bool (begins_comment line.bytes)) [
-    | inl f ↦ dark-margin (min m (margin_of line.bytes)) line.bytes (omega arith)
-        (λ q. subst (λ (k : ℕ). DarkFirst (drop k line.bytes)) (sym q) (comment-first (behind_margin line.bytes) f))
+    | inl f ↦ behind-first (comment-first (behind_margin line.bytes) f)
     | inr f ↦ elim (cases_Bool (nat_lt m (margin_of line.bytes))) [
       | inl g ↦ dark-margin (min m (margin_of line.bytes)) line.bytes (omega arith)
           (λ q. absurd (lower m (margin_of line.bytes) g q))
-      | inr g ↦ absurd (none-left (is_empty_line line) (begins_comment line.bytes) (nat_lt m (margin_of line.bytes))
-          (begins_rule_at m line) e f g goes none)
+      | inr g ↦ behind-first (inner-first (behind_margin line.bytes)
+          (last-true (is_empty_line line) (begins_comment line.bytes) (nat_lt m (margin_of line.bytes))
+          (begins_inner line.bytes) e f g goes))
     ]
   ]
 ]
   where
+    behind-first : DarkFirst (behind_margin line.bytes) → DarkFirst (drop (min m (margin_of line.bytes)) line.bytes)
+    behind-first h = dark-margin (min m (margin_of line.bytes)) line.bytes (omega arith)
+        (λ q. subst (λ (k : ℕ). DarkFirst (drop k line.bytes)) (sym q) h)
+
     lower : (m n : ℕ) → nat_lt m n ≡ true → min m n ≡ n → ⊥
     lower m n e q = grind (arith, nat_tests)
 
-    none-left : (x y z w : Bool) → x ≡ false → y ≡ false → z ≡ false → (x || y || z || w) ≡ true → not w ≡ true → ⊥
-    none-left x y z true e f g h k = cc
-    none-left x y z false e f g h k = let l = rw (e, f, g) at h in cc
+    last-true : (x y z w : Bool) → x ≡ false → y ≡ false → z ≡ false → (x || y || z || w) ≡ true → w ≡ true
+    last-true x y z w e f g h = rw (e, f, g) at h
 
-pub block-later : (m : ℕ) {lines : List NumberedLine} → Each IsClear lines
-    → Each (λ other. goes_on m other ≡ true) lines
-    → Each (λ other. not (begins_rule_at m other) ≡ true) lines → Later (Some 0) (block_text m lines)
-block-later m each_none each_none each_none = later_end
-block-later m (each_next {x = line} {xs = lines} c cs) (each_next g gs) (each_next n ns) =
+pub lines-later : (m : ℕ) {lines : List NumberedLine} → Each IsClear lines
+    → Each (λ other. may_go_on m other ≡ true) lines → Later (Some 0) (lines_text m lines)
+lines-later m each_none each_none = later_end
+lines-later m (each_next {x = line} {xs = lines} c cs) (each_next g gs) =
     let k = min m (margin_of line.bytes) in
-    let e = append_assoc (drop k line.bytes) (10 ∷ []) (block_text m lines) in
-    subst (Later (Some 0)) (sym e) (line-later (each-drop k c.inside) (cut-dark m line c g n) (block-later m cs gs ns))
+    let e = append_assoc (drop k line.bytes) (10 ∷ []) (lines_text m lines) in
+    subst (Later (Some 0)) (sym e) (line-later (each-drop k c.inside) (cut-dark m line c g) (lines-later m cs gs))
 
 -- where such a text begins a line, such a byte stands
 pub later-at : {i : Option ℕ} {t : List ℕ} → Later i t → (n : ℕ) → indent_from i (take n t) ≡ Some 0 → (c : ℕ)

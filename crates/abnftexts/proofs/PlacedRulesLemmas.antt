@@ -1,26 +1,29 @@
 -- Each rule that texts give has lines of its own, which alone spell it.
--- Serves: joined_reading
-use Rattle.std.proofs.Common.{◌≡◌, ℕ, zero, suc, true, Option, Some, None, List, [], ◌∷◌, ◌++◌, map, refl, sym, ap, ◌∙◌}
-use Rattle.std.proofs.Common.{inl, inr, subst}
+-- Serves: join_texts, joined_reading
+use Rattle.std.proofs.Common.{◌≡◌, ℕ, zero, suc, true, Option, Some, None, List, [], ◌∷◌, ◌++◌, take, drop, refl}
+use Rattle.std.proofs.Common.{sym, ap, ◌∙◌, inl, inr, subst}
 use Rattle.std.proofs.lemmas.Bool.{cases_Bool}
+use Rattle.std.proofs.lemmas.List.{drop-drop}
 use Rattle.std.specs.List.{filter_map, slice_get, cons_option}
+use Rattle.abnfread.specs.AbnfReading.{Reads}
 use Rattle.abnfread.specs.Element.{Definition}
-use Rattle.abnfread.proofs.AbnfFaultLemmas.{one-reading}
-use Rattle.abnfblocks.specs.TextBlocks.{block_text, goes_on, margin_at, rule_lines}
-use Rattle.abnfblocks.specs.TextLines.{NumberedLine}
+use Rattle.abnfblocks.specs.FoundRules.{AreFound, IsFoundOf, IsLongestCut, none_left, no_rule as no_rule_there, a_rule}
+use Rattle.abnfblocks.specs.FoundRules.{it_reads, it_is_none}
+use Rattle.abnfblocks.specs.RuleCuts.{cut_text, lines_text, margin_at, opens_rule, first_rule}
+use Rattle.abnfblocks.specs.RuleLines.{margin_of}
+use Rattle.abnfblocks.specs.TextLines.{NumberedLine, behind_mark}
 use Rattle.abnfblocks.specs.declared.found.Found.{Found}
+use Rattle.abnfblocks.specs.declared.found.Found.TheVariants as found
 use Rattle.abnftexts.specs.GivenRules.{RuleGiven}
 use Rattle.abnftexts.specs.JoinedGrammar.{has_stayed, standing}
 use Rattle.abnftexts.specs.RulesGathered.{NamedText, RuleLines, RulesGathered}
-use Rattle.abnftexts.specs.TakenRules.{SpellAlone, none_alone, next_alone}
-use Rattle.abnftexts.specs.TextRules.{AreRuleLines, GivesFound, GivesPiece, GivesText, GiveTexts, SpellRule, given_by}
-use Rattle.abnftexts.specs.TextRules.{next_piece, next_rule, next_text, no_lines, no_piece, no_texts, none_found}
+use Rattle.abnftexts.specs.TextRules.{GivesFound, GivesText, GiveTexts, SpellRule}
+use Rattle.abnftexts.specs.TextRules.{next_rule, next_text, no_rule, no_texts, none_found}
 use Rattle.abnftexts.specs.declared.join.fate.Fate.{Fate}
-use Rattle.abnftexts.proofs.AloneRulesLemmas.{IsReadAlone, ReadAlone, found-alone}
 use Rattle.abnftexts.proofs.ClearLinesLemmas.{IsClear, kept-clear}
-use Rattle.abnftexts.proofs.EachLemmas.{Each, each_next, each-drop}
-use Rattle.abnftexts.proofs.OwnLinesLemmas.{BeginsRule, OwnLines, next-rule, own-lines}
-use Rattle.abnftexts.proofs.RuleTextLemmas.{all-given}
+use Rattle.abnftexts.proofs.EachLemmas.{Each, each_none, each_next, each-drop}
+use Rattle.abnftexts.proofs.OwnLinesLemmas.{OwnLines, cut-lines, first-margin, own-lines}
+use Rattle.abnftexts.proofs.RuleTextLemmas.{rule-one, rule-text, text-spells}
 
 -- rules with their lines
 pub data ArePlaced : List RuleLines → List RuleGiven → Type 0 where
@@ -37,34 +40,64 @@ placed-both (next_placed own spells h) k = next_placed own spells (placed-both h
 abbrev Placed : RulesGathered → Type 0
 Placed g = ArePlaced g.places g.rules
 
-rules-placed : {name : List ℕ} {m : ℕ} {lines : List NumberedLine} {places : List RuleLines} {ds : List Definition}
-    → AreRuleLines name m lines places → SpellAlone m lines ds → BeginsRule m lines
-    → Each (λ other. goes_on m other ≡ true) lines → Each IsClear lines → ArePlaced places (map given_by ds)
-rules-placed no_lines none_alone begins goes clear = none_placed
-rules-placed {m = m} (next_rule {line} {lines} h) (next_alone {d = d} reads more) begins goes clear =
-    let n = rule_lines (line ∷ lines) in
-    next_placed (own-lines line lines begins goes clear) (record { definition = d; reads = reads; is = refl })
-    (rules-placed h more (next-rule m line lines begins) (each-drop n goes) (each-drop n clear))
+-- the lines alone spell one definition
+pub record ReadAlone (lines : List NumberedLine) : Type 0 where
+  pub definition : Definition
+  pub reads : Reads (lines_text (margin_at lines) lines) (definition ∷ [])
+  pub own : OwnLines (margin_at lines) lines
 
-piece-placed : {name : List ℕ} {lines : List NumberedLine} {g : RulesGathered} → GivesPiece name lines g
-    → ReadAlone lines → Placed g
-piece-placed {lines = lines} {g} x r =
-    let like = r.like in
-    let gives = x.gives in
-    let same = one-reading (block_text (margin_at lines) lines) x.definitions r.definitions x.reads r.reads in
-    let rules : g.rules ≡ map given_by like.alone =
-    gives.rules ∙ ap (map given_by) same ∙ all-given r.definitions like.alone like.same in
-    subst (λ (rules : List RuleGiven). ArePlaced g.places rules) (sym rules)
-    (rules-placed gives.places like.are r.begins r.goes r.clear)
+definition-alone : (lines : List NumberedLine) {ds : List Definition} → OwnLines (margin_at lines) lines
+    → Reads (lines_text (margin_at lines) lines) ds → ReadAlone lines
+definition-alone lines own h =
+    let t = rule-text own in
+    let one = rule-one own (text-spells t.whole t.letter h) in
+    let is = one.1 in
+    record { definition = one.0; reads = rw is at h; own = own }
+
+cut-alone : (line : NumberedLine) (lines : List NumberedLine) (n : ℕ) → opens_rule line ≡ true
+    → IsLongestCut (first_rule (line ∷ lines)) n → Each IsClear (line ∷ lines) → ReadAlone (take n (line ∷ lines))
+cut-alone line lines n opens is clear =
+    let rows = take n (line ∷ lines) in
+    let cut = is.cut in
+    let reads = is.reads in
+    let own = own-lines line lines n opens cut clear in
+    let margin : margin_of line.bytes ≡ margin_at rows = first-margin line lines n cut.some in
+    let same : cut_text (first_rule (line ∷ lines)) n ≡ lines_text (margin_at rows) rows =
+    ap (lines_text (margin_of line.bytes)) (cut-lines line lines n cut)
+    ∙ ap (λ (m : ℕ). lines_text m rows) margin in
+    definition-alone rows own (subst (λ (text : List ℕ). Reads text reads.0) same reads.1)
+
+-- so it is with each rule that is found
+abbrev pub IsReadAlone : List NumberedLine → Found → Type 0
+IsReadAlone kept (found.Rule first count) = ReadAlone (take count (drop first kept))
+IsReadAlone kept (found.NotAbnf first count fault) = Unit {0}
+
+it-alone : (kept : List NumberedLine) {i : ℕ} {it : Found} (line : NumberedLine) (lines : List NumberedLine)
+    → opens_rule line ≡ true → line ∷ lines ≡ drop i kept → Each IsClear (line ∷ lines)
+    → IsFoundOf i (first_rule (line ∷ lines)) it → IsReadAlone kept it
+it-alone kept line lines opens e clear (it_reads {n} is) =
+    subst (λ (rows : List NumberedLine). ReadAlone (take n rows)) e (cut-alone line lines n opens is clear)
+it-alone kept line lines opens e clear (it_is_none is) = tt
+
+pub found-alone : {kept lines : List NumberedLine} {i : ℕ} {all : List Found} → Each IsClear kept
+    → AreFound i lines all → lines ≡ drop i kept → Each (IsReadAlone kept) all
+found-alone clear none_left e = each_none
+found-alone {kept} {i = i} clear (no_rule_there p more) e =
+    found-alone clear more (ap (drop 1) e ∙ drop-drop 1 i kept)
+found-alone {kept} {i = i} clear (a_rule {line} {lines} opens is more) e =
+    let there : Each IsClear (line ∷ lines) =
+    subst (λ (xs : List NumberedLine). Each IsClear xs) (sym e) (each-drop i clear) in
+    each_next (it-alone kept line lines opens e there is) (found-alone clear more (ap (drop 1) e ∙ drop-drop 1 i kept))
 
 found-placed : {name : List ℕ} {kept : List NumberedLine} {all : List Found} {g : RulesGathered}
     → GivesFound name kept all g → Each (IsReadAlone kept) all → Placed g
 found-placed none_found e = none_placed
-found-placed (next_piece x h) (each_next r e) = placed-both (piece-placed x r) (found-placed h e)
-found-placed (no_piece h) (each_next r e) = found-placed h e
+found-placed (next_rule spells h) (each_next r e) = next_placed r.own spells (found-placed h e)
+found-placed (no_rule h) (each_next r e) = found-placed h e
 
 text-placed : (text : NamedText) {g : RulesGathered} → GivesText text g → Placed g
-text-placed text x = found-placed x.gives (found-alone (kept-clear text.bytes x.keeps) x.are_found refl)
+text-placed text x =
+    found-placed x.gives (found-alone (kept-clear (behind_mark text.bytes) x.keeps) x.are_found refl)
 
 pub texts-placed : {texts : List NamedText} {g : RulesGathered} → GiveTexts texts g → ArePlaced g.places g.rules
 texts-placed no_texts = none_placed

@@ -1,6 +1,6 @@
 -- The text of a rule's own lines spells one definition.
 -- Serves: join_texts, joined_reading
-use Rattle.std.proofs.Common.{◌≡◌, ℕ, ◌==◌, ◌&&◌, Bool, true, false, Some, List, [], ◌∷◌, ◌++◌, drop, map, refl}
+use Rattle.std.proofs.Common.{◌≡◌, ℕ, ◌&&◌, Bool, true, false, Some, List, [], ◌∷◌, ◌++◌, drop, map, refl}
 use Rattle.std.proofs.Common.{sym, ap, ◌∙◌, arith, subst, append-nil, append_assoc, min}
 use Rattle.std.specs.Char.{is_ascii_alphabetic}
 use Rattle.abnfblocks.specs.TextLines.{NumberedLine}
@@ -10,7 +10,7 @@ use Rattle.abnfread.specs.CoreRules.{nowhere}
 use Rattle.abnfread.specs.Element.{Definition}
 use Rattle.abnfread.specs.MarkedTokens.{indented}
 use Rattle.abnfblocks.specs.RuleLines.{begins_letter, begins_by, behind_margin, behind_name, margin_of}
-use Rattle.abnfblocks.specs.TextBlocks.{begins_rule_at, block_text, cut_line, opens_block}
+use Rattle.abnfblocks.specs.RuleCuts.{cut_line, lines_text, opens_rule}
 use Rattle.abnftexts.specs.GivenRules.{RuleGiven}
 use Rattle.abnftexts.specs.LinkedTexts.{EndsLine, lf, behind_byte, SpellsAtMargin, moved_definition}
 use Rattle.abnftexts.specs.SpelledRules.{unplaced}
@@ -19,8 +19,8 @@ use Rattle.abnftexts.proofs.LinkedTextLemmas.{reads-spells}
 use Rattle.abnftexts.proofs.ClearLinesLemmas.{AreInside, IsClear}
 use Rattle.abnftexts.proofs.EachLemmas.{Each, each_next, each-drop}
 use Rattle.abnftexts.proofs.OneDefinitionLemmas.{text-one}
-use Rattle.abnftexts.proofs.OneRuleLemmas.{Later, block-later, indented-inner, inner-later}
-use Rattle.abnftexts.proofs.OwnLinesLemmas.{OwnLines, at-margin}
+use Rattle.abnftexts.proofs.OneRuleLemmas.{Later, indented-inner, inner-later, lines-later}
+use Rattle.abnftexts.proofs.OwnLinesLemmas.{OwnLines}
 
 pub line-behind : (front : List ℕ) {t : List ℕ} → EndsLine t → EndsLine (front ++ t)
 line-behind [] l = l
@@ -30,9 +30,9 @@ line-behind (b ∷ front) l = behind_byte (line-behind front l)
 pub record RuleText (m : ℕ) (lines : List NumberedLine) : Type 0 where
   pub first : ℕ
   pub tail : List ℕ
-  pub whole : block_text m lines ≡ first ∷ tail
+  pub whole : lines_text m lines ≡ first ∷ tail
   pub letter : is_ascii_alphabetic first ≡ true
-  pub line : EndsLine (block_text m lines)
+  pub line : EndsLine (lines_text m lines)
   pub later : Later (indented (Some 0) first) tail
 
 record LetterFirst (t : List ℕ) : Type 0 where
@@ -55,7 +55,7 @@ each-first (each_next p h) = p
 each-rest : {X : Type 0} {P : X → Type 0} {x : X} {xs : List X} → Each P (x ∷ xs) → Each P xs
 each-rest (each_next p h) = h
 
-pub lines-end : (m : ℕ) (line : NumberedLine) (lines : List NumberedLine) → EndsLine (block_text m (line ∷ lines))
+pub lines-end : (m : ℕ) (line : NumberedLine) (lines : List NumberedLine) → EndsLine (lines_text m (line ∷ lines))
 lines-end m line [] =
     let e = append-nil (cut_line m line) in
     rw e (line-behind (drop (min m (margin_of line.bytes)) line.bytes) lf)
@@ -65,37 +65,31 @@ first-true : (x y : Bool) → (x && y) ≡ true → x ≡ true
 first-true true y e = refl
 first-true false y e = cc
 
-second-true : (x y : Bool) → (x && y) ≡ true → y ≡ true
-second-true true y e = e
-second-true false y e = cc
-
 min-same : (m : ℕ) → min m m ≡ m
 min-same m = omega arith
 
-own-line : {m : ℕ} {lines : List NumberedLine} (own : OwnLines m lines) → EndsLine (block_text m lines)
-own-line {m} own = subst EndsLine (sym (ap (block_text m) own.whole)) (lines-end m own.line own.others)
+own-line : {m : ℕ} {lines : List NumberedLine} (own : OwnLines m lines) → EndsLine (lines_text m lines)
+own-line {m} own = subst EndsLine (sym (ap (lines_text m) own.whole)) (lines-end m own.line own.others)
 
 -- the text of lines of which the first begins a rule
-pub record LetterText (m : ℕ) (line : NumberedLine) (lines : List NumberedLine) : Type 0 where
-  pub first : ℕ
-  pub tail : List ℕ
-  pub whole : block_text m (line ∷ lines) ≡ first ∷ (tail ++ 10 ∷ block_text m lines)
-  pub is_line : behind_margin line.bytes ≡ first ∷ tail
-  pub letter : is_ascii_alphabetic first ≡ true
+record LetterText (m : ℕ) (line : NumberedLine) (lines : List NumberedLine) : Type 0 where
+  first : ℕ
+  tail : List ℕ
+  whole : lines_text m (line ∷ lines) ≡ first ∷ (tail ++ 10 ∷ lines_text m lines)
+  is_line : behind_margin line.bytes ≡ first ∷ tail
+  letter : is_ascii_alphabetic first ≡ true
 
-pub letter-text : {m : ℕ} (line : NumberedLine) (lines : List NumberedLine) → begins_rule_at m line ≡ true
-    → LetterText m line lines
-letter-text {m} line lines begins =
+letter-text : {m : ℕ} (line : NumberedLine) (lines : List NumberedLine) → margin_of line.bytes ≡ m
+    → opens_rule line ≡ true → LetterText m line lines
+letter-text {m} line lines margin opens =
     let bytes = line.bytes in
-    let margin = at-margin line begins in
-    let opens : opens_block line ≡ true = second-true (margin_of bytes == m) (opens_block line) begins in
     let letter : begins_letter (behind_margin bytes) ≡ true = first-true (begins_letter (behind_margin bytes))
     (begins_by 61 (behind_margin (behind_name (behind_margin bytes)))) opens in
     let cut : min m (margin_of bytes) ≡ margin_of bytes =
     ap (λ (k : ℕ). min k (margin_of bytes)) (sym margin) ∙ min-same (margin_of bytes) in
-    let others = block_text m lines in
+    let others = lines_text m lines in
     let x = letter-first (behind_margin bytes) letter in
-    let text : block_text m (line ∷ lines) ≡ behind_margin bytes ++ 10 ∷ others =
+    let text : lines_text m (line ∷ lines) ≡ behind_margin bytes ++ 10 ∷ others =
     ap (λ (k : ℕ). (drop k bytes ++ 10 ∷ []) ++ others) cut ∙ append_assoc (behind_margin bytes) (10 ∷ []) others in
     record {
       first = x.first;
@@ -107,7 +101,7 @@ letter-text {m} line lines begins =
 
 pub rule-text : {m : ℕ} {lines : List NumberedLine} → OwnLines m lines → RuleText m lines
 rule-text {m} {lines} own =
-    let x = letter-text own.line own.others own.opens in
+    let x = letter-text own.line own.others own.margin_is own.opens in
     let clear : Each IsClear (own.line ∷ own.others) = subst (Each IsClear) own.whole own.clear in
     let first_clear = each-first clear in
     let bytes = own.line.bytes in
@@ -115,11 +109,11 @@ rule-text {m} {lines} own =
     subst AreInside x.is_line (each-drop (margin_of bytes) first_clear.inside) in
     record {
       first = x.first;
-      tail = x.tail ++ 10 ∷ block_text m own.others;
-      whole = ap (block_text m) own.whole ∙ x.whole;
+      tail = x.tail ++ 10 ∷ lines_text m own.others;
+      whole = ap (lines_text m) own.whole ∙ x.whole;
       letter = x.letter;
       line = own-line own;
-      later = letter-later inside (block-later m (each-rest clear) own.goes own.begins_none);
+      later = letter-later inside (lines-later m (each-rest clear) own.goes);
     }
 
 -- a text that begins so and reads is not indented
@@ -128,7 +122,7 @@ pub text-spells : {t u : List ℕ} {c : ℕ} {ds : List Definition} → t ≡ c 
 text-spells e letter h = rw e (reads-spells letter (rw e at h))
 
 pub rule-one : {m : ℕ} {lines : List NumberedLine} {ds : List Definition} → OwnLines m lines
-    → SpellsAtMargin (block_text m lines) ds → (d : Definition) × (ds ≡ d ∷ [])
+    → SpellsAtMargin (lines_text m lines) ds → (d : Definition) × (ds ≡ d ∷ [])
 rule-one {ds = ds} own h =
     let t = rule-text own in
     let k : SpellsAtMargin (t.first ∷ t.tail) ds = subst (λ (x : List ℕ). SpellsAtMargin x ds) t.whole h in

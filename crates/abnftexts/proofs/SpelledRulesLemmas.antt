@@ -2,7 +2,7 @@
 -- Serves: joined_reading
 use Rattle.std.proofs.Common.{◌≡◌, ◌≢◌, ℕ, zero, suc, ◌+◌, ◌/◌, ◌%◌, ◌≤◌, ◌==◌, ◌||◌, nat_lt, Bool, true, false, cond}
 use Rattle.std.proofs.Common.{Option, Some, None, List, [], ◌∷◌, ◌++◌, length, map, refl, sym, ap, ◌∙◌, arith, inl, inr}
-use Rattle.std.proofs.Common.{subst, append-nil, decimal}
+use Rattle.std.proofs.Common.{subst, append-nil, decimal, replicate}
 use Rattle.std.proofs.lemmas.Bool.{cases_Bool}
 use Rattle.std.proofs.lemmas.Bool.Decides.{nat_tests}
 use Rattle.std.proofs.lemmas.List.{map-append}
@@ -16,12 +16,12 @@ use Rattle.abnfread.specs.AbnfReading.{IsFaultOf, Reads}
 use Rattle.abnfread.specs.AbnfSlices.{Run, none, more, White, blank, comment, is_inside}
 use Rattle.abnfread.specs.Element.{Definition}
 use Rattle.abnfread.proofs.AbnfFaultLemmas.{long-fault, no-fault, one-reading}
-use Rattle.abnfblocks.specs.TextBlocks.{block_text}
+use Rattle.abnfblocks.specs.RuleCuts.{lines_text}
 use Rattle.abnftexts.specs.GivenRules.{RuleGiven, fates_of}
 use Rattle.abnftexts.specs.JoinedRules.{joined_order}
-use Rattle.abnftexts.specs.JoinedGrammar.{AreTextsJoined, GrammarJoined, comment_before, first_number, goes_behind_it}
-use Rattle.abnftexts.specs.JoinedGrammar.{printed_behind, rule_printed, standing_rules}
-use Rattle.abnftexts.specs.LinkedTexts.{EndsLine, lf, SpellsAtMargin, moved_definition}
+use Rattle.abnftexts.specs.JoinedGrammar.{AreTextsJoined, GrammarJoined, comment_before, first_number, gap_before}
+use Rattle.abnftexts.specs.JoinedGrammar.{goes_behind_it, printed_behind, rule_printed, standing_rules}
+use Rattle.abnftexts.specs.LinkedTexts.{EndsLine, lf, behind_byte, SpellsAtMargin, moved_definition}
 use Rattle.abnftexts.specs.RulesGathered.{NamedText, RuleLines}
 use Rattle.abnftexts.specs.SpelledRules.{AreSpelled, no_rules, next_rule, joined_places, joined_rules, unplaced}
 use Rattle.abnftexts.specs.TextPlaces.{place_shown}
@@ -98,28 +98,45 @@ pub record SpellsLike (text : List ℕ) (alone : List Definition) : Type 0 where
 comment-white : (bytes : List ℕ) → AreInside bytes → White (59 ∷ (bytes ++ 10 ∷ [])) []
 comment-white bytes h = piece (comment (run-inside (10 ∷ []) h) refl) (piece (blank refl) no_more)
 
-behind-comment : (before : Option RuleLines) (place : RuleLines) {text : List ℕ} {ds : List Definition}
-    → SpellsAtMargin text ds → EndsLine text → SpellsLike (comment_before before place ++ text) ds
-behind-comment before place {text} {ds} h l = elim (cases_Bool (goes_behind_it before place)) [
-  | inl e ↦ rw e (record { definitions = ds; spells = h; same = refl; line = l })
-  | inr e ↦
-      let shown = 32 ∷ place_shown place.name (first_number place) in
-      let here : List ℕ = 59 ∷ (shown ++ 10 ∷ []) in
-      let white = comment-white shown (each_next refl (inside-place place.name (first_number place))) in
-      rw e (record {
-        definitions = map (moved_definition (length here)) ds;
-        spells = spells-behind (line-behind (59 ∷ shown) lf) white h;
-        same = moved-same (length here) ds;
-        line = line-behind here l;
-      })
+behind-comment : (place : RuleLines) {text : List ℕ} {ds : List Definition} → SpellsAtMargin text ds → EndsLine text
+    → SpellsLike (comment_before place ++ text) ds
+behind-comment place {text} {ds} h l =
+    let shown = 32 ∷ place_shown place.name (first_number place) in
+    let here : List ℕ = 59 ∷ (shown ++ 10 ∷ []) in
+    let white = comment-white shown (each_next refl (inside-place place.name (first_number place))) in
+    record {
+      definitions = map (moved_definition (length here)) ds;
+      spells = spells-behind (line-behind (59 ∷ shown) lf) white h;
+      same = moved-same (length here) ds;
+      line = line-behind here l;
+    }
+
+behind-empty : (n : ℕ) {text : List ℕ} {ds : List Definition} → SpellsAtMargin text ds → EndsLine text
+    → SpellsLike (replicate n 10 ++ text) ds
+behind-empty zero {ds = ds} h l = record { definitions = ds; spells = h; same = refl; line = l }
+behind-empty (suc n) {ds = ds} h l =
+    let rest = behind-empty n h l in
+    record {
+      definitions = map (moved_definition 1) rest.definitions;
+      spells = spells-behind lf (piece (blank refl) no_more) rest.spells;
+      same = moved-same 1 rest.definitions ∙ rest.same;
+      line = behind_byte rest.line;
+    }
+
+behind-gap : (before : Option RuleLines) (place : RuleLines) {text : List ℕ} {ds : List Definition}
+    → SpellsAtMargin text ds → EndsLine text → SpellsLike (gap_before before place ++ text) ds
+behind-gap None place h l = behind-comment place h l
+behind-gap (Some before) place h l = elim (cases_Bool (goes_behind_it before place)) [
+  | inl e ↦ rw e (behind-empty before.blanks h l)
+  | inr e ↦ rw e (behind-comment place h l)
 ]
 
 row-spells : (before : Option RuleLines) (place : RuleLines) {ds : List Definition}
-    → OwnLines place.margin place.lines → Reads (block_text place.margin place.lines) ds
+    → OwnLines place.margin place.lines → Reads (lines_text place.margin place.lines) ds
     → SpellsLike (rule_printed before place) ds
 row-spells before place own h =
     let t = rule-text own in
-    behind-comment before place (text-spells t.whole t.letter h) t.line
+    behind-gap before place (text-spells t.whole t.letter h) t.line
 
 linked-like : {a b : List ℕ} {first second : List Definition} → SpellsLike a first → SpellsLike b second
     → SpellsLike (a ++ b) (first ++ second)

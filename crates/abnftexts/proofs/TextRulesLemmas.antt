@@ -16,27 +16,17 @@ use Rattle.abnfread.specs.Element.{Definition}
 use Rattle.abnftexts.specs.GivenRules.{RuleGiven}
 use Rattle.abnfblocks.specs.Furniture.{KeepsLines}
 use Rattle.abnfblocks.specs.TextLines.{NumberedLine}
-use Rattle.abnfblocks.specs.FoundBlocks.{AreFound}
-use Rattle.abnfblocks.specs.TextBlocks.{block_text, margin_at, rule_lines}
+use Rattle.abnfblocks.specs.FoundRules.{AreFound}
+use Rattle.abnfblocks.specs.RuleCuts.{lines_text}
 use Rattle.abnfblocks.specs.declared.found.Found.{Found}
-use Rattle.abnftexts.specs.RulesGathered.{NamedText, RuleLines, RulesGathered, both_given, told_alone}
+use Rattle.abnftexts.specs.RulesGathered.{NamedText, RuleLines, RulesGathered, both_given, one_rule, told_alone}
 use Rattle.abnftexts.specs.TextPlaces.{not_abnf_told}
-use Rattle.abnftexts.specs.TextRules.{AreRuleLines, GivesFound, GivesPiece, GivesText, GiveTexts, given_by, next_piece}
-use Rattle.abnftexts.specs.TextRules.{next_rule, next_text, no_lines, no_piece, no_texts, none_found}
+use Rattle.abnftexts.specs.TextRules.{GivesFound, GivesText, GiveTexts, given_by, next_rule, next_text, no_rule}
+use Rattle.abnftexts.specs.TextRules.{no_texts, none_found, place_in}
 use Rattle.abnftexts.specs.UsedNames.{AreRuleUses, AreNameUses, UsedName, next_uses, no_rules, used_at}
 
 both-same : (a b c d : RulesGathered) → a ≡ b → c ≡ d → both_given a c ≡ both_given b d
 both-same a b c d e f = rw (e, f) refl
-
-abbrev gathered_with : List RuleLines → List RuleGiven → List ℕ → RulesGathered
-gathered_with places rules told = record { places = places; rules = rules; told = told }
-
-all-fields : (p q : List RuleLines) (r s : List RuleGiven) (t u : List ℕ) → p ≡ q → r ≡ s → t ≡ u
-    → gathered_with p r t ≡ gathered_with q s u
-all-fields p q r s t u e f g = rw (e, f, g) refl
-
-all-same : (a b : RulesGathered) → a.places ≡ b.places → a.rules ≡ b.rules → a.told ≡ b.told → a ≡ b
-all-same a b e f g = all-fields a.places b.places a.rules b.rules a.told b.told e f g
 
 -- what is known of readings, of lines that are kept, of what is found, and of tokens
 pub record OneReading : Type 0 where
@@ -51,30 +41,18 @@ pub record OneReading : Type 0 where
 
 module _ (one : OneReading) where
   module _ (name : List ℕ) where
-    lines-same : {margin : ℕ} {lines : List NumberedLine} {a b : List RuleLines} → AreRuleLines name margin lines a
-        → AreRuleLines name margin lines b → a ≡ b
-    lines-same no_lines no_lines = refl
-    lines-same {margin} (next_rule {line} {lines} h) (next_rule k) = ap (λ (places : List RuleLines). record {
-      name = name;
-      margin = margin;
-      lines = take (rule_lines (line ∷ lines)) (line ∷ lines);
-    } ∷ places) (lines-same h k)
-
-    piece-same : {lines : List NumberedLine} (a b : RulesGathered) → GivesPiece name lines a → GivesPiece name lines b
-        → a ≡ b
-    piece-same {lines} a b x y =
-        let same = one.definitions (block_text (margin_at lines) lines) x.definitions y.definitions x.reads y.reads in
-        let here = x.gives in
-        let there = y.gives in
-        all-same a b (lines-same here.places there.places)
-        (here.rules ∙ ap (map given_by) same ∙ sym there.rules) (here.none_told ∙ sym there.none_told)
-
     found-same : {kept : List NumberedLine} {all : List Found} {a b : RulesGathered} → GivesFound name kept all a
         → GivesFound name kept all b → a ≡ b
     found-same none_found none_found = refl
-    found-same (next_piece x h) (next_piece y k) = both-same _ _ _ _ (piece-same _ _ x y) (found-same h k)
-    found-same {kept} (no_piece {first} {fault} h) (no_piece k) =
-        ap (λ (x : RulesGathered). both_given (told_alone (not_abnf_told name (drop first kept) fault)) x)
+    found-same {kept} (next_rule {first} {count} {given = r} x h) (next_rule {given = s} y k) =
+        let all : x.definition ∷ [] ≡ y.definition ∷ [] =
+        one.definitions _ (x.definition ∷ []) (y.definition ∷ []) x.reads y.reads in
+        let same : x.definition ≡ y.definition = cc in
+        let rules : r ≡ s = x.is ∙ ap given_by same ∙ sym y.is in
+        both-same _ _ _ _ (ap (λ (g : RuleGiven). one_rule (place_in name (drop first kept) count) g) rules)
+        (found-same h k)
+    found-same {kept} (no_rule {first} {count} {fault} h) (no_rule k) =
+        ap (λ (x : RulesGathered). both_given (told_alone (not_abnf_told name (take count (drop first kept)) fault)) x)
         (found-same h k)
 
   text-same : (text : NamedText) (a b : RulesGathered) → GivesText text a → GivesText text b → a ≡ b
@@ -94,7 +72,7 @@ module _ (one : OneReading) where
 
   rule-uses : (place : RuleLines) (a b : List UsedName) → AreRuleUses place a → AreRuleUses place b → a ≡ b
   rule-uses place a b x y =
-      let text = block_text place.margin place.lines in
+      let text = lines_text place.margin place.lines in
       let signs : List (Tok AbnfKind) → List SignAt = λ ts. map (sign_at sign_of) ts in
       x.are
       ∙ ap (λ (ts : List (Tok AbnfKind)). flat_map (used_at place) (mentions_in Lf text None (signs ts)))

@@ -22,7 +22,7 @@ use Rattle.abnfread.specs.CoreRules.{core_names}
 use Rattle.abnfread.specs.Element.{Rule}
 use Rattle.abnfread.specs.declared.elem.Elem.{Elem}
 use Rattle.abnfexplain.specs.AbnfNoteLines.{AreAbnfPlaces}
-use Rattle.abnfblocks.specs.TextBlocks.{block_text}
+use Rattle.abnfblocks.specs.RuleCuts.{lines_text}
 use Rattle.diagnostics.specs.NumberLists.{numbers_for}
 use Rattle.abnftexts.specs.GivenRules.{RuleGiven, text_rule}
 use Rattle.abnftexts.specs.JoinedGrammar.{ordered_rules}
@@ -190,11 +190,11 @@ known-more rules uses n x old new lt e known more =
 
 -- the uses of a rule
 pub uses-added : (place : RuleLines) (text : List ℕ) (places : Places) (mentions : List MentionedAt)
-    (old new : List UsedName) → AreAbnfPlaces text places → text ≡ block_text place.margin place.lines
+    (old new : List UsedName) → AreAbnfPlaces text places → text ≡ lines_text place.margin place.lines
     → mentions ≡ map mentioned_at places.mentions.items
     → new ≡ old ++ flat_map (used_at place) mentions → AddsUses place old new
 uses-added place text places mentions old new are same all more =
-    let here : AreAbnfPlaces (block_text place.margin place.lines) places =
+    let here : AreAbnfPlaces (lines_text place.margin place.lines) places =
     subst (λ (t : List ℕ). AreAbnfPlaces t places) same are in (
       flat_map (used_at place) mentions,
       record {

@@ -1,5 +1,5 @@
 -- What a run states that joins texts.
-use Rattle.std.specs.Prelude.{◌≡◌, ◌≢◌, ℕ, ◌==◌, Bool, List, [], length, if◌then◌else◌}
+use Rattle.std.specs.Prelude.{◌≡◌, ◌≢◌, ℕ, ◌==◌, ◌||◌, Bool, List, [], length, if◌then◌else◌}
 use Rattle.ruletable.specs.declared.fault.ReadFault.{ReadFault}
 use Rattle.ruletable.specs.declared.fault.ReadFault.TheVariants as faults
 use Rattle.abnfread.specs.AbnfReading.{Reads, IsFaultOf}
@@ -36,9 +36,9 @@ pub data IsWrittenAs (j : GrammarJoined) : JoinForm → List ℕ → Type 0 wher
 abbrev pub grammar_form : Bool → JoinForm
 grammar_form is_canonical = if is_canonical then Canonical else Plain
 
--- Two definitions of a name are rejected, and without a rule there is no grammar.
+-- A rule that is no ABNF, two definitions of a name, and that there is no rule count alike.
 abbrev pub joined_status : GrammarJoined → Status
-joined_status j = if j.clashes then status.Refused else if length j.grammar == 0 then status.NoMatch else status.Done
+joined_status j = if j.is_faulty || (length j.grammar == 0) then status.NoMatch else status.Done
 
 abbrev pub text_written : List ℕ → Status → Reply
 text_written text status = record { out = text; err = []; status = code_of status; taken = 0 }

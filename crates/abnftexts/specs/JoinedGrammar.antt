@@ -1,8 +1,9 @@
 -- The grammar that texts make up, joined, and what is reported of it.
-use Rattle.std.specs.Prelude.{◌≡◌, ℕ, ◌-◌, ◌==◌, ◌&&◌, bytes_eq, nat_lt, Bool, true, false, List, [], ◌∷◌, ◌++◌}
-use Rattle.std.specs.Prelude.{length, map, Option, None, Some, codes, slice_get, if◌then◌else◌}
+use Prim.Native.Char.{code}
+use Rattle.std.specs.Prelude.{◌≡◌, ℕ, ◌+◌, ◌==◌, ◌&&◌, ◌||◌, bytes_eq, nat_lt, Bool, true, false, List, [], ◌∷◌}
+use Rattle.std.specs.Prelude.{◌++◌, length, map, replicate, Option, None, Some, codes, slice_get, if◌then◌else◌}
 use Rattle.std.specs.List.{enumerate_from, filter_map, flat_map, zip}
-use Rattle.abnfblocks.specs.TextBlocks.{block_text}
+use Rattle.abnfblocks.specs.RuleCuts.{lines_text}
 use Rattle.abnftexts.specs.GivenRules.{RuleGiven, fates_of}
 use Rattle.abnftexts.specs.JoinedRules.{clashes_of, joined_order}
 use Rattle.abnftexts.specs.declared.join.fate.Fate.{Fate}
@@ -31,20 +32,24 @@ first_number place = number_at place.lines 1
 abbrev pub last_number : RuleLines → ℕ
 last_number place = number_at place.lines (length place.lines)
 
--- the rule follows the one before it in its text
-abbrev pub goes_behind_it : Option RuleLines → RuleLines → Bool
-goes_behind_it None place = false
-goes_behind_it (Some before) place = bytes_eq before.name place.name
-    && (last_number before == first_number place - 1)
+-- only blank lines stand between a rule and the one before it in its text
+abbrev pub goes_behind_it : RuleLines → RuleLines → Bool
+goes_behind_it before place = bytes_eq before.name place.name
+    && (last_number before + before.blanks + 1 == first_number place)
 
--- a comment that names the position, unless the rule goes on with what stands before it
-abbrev pub comment_before : Option RuleLines → RuleLines → List ℕ
-comment_before before place = if goes_behind_it before place then [] else
-    codes "; " ++ (place_shown place.name (first_number place) ++ codes "\n")
+-- a comment that names the position of a rule
+abbrev pub comment_before : RuleLines → List ℕ
+comment_before place = codes "; " ++ (place_shown place.name (first_number place) ++ codes "\n")
+
+-- what stands before a rule: the comment, or as many empty lines as blank ones stand between it and the rule before it
+abbrev pub gap_before : Option RuleLines → RuleLines → List ℕ
+gap_before None place = comment_before place
+gap_before (Some before) place =
+    if goes_behind_it before place then replicate before.blanks (code "\n") else comment_before place
 
 -- the rule as it is printed: its lines without the margin
 abbrev pub rule_printed : Option RuleLines → RuleLines → List ℕ
-rule_printed before place = comment_before before place ++ block_text place.margin place.lines
+rule_printed before place = gap_before before place ++ lines_text place.margin place.lines
 
 -- the rules with these numbers, in their order
 abbrev pub ordered_rules : List RuleLines → List ℕ → List RuleLines
@@ -95,20 +100,22 @@ abbrev pub none_told : List RuleGiven → List ℕ
 none_told [] = codes "no rules found\n"
 none_told (rule ∷ rules) = []
 
--- the grammar, the reports, a line for each rule that is given, and whether a name has two definitions
+-- the grammar, the reports, a line for each rule that is given, and whether a rule is no ABNF or a name has two
+-- definitions
 pub record GrammarJoined : Type 0 where
   pub grammar : List ℕ
   pub told : List ℕ
   pub listed : List ℕ
-  pub clashes : Bool
+  pub is_faulty : Bool
 
--- of the rules that stand, where these are their lines, and these the names that they use
+-- of the rules that stand, where these are their lines, the names that they use, the reports of lines that are no ABNF,
+-- and the list
 abbrev pub joined_of : List RuleLines → List RuleGiven → List UsedName → List ℕ → List ℕ → GrammarJoined
 joined_of places rules uses told listed = record {
   grammar = printed_behind None (ordered_rules places (joined_order rules));
   told = told ++ flat_map (clash_told places rules) (clashes_of rules) ++ undefined_told rules uses ++ none_told rules;
   listed = listed;
-  clashes = nat_lt 0 (length (clashes_of rules));
+  is_faulty = nat_lt 0 (length told) || nat_lt 0 (length (clashes_of rules));
 }
 
 -- the rules that stand of what was gathered

@@ -12,7 +12,7 @@ grammar_joined joined = record {
   grammar = joined.grammar.items;
   told = joined.told.items;
   listed = joined.listed.items;
-  clashes = joined.clashes;
+  is_faulty = joined.is_faulty;
 }
 
 -- it is that of these rules, which stand; and that of what was gathered

@@ -11,11 +11,13 @@ pub record NamedText : Type 0 where
   pub name : List ℕ
   pub bytes : List ℕ
 
--- where a rule stands: the name of its text, its lines, and the margin that is cut from them
+-- where a rule stands: the name of its text, its lines, the margin that is cut from them, and how many blank lines
+-- follow them
 pub record RuleLines : Type 0 where
   pub name : List ℕ
   pub margin : ℕ
   pub lines : List NumberedLine
+  pub blanks : ℕ
 
 -- the rules of texts in order, the lines of each, and the reports on the error output
 pub record RulesGathered : Type 0 where
@@ -28,7 +30,12 @@ abbrev pub named_text : SourceText → NamedText
 named_text text = record { name = text.name.now; bytes = text.bytes.now }
 
 abbrev pub lines_placed : RulePlace → RuleLines
-lines_placed place = record { name = place.name.now; margin = place.margin; lines = map numbered place.lines.items }
+lines_placed place = record {
+  name = place.name.now;
+  margin = place.margin;
+  lines = map numbered place.lines.items;
+  blanks = place.blanks;
+}
 
 abbrev pub rules_gathered : Gathered → RulesGathered
 rules_gathered gathered = record {

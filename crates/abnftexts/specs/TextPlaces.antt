@@ -24,7 +24,7 @@ fault_in lines TooLong = TooLong
 fault_in lines Memory = Memory
 fault_in lines (NumberTooLarge line) = NumberTooLarge (number_at lines line)
 
--- the report of a line that looks like a rule and is none, where these lines begin with it and have that fault
+-- the report of a rule that is no ABNF, where it has these lines and they have that fault
 abbrev pub not_abnf_told : List ℕ → List NumberedLine → ReadFault → List ℕ
 not_abnf_told name lines fault = place_shown name (number_at lines 1) ++ (codes ": not ABNF: "
     ++ fault_text (fault_in lines fault))

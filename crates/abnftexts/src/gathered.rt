@@ -10,12 +10,13 @@ pub struct SourceText<'a> {
     pub bytes: &'a [u8],
 }
 
-/// Where a rule stands: the name of its text, the margin that is cut, and its lines.
+/// Where a rule stands: the name of its text, the margin that is cut, its lines, and how many blank lines follow them.
 #[derive(Drop)]
 pub(crate) struct RulePlace<'a> {
     pub(crate) name: &'a [u8],
     pub(crate) margin: usize,
     pub(crate) lines: Vec<TextLine<'a>>,
+    pub(crate) blanks: usize,
 }
 
 /// The rules of texts in order, the lines of each, and the reports on the error output.

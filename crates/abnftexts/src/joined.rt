@@ -25,8 +25,8 @@ pub struct JoinedTexts {
     pub told: Vec<u8>,
     /// A line for each rule that the texts give, with what becomes of it.
     pub listed: Vec<u8>,
-    /// Whether a name has two definitions.
-    pub clashes: bool,
+    /// Whether a rule is no ABNF, or a name has two definitions.
+    pub is_faulty: bool,
 }
 
 // Joins rules that stand, where these are their lines.
@@ -40,6 +40,7 @@ fn join_standing(
     ensures { IfOk result (λ joined. IsStandingJoined (map lines_placed places.now) (map text_rule rules.now)
         told.items listed.items (grammar_joined joined)) }
 {
+    let is_abnf = told.is_empty();
     let mut told = told;
     let order = find_order(alloc, rules)?;
     let grammar = printed_text(alloc, places, &order)?;
@@ -52,7 +53,7 @@ fn join_standing(
         grammar,
         told,
         listed,
-        clashes: !clashes.is_empty(),
+        is_faulty: !is_abnf || !clashes.is_empty(),
     })
 }
 
@@ -74,12 +75,13 @@ fn join_gathered(alloc: Global, gathered: Gathered<'_>) -> Result<JoinedTexts, M
 
 /// Returns the grammar that texts make up, one after another, and the reports on them.
 ///
-/// The rules of a piece of ABNF are the definitions that it reads as. A rule that is the same as one before it is left
-/// out, and so is one of prose alone where a definition of that name has elements. What adds to a name follows its
-/// definition. The rules are printed as their texts have them, without the margin. A comment names the position where
-/// lines begin that stand together: `; NAME:LINE`.
+/// The rules are those that `find_rules` finds, each read alone. A byte order mark in front of a text is skipped. A
+/// rule that is the same as one before it is left out, and so is one of prose alone where a definition of that name
+/// has elements. What adds to a name follows its definition. The rules are printed as their texts have them, without
+/// the margin. Where only blank lines stand between a rule and the one printed before it, as many empty lines stand
+/// there. A comment names the position of each other rule: `; NAME:LINE`.
 ///
-/// The reports name each line that looks like a rule and is none, and two different definitions of a name, which both
+/// The reports name each line that begins a rule and is no ABNF, and two different definitions of a name, which both
 /// stand. They name the first use of each name that neither a rule nor a core rule (RFC 5234, appendix B.1) has. They
 /// say if there is no rule.
 ///

@@ -4,7 +4,7 @@ ghost use Rattle.abnfread.specs.AbnfReading.{Reads};
 ghost use Rattle.abnfread.specs.AbnfViews.{definition_from};
 ghost use Rattle.abnfread.specs.Element.{Definition as Read};
 ghost use Rattle.abnftexts.specs.GivenRules.{text_rule};
-ghost use Rattle.abnfblocks.specs.TextBlocks.{block_text};
+ghost use Rattle.abnfblocks.specs.RuleCuts.{lines_text};
 ghost use Rattle.abnfblocks.specs.TextLines.{numbered};
 ghost use Rattle.abnftexts.specs.TextRules.{given_by};
 
@@ -33,7 +33,7 @@ pub(crate) fn own_rule(
     margin_size: usize,
     lines: &[TextLine<'_>],
 ) -> Result<GivenRule, Memory>
-    ensures { (d : Read) → Reads (block_text margin_size (map numbered lines.now)) (d ∷ [])
+    ensures { (d : Read) → Reads (lines_text margin_size (map numbered lines.now)) (d ∷ [])
         → IfOk result (λ rule. text_rule rule ≡ given_by d) }
 {
     let text = joined_text(alloc, margin_size, lines)?;

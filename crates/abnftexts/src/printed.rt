@@ -1,8 +1,9 @@
 //! The grammar as it is printed, and the reports on it.
-ghost use Rattle.std.specs.Prelude.{◌≡◌, ◌++◌, None, map, option_map, IfOk, OnOk};
+ghost use Rattle.std.specs.Prelude.{◌≡◌, ◌++◌, None, Some, map, option_map, replicate, IfOk, OnOk};
 ghost use Rattle.std.specs.List.{flat_map};
 ghost use Rattle.abnftexts.specs.GivenRules.{text_rule};
-ghost use Rattle.abnftexts.specs.JoinedGrammar.{clash_told, comment_before, first_number as first_in, goes_behind_it};
+ghost use Rattle.abnftexts.specs.JoinedGrammar.{clash_told, comment_before, first_number as first_in, gap_before};
+ghost use Rattle.abnftexts.specs.JoinedGrammar.{goes_behind_it};
 ghost use Rattle.abnftexts.specs.JoinedGrammar.{last_number as last_in, none_told, numbered_name, numbered_place};
 ghost use Rattle.abnftexts.specs.JoinedGrammar.{ordered_rules, printed_behind, rule_printed};
 ghost use Rattle.abnftexts.specs.RulesGathered.{lines_placed};
@@ -28,34 +29,61 @@ fn last_number(place: &RulePlace<'_>) -> usize
     number_at(&place.lines, place.lines.len())
 }
 
-// Returns whether the rule follows the one before it in its text.
-fn goes_behind(before: Option<&RulePlace<'_>>, place: &RulePlace<'_>) -> bool
-    ensures { result ≡ goes_behind_it (option_map (λ p. lines_placed p.now) before.entry) (lines_placed place.now) }
+// Returns whether only blank lines stand between a rule and the one before it in its text.
+fn goes_behind(before: &RulePlace<'_>, place: &RulePlace<'_>) -> bool
+    ensures { result ≡ goes_behind_it (lines_placed before.now) (lines_placed place.now) }
 {
-    match before {
-        Some(before) => {
-            before.name == place.name
-                && last_number(before) == first_number(place).saturating_sub(1)
-        }
-        None => false,
-    }
+    let last = last_number(before);
+    let first = first_number(place);
+    before.name == place.name && last < first && first - last - 1 == before.blanks
 }
 
-// Adds a comment that names the position, unless the rule goes on with what stands before it.
-fn push_comment(
+// Adds a comment that names the position of a rule.
+fn push_comment(out: &mut Vec<u8>, place: &RulePlace<'_>) -> Result<(), Memory>
+    ensures { OnOk result (out.new.items ≡ out.old.items ++ comment_before (lines_placed place.now)) }
+{
+    out.extend_from_slice(b"; ")?;
+    push_place(out, place.name, first_number(place))?;
+    out.extend_from_slice(b"\n")?;
+    Ok(())
+}
+
+// Adds so many empty lines.
+fn push_empty(out: &mut Vec<u8>, count: usize) -> Result<(), Memory>
+    ensures { OnOk result (out.new.items ≡ out.old.items ++ replicate count 10) }
+{
+    let mut left = count;
+    while left > 0 {
+        out.push(b'\n')?;
+        left -= 1;
+    }
+    Ok(())
+}
+
+// Adds what stands between a rule and the one that is printed before it.
+fn push_gap(out: &mut Vec<u8>, before: &RulePlace<'_>, place: &RulePlace<'_>) -> Result<(), Memory>
+    ensures { OnOk result (out.new.items
+        ≡ out.old.items ++ gap_before (Some (lines_placed before.now)) (lines_placed place.now)) }
+{
+    if goes_behind(before, place) {
+        return push_empty(out, before.blanks);
+    }
+    push_comment(out, place)
+}
+
+// Adds what stands before a rule.
+fn push_start(
     out: &mut Vec<u8>,
     before: Option<&RulePlace<'_>>,
     place: &RulePlace<'_>,
 ) -> Result<(), Memory>
     ensures { OnOk result (out.new.items ≡ out.old.items
-        ++ comment_before (option_map (λ p. lines_placed p.now) before.entry) (lines_placed place.now)) }
+        ++ gap_before (option_map (λ p. lines_placed p.now) before.entry) (lines_placed place.now)) }
 {
-    if !goes_behind(before, place) {
-        out.extend_from_slice(b"; ")?;
-        push_place(out, place.name, first_number(place))?;
-        out.extend_from_slice(b"\n")?;
+    match before {
+        Some(before) => push_gap(out, before, place),
+        None => push_comment(out, place),
     }
-    Ok(())
 }
 
 // Adds a rule as it is printed.
@@ -68,7 +96,7 @@ fn push_printed(
     ensures { OnOk result (out.new.items ≡ out.old.items
         ++ rule_printed (option_map (λ p. lines_placed p.now) before.entry) (lines_placed place.now)) }
 {
-    push_comment(out, before, place)?;
+    push_start(out, before, place)?;
     let text = joined_text(alloc, place.margin, &place.lines)?;
     out.extend_from_slice(&text)?;
     Ok(())

@@ -34,10 +34,7 @@ pub enum JoinForm {
 fn status_of(joined: &JoinedTexts) -> Status
     ensures { result ≡ joined_status (grammar_joined joined.now) }
 {
-    if joined.clashes {
-        return Status::Refused;
-    }
-    if joined.grammar.is_empty() {
+    if joined.is_faulty || joined.grammar.is_empty() {
         Status::NoMatch
     } else {
         Status::Done
@@ -164,10 +161,10 @@ fn write_joined<O: Sink>(
 /// may have failed before.
 ///
 /// - The reports of `join_texts` are written on `err` first.
-/// - The grammar is read by `read_abnf`, and written if it reads: `Done`; or where a name has two definitions,
-///   `Refused`. A grammar of more than `MAX_GRAMMAR` bytes is reported, `Refused`, and not written.
+/// - The grammar is read by `read_abnf`, and written if it reads: `Done`; or where a rule is no ABNF, or a name has two
+///   definitions, `NoMatch`. A grammar of more than `MAX_GRAMMAR` bytes is reported, `Refused`, and not written.
 /// - Where no text gives a rule nothing is written, `NoMatch`.
-/// - A list of rules is written as it is, with the same status.
+/// - A list of rules is written as it is, with the status of a grammar that is written.
 /// - Where a writer fails, nothing more is written to it, and the status is at least `Fault`. Writers that have not
 ///   failed are flushed once at the end, `out` first.
 /// - If an allocation fails: `out of memory`, `NoMemory`.

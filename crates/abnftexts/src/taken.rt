@@ -1,17 +1,17 @@
 //! The rules that texts give.
 ghost use Rattle.std.specs.Prelude.{◌≡◌, take, drop, map, IfOk, OnOk};
-ghost use Rattle.abnfblocks.specs.TextBlocks.{margin_at};
+ghost use Rattle.abnfblocks.specs.RuleCuts.{margin_at};
 ghost use Rattle.abnftexts.specs.GivenRules.{text_rule};
 ghost use Rattle.abnfblocks.specs.TextLines.{numbered};
 ghost use Rattle.abnftexts.specs.RulesGathered.{both_given, lines_placed, named_text, one_rule, rules_gathered};
-ghost use Rattle.abnftexts.specs.TakenRules.{TakesFound, TakesMore, TakesRule, TakesRules};
-ghost use Rattle.abnftexts.specs.TextRules.{GivesText, GiveTexts};
+ghost use Rattle.abnftexts.specs.TakenRules.{TakesFound, TakesMore, TakesRule};
+ghost use Rattle.abnftexts.specs.TextRules.{GivesText, GiveTexts, place_in};
 
 use crate::gathered::{Gathered, RulePlace, SourceText};
 use crate::join::GivenRule;
 use crate::own::own_rule;
 use crate::told::push_not_abnf;
-use abnfblocks::{Found, TextLine, find_blocks, kept_lines, margin, rule_size};
+use abnfblocks::{Found, TextLine, blank_count, find_rules, kept_lines, margin, without_mark};
 use ruletable::Memory;
 use std::alloc::Global;
 
@@ -29,41 +29,6 @@ fn push_rule<'a>(
     Ok(())
 }
 
-// Where a rule with these lines stands.
-fn place_of<'a>(
-    alloc: Global,
-    name: &'a [u8],
-    margin_size: usize,
-    lines: &[TextLine<'a>],
-) -> Result<RulePlace<'a>, Memory>
-    ensures { IfOk result (λ place. lines_placed place
-        ≡ record { name = name.now; margin = margin_size; lines = map numbered lines.now }) }
-{
-    let lines = Vec::from_slice(alloc, lines)?;
-    Ok(RulePlace {
-        name,
-        margin: margin_size,
-        lines,
-    })
-}
-
-// Takes the rule that the lines alone spell.
-fn take_rule<'a>(
-    alloc: Global,
-    gathered: &mut Gathered<'a>,
-    name: &'a [u8],
-    margin_size: usize,
-    lines: &[TextLine<'a>],
-) -> Result<(), Memory>
-    ensures { OnOk result (TakesRule name.now margin_size (map numbered lines.now)
-        (rules_gathered gathered.old) (rules_gathered gathered.new)) }
-{
-    let rule = own_rule(alloc, margin_size, lines)?;
-    let place = place_of(alloc, name, margin_size, lines)?;
-    push_rule(gathered, place, rule)?;
-    Ok(())
-}
-
 // The margin of the first of these lines.
 fn margin_in(lines: &[TextLine<'_>]) -> usize
     ensures { result ≡ margin_at (map numbered lines.now) }
@@ -72,27 +37,6 @@ fn margin_in(lines: &[TextLine<'_>]) -> usize
         Some(line) => margin(line.bytes),
         None => 0,
     }
-}
-
-// Takes the lines of a piece, rule by rule.
-fn take_piece<'a>(
-    alloc: Global,
-    gathered: &mut Gathered<'a>,
-    name: &'a [u8],
-    lines: &[TextLine<'a>],
-) -> Result<(), Memory>
-    ensures { OnOk result (TakesRules name.now (margin_at (map numbered lines.now)) (map numbered lines.now)
-        (rules_gathered gathered.old) (rules_gathered gathered.new)) }
-{
-    let margin_size = margin_in(lines);
-    let mut at = 0;
-    while at < lines.len() {
-        let rest = lines_behind(lines, at);
-        let size = rule_size(rest);
-        take_rule(alloc, gathered, name, margin_size, lines_before(rest, size))?;
-        at += size;
-    }
-    Ok(())
 }
 
 // Returns the lines from that position on.
@@ -109,6 +53,42 @@ fn lines_before<'a, 'b>(lines: &'b [TextLine<'a>], count: usize) -> &'b [TextLin
     &lines[..count.min(lines.len())]
 }
 
+// Where the rule stands that has so many of these lines.
+fn place_of<'a>(
+    alloc: Global,
+    name: &'a [u8],
+    rest: &[TextLine<'a>],
+    count: usize,
+) -> Result<RulePlace<'a>, Memory>
+    ensures { IfOk result (λ place. lines_placed place ≡ place_in name.now (map numbered rest.now) count) }
+{
+    let own = lines_before(rest, count);
+    let lines = Vec::from_slice(alloc, own)?;
+    Ok(RulePlace {
+        name,
+        margin: margin_in(own),
+        lines,
+        blanks: blank_count(lines_behind(rest, count)),
+    })
+}
+
+// Takes the rule that so many of these lines alone spell.
+fn take_rule<'a>(
+    alloc: Global,
+    gathered: &mut Gathered<'a>,
+    name: &'a [u8],
+    rest: &[TextLine<'a>],
+    count: usize,
+) -> Result<(), Memory>
+    ensures { OnOk result (TakesRule name.now (map numbered rest.now) count
+        (rules_gathered gathered.old) (rules_gathered gathered.new)) }
+{
+    let place = place_of(alloc, name, rest, count)?;
+    let rule = own_rule(alloc, place.margin, &place.lines)?;
+    push_rule(gathered, place, rule)?;
+    Ok(())
+}
+
 // Takes what is found there among the lines that are kept of a text.
 fn take_found<'a>(
     alloc: Global,
@@ -122,12 +102,16 @@ fn take_found<'a>(
 {
     for it in found {
         match *it {
-            Found::Piece { first, count } => {
-                let lines = lines_before(lines_behind(kept, first), count);
-                take_piece(alloc, gathered, name, lines)?;
+            Found::Rule { first, count } => {
+                take_rule(alloc, gathered, name, lines_behind(kept, first), count)?;
             }
-            Found::NotAbnf { first, fault } => {
-                push_not_abnf(&mut gathered.told, name, lines_behind(kept, first), fault)?;
+            Found::NotAbnf {
+                first,
+                count,
+                fault,
+            } => {
+                let lines = lines_before(lines_behind(kept, first), count);
+                push_not_abnf(&mut gathered.told, name, lines, fault)?;
             }
         }
     }
@@ -143,8 +127,8 @@ fn take_text<'a>(
     ensures { OnOk result (TakesMore (GivesText (named_text text.entry))
         (rules_gathered gathered.old) (rules_gathered gathered.new)) }
 {
-    let kept = kept_lines(alloc, text.bytes)?;
-    let found = find_blocks(alloc, &kept)?;
+    let kept = kept_lines(alloc, without_mark(text.bytes))?;
+    let found = find_rules(alloc, &kept)?;
     take_found(alloc, gathered, text.name, &kept, &found)
 }
 

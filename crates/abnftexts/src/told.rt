@@ -78,7 +78,7 @@ fn push_fault(out: &mut Vec<u8>, fault: ReadFault) -> Result<(), Memory>
     }
 }
 
-/// Adds the report of a line that looks like a rule and is none, where these lines begin with it and have that fault.
+/// Adds the report of a rule that is no ABNF, where it has these lines and they have that fault.
 pub(crate) fn push_not_abnf(
     out: &mut Vec<u8>,
     name: &[u8],

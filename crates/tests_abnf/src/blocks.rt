@@ -1,6 +1,6 @@
-//! Lines and blocks of RFCs.
+//! Lines and rules of RFCs.
 
-use abnfblocks::{Found, LineKind, find_blocks, is_blank, kept_lines, rule_size};
+use abnfblocks::{Found, LineKind, blank_count, find_rules, is_blank, kept_lines, without_mark};
 use ruletable::{SinkOf, write_fault};
 use std::alloc::Global;
 use testio::{Fields, Text};
@@ -17,14 +17,20 @@ pub(crate) fn kept_lines_of(alloc: Global, fields: &Fields, out: &mut Text) -> O
 // Adds what is found.
 fn add_found(alloc: Global, found: &Found, out: &mut Text) -> Option<()> {
     match found {
-        Found::Piece { first, count } => {
+        Found::Rule { first, count } => {
             out.add_number(*first as u128);
             out.add(b": lines ");
             out.add_number(*count as u128);
             out.add(b"\n");
         }
-        Found::NotAbnf { first, fault } => {
+        Found::NotAbnf {
+            first,
+            count,
+            fault,
+        } => {
             out.add_number(*first as u128);
+            out.add(b": lines ");
+            out.add_number(*count as u128);
             out.add(b": not ABNF: ");
             let mut told = SinkOf::new(Vec::new(alloc));
             write_fault(fault, &mut told).ok()?;
@@ -34,22 +40,21 @@ fn add_found(alloc: Global, found: &Found, out: &mut Text) -> Option<()> {
     Some(())
 }
 
-/// `blocks TEXT`: what is found among the lines of a text.
-pub(crate) fn blocks_of(alloc: Global, fields: &Fields, out: &mut Text) -> Option<()> {
+/// `rules TEXT`: what is found among the lines of a text.
+pub(crate) fn rules_of(alloc: Global, fields: &Fields, out: &mut Text) -> Option<()> {
     let lines = kept_lines(alloc, fields.text(0)).ok()?;
-    for found in &find_blocks(alloc, &lines).ok()? {
+    for found in &find_rules(alloc, &lines).ok()? {
         add_found(alloc, found, out)?;
     }
     Some(())
 }
 
-/// `rule_size TEXT`: how many lines the first rule has.
-pub(crate) fn rule_size_of(alloc: Global, fields: &Fields, out: &mut Text) -> Option<()> {
-    let lines = kept_lines(alloc, fields.text(0)).ok()?;
-    if lines.is_empty() {
-        return None;
-    }
-    out.add_number(rule_size(&lines) as u128);
+/// `front TEXT`: how many bytes stand behind a byte order mark, and how many blank lines begin the text.
+pub(crate) fn front_of(alloc: Global, fields: &Fields, out: &mut Text) -> Option<()> {
+    let text = without_mark(fields.text(0));
+    out.add_number(text.len() as u128);
+    out.add(b";");
+    out.add_number(blank_count(&kept_lines(alloc, text).ok()?) as u128);
     Some(())
 }
 

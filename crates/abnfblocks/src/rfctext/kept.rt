@@ -3,15 +3,15 @@ ghost use Rattle.std.specs.Prelude.{◌≡◌, ◌+◌, ◌<◌, [], ◌∷◌, 
 ghost use Rattle.std.specs.List.{suffix_len};
 ghost use Rattle.abnfblocks.specs.Furniture.{KeepsLines};
 ghost use Rattle.abnfblocks.specs.KeptSteps.{is_blank_kind, cut_blanks, after_line};
-ghost use Rattle.abnfblocks.specs.TextLines.{NumberedLine, numbered, text_lines, line_parts};
+ghost use Rattle.abnfblocks.specs.TextLines.{NumberedLine, behind_mark, numbered, text_lines, line_parts};
 
 use crate::rfctext::before::Before;
 use crate::rfctext::text_line::{TextLine, before_cr, part_size};
 use ruletable::Memory;
 use std::alloc::Global;
 
-// How many lines stand before the blank lines that end the list.
-fn bare_len(lines: &[TextLine<'_>]) -> usize
+/// Returns how many lines stand before the blank lines that end the list.
+pub(crate) fn bare_len(lines: &[TextLine<'_>]) -> usize
     ensures { result + suffix_len (λ line. is_blank_kind line.kind) (map numbered lines.now) ≡ length lines.now }
 {
     let mut size = lines.len();
@@ -72,6 +72,16 @@ fn cut_part(text: &[u8]) -> Parts<'_>
             first,
             rest: behind,
         },
+    }
+}
+
+/// Returns the text without the byte order mark (EF BB BF) that begins it, if one does.
+pub fn without_mark(text: &[u8]) -> &[u8]
+    ensures { result.now ≡ behind_mark text.now }
+{
+    match text.strip_prefix(b"\xEF\xBB\xBF") {
+        Some(rest) => rest,
+        None => text,
     }
 }
 

@@ -9,7 +9,7 @@ returns-clause-joined c = λ texts a b x y.
       no_fault = c.one_reading.ensures.no_fault;
       one_fault = c.one_reading.ensures.one_fault;
       kept = c.one_keeping.ensures;
-      found = c.one_finding.ensures;
+      found = c.one_finding.ensures.one;
       tokens = c.one_list.ensures;
     } in
     joined-same one texts a b x y
@@ -21,7 +21,7 @@ returns-clause-stated c = λ texts form input notes others a b x y p q.
       no_fault = c.one_reading.ensures.no_fault;
       one_fault = c.one_reading.ensures.one_fault;
       kept = c.one_keeping.ensures;
-      found = c.one_finding.ensures;
+      found = c.one_finding.ensures.one;
       tokens = c.one_list.ensures;
     } in
     stated-same one texts x y p q

@@ -6,7 +6,7 @@ use Rattle.abnfread.specs.AbnfReading.{Reads}
 use Rattle.abnfread.specs.AbnfViews.{definition_from, definitions_from}
 use Rattle.abnfread.specs.Element.{Definition}
 use Rattle.abnfread.proofs.AbnfFaultLemmas.{one-reading}
-use Rattle.abnfblocks.specs.TextBlocks.{block_text}
+use Rattle.abnfblocks.specs.RuleCuts.{lines_text}
 use Rattle.abnfblocks.specs.TextLines.{numbered}
 use Rattle.abnftexts.specs.GivenRules.{text_rule}
 use Rattle.abnftexts.specs.TextRules.{given_by}
@@ -23,7 +23,7 @@ last-one (x ∷ front) all d only e h =
 
 pub returns-in-Some : goal.returns-in-Some
 returns-in-Some c = λ d reads.
-    let text : block_text c.args.margin_size (map numbered c.args.lines.now) ≡ c.in_ok-text.text.items =
+    let text : lines_text c.args.margin_size (map numbered c.args.lines.now) ≡ c.in_ok-text.text.items =
     sym c.in_ok-text.ensures in
     let here = subst (λ (t : List ℕ). Reads t (d ∷ [])) (text ∙ sym c.deref.ensures.value) reads in
     let all = one-reading c.deref.result.now (definitions_from c.in-Ok.definitions.items) (d ∷ [])

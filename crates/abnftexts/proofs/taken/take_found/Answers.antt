@@ -1,11 +1,11 @@
 use Rattle.std.proofs.Common.{map, refl}
 use Rattle.abnfblocks.specs.TextLines.{numbered}
 use Rattle.abnftexts.specs.RulesGathered.{rules_gathered}
-use Rattle.abnftexts.proofs.AloneRulesLemmas.{found-alone}
 use Rattle.abnftexts.proofs.ClearLinesLemmas.{kept-clear}
-use Rattle.abnftexts.proofs.RulesTakenLemmas.{found-all, lines-from, no_piece-more, piece-lines, piece-more}
+use Rattle.abnftexts.proofs.PlacedRulesLemmas.{found-alone}
+use Rattle.abnftexts.proofs.RulesTakenLemmas.{found-all, lines-from, lines-taken, no_rule-more, rule-more}
 use Rattle.abnftexts.proofs.taken.take_found.Goals as goal
-use Rattle.abnftexts.proofs.taken.take_found.Goals.{in-Piece+in_ok-take_piece-in-Piece}
+use Rattle.abnftexts.proofs.taken.take_found.Goals.{in-Rule+in_ok-take_rule-in-Rule}
 use Rattle.abnftexts.proofs.taken.take_found.Goals.{in-NotAbnf+in_ok-push_not_abnf-in-NotAbnf}
 
 pub loop-it-preserved : goal.loop-it-preserved
@@ -13,19 +13,19 @@ loop-it-preserved c = λ text keeps are end more.
     let kept = map numbered c.args.kept.now in
     let alone = found-alone (kept-clear text keeps) are refl in
     elim c.match-it.branch [
-      | in-Piece+in_ok-take_piece-in-Piece w ↦ c.loop-it.invariant text keeps are end
-          (piece-more c.args.name.now kept c.args.found.now c.loop-it.it-index _ w.in-Piece.first w.in-Piece.count
-          w.lines_before-lines.result.now (rules_gathered c.loop-it.gathered)
-          (rules_gathered w.take_piece.new.gathered) end c.loop-it-test.true w.in-Piece.is
-          (piece-lines c.args.kept.now w.lines_behind.result.now w.lines_before-lines.result.now w.in-Piece.first
-          w.in-Piece.count w.lines_behind.ensures w.lines_before-lines.ensures) alone
-          w.in_ok-take_piece-in-Piece.ensures (rw w.gathered-is at more))
+      | in-Rule+in_ok-take_rule-in-Rule w ↦ c.loop-it.invariant text keeps are end
+          (rule-more c.args.name.now kept c.args.found.now c.loop-it.it-index _ w.in-Rule.first w.in-Rule.count
+          (map numbered w.lines_behind.result.now) (rules_gathered c.loop-it.gathered)
+          (rules_gathered w.take_rule.new.gathered) end c.loop-it-test.true w.in-Rule.is
+          (lines-from c.args.kept.now w.lines_behind.result.now w.in-Rule.first w.lines_behind.ensures) alone
+          w.in_ok-take_rule-in-Rule.ensures (rw w.gathered-is at more))
       | in-NotAbnf+in_ok-push_not_abnf-in-NotAbnf w ↦ c.loop-it.invariant text keeps are end
-          (no_piece-more c.args.name.now kept c.args.found.now c.loop-it.it-index _ w.in-NotAbnf.first
-          w.in-NotAbnf.fault (map numbered w.lines_behind-in-NotAbnf.result.now) (rules_gathered c.loop-it.gathered)
-          w.push_not_abnf.new.out.items end c.loop-it-test.true w.in-NotAbnf.is
-          (lines-from c.args.kept.now w.lines_behind-in-NotAbnf.result.now w.in-NotAbnf.first
-          w.lines_behind-in-NotAbnf.ensures) w.in_ok-push_not_abnf-in-NotAbnf.ensures (rw w.gathered-is at more))
+          (no_rule-more c.args.name.now kept c.args.found.now c.loop-it.it-index _ w.in-NotAbnf.first
+          w.in-NotAbnf.count w.in-NotAbnf.fault (map numbered w.lines_before-lines.result.now)
+          (rules_gathered c.loop-it.gathered) w.push_not_abnf.new.out.items end c.loop-it-test.true w.in-NotAbnf.is
+          (lines-taken c.args.kept.now w.lines_behind-in-NotAbnf.result.now w.lines_before-lines.result.now
+          w.in-NotAbnf.first w.in-NotAbnf.count w.lines_behind-in-NotAbnf.ensures w.lines_before-lines.ensures)
+          w.in_ok-push_not_abnf-in-NotAbnf.ensures (rw w.gathered-is at more))
     ]
 
 pub returns : goal.returns

@@ -1,6 +1,6 @@
 use Rattle.std.proofs.Common.{ℕ, List, [], map, drop}
 use Rattle.abnfblocks.specs.Furniture.{KeepsLines}
-use Rattle.abnfblocks.specs.FoundBlocks.{AreFound}
+use Rattle.abnfblocks.specs.FoundRules.{AreFound}
 use Rattle.abnfblocks.specs.TextLines.{numbered, text_lines}
 use Rattle.abnftexts.specs.RulesGathered.{RulesGathered, rules_gathered}
 use Rattle.abnftexts.specs.TakenRules.{TakesMore}

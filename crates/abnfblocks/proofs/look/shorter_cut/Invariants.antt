@@ -1,0 +1,14 @@
+use Rattle.std.proofs.Common.{ℕ, ◌<◌, map}
+use Rattle.abnfblocks.specs.TextLines.{numbered}
+use Rattle.abnfblocks.specs.FoundRules.{IsAbnfCut}
+use Rattle.abnfblocks.proofs.look.shorter_cut.Given as goal
+
+-- no longer cut reads
+abbrev pub invariant-loop-size : goal.invariant-loop-size
+invariant-loop-size l = record {
+  less : l.size < l.limit;
+  none : (k : ℕ) → l.size < k → k < l.limit → IsAbnfCut (map numbered l.rule) k → ⊥;
+}
+
+abbrev pub decreases-loop-size : goal.decreases-loop-size
+decreases-loop-size l = l.size
