@@ -33,7 +33,7 @@ PAGES = """
     """.split()
 # The files whose words are clean. A file that is rewritten joins them.
 CHECKED = (
-    "CONTRIBUTING.md", "docs/DECISIONS.md", "docs/DEFINITIONS.md", "docs/EMBEDDING.md", "docs/GLOSSARY.md",
+    "README.md", "CONTRIBUTING.md", "docs/DECISIONS.md", "docs/DEFINITIONS.md", "docs/EMBEDDING.md", "docs/GLOSSARY.md",
     "docs/LARGE_INPUTS.md", "docs/RELIABILITY.md", "man/fanquber.3",
     *(f"docs/crates/{it}.md" for it in PAGES), *(f"crates/{it}/src/*" for it in SOURCES),
 )
