@@ -34,7 +34,7 @@ PAGES = """
 # The files whose words are clean. A file that is rewritten joins them.
 CHECKED = (
     "README.md", "CONTRIBUTING.md", "docs/DECISIONS.md", "docs/DEFINITIONS.md", "docs/EMBEDDING.md", "docs/GLOSSARY.md",
-    "docs/LARGE_INPUTS.md", "docs/PROVED.md", "docs/RELIABILITY.md", "man/fanquber.3",
+    "docs/LARGE_INPUTS.md", "docs/PROVED.md", "docs/RELIABILITY.md", "man/*",
     *(f"docs/crates/{it}.md" for it in PAGES), *(f"crates/{it}/src/*" for it in SOURCES),
 )
 # The words of the old dialect, each with the field's word.
