@@ -33,7 +33,8 @@ PAGES = """
     """.split()
 # The files whose words are clean. A file that is rewritten joins them.
 CHECKED = (
-    "README.md", "CONTRIBUTING.md", "docs/DECISIONS.md", "docs/DEFINITIONS.md", "docs/EMBEDDING.md", "docs/GLOSSARY.md",
+    "README.md", "CONTRIBUTING.md", "docs/ARCHITECTURE.md", "docs/DECISIONS.md", "docs/DEFINITIONS.md",
+    "docs/DEFINITIONS_ABNF.md", "docs/EMBEDDING.md", "docs/GLOSSARY.md", "docs/HOW_IT_WORKS.md",
     "docs/LARGE_INPUTS.md", "docs/PROVED.md", "docs/RELIABILITY.md", "man/*",
     *(f"docs/crates/{it}.md" for it in PAGES), *(f"crates/{it}/src/*" for it in SOURCES),
 )
