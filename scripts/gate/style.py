@@ -20,23 +20,18 @@ sys.path.insert(0, str(pathlib.Path(__file__).resolve().parents[1]))  # scripts/
 from crates import in_order
 
 TOP = pathlib.Path(__file__).resolve().parents[2]
-# The crates whose doc comments are clean, and those whose pages are.
+# The crates whose doc comments are clean.
 SOURCES = """
     abnfblocks abnfexplain abnfread abnfrun abnftexts abnfx capi diagnostics earley earleyitems fanquber fanquber_c
     letterclasses lexer linejudge lowering matchfailure memo packrat pegi pegmatch pegread pegrun refusedlines rulenames
     tests_peg toolrun
-    """.split()
-PAGES = """
-    abnfblocks abnfexplain abnfhints abnfprint abnfread abnfrun bitrows capi cli diagnostics earley earleyitems fanquber
-    fanquber_c fixpoint lazydfa letterclasses letters lexer linejudge lowering memoryrun pegexplain pegmatch pegread
-    prune refusedlines rulenames
     """.split()
 # The files whose words are clean. A file that is rewritten joins them.
 CHECKED = (
     "README.md", "CONTRIBUTING.md", "docs/ARCHITECTURE.md", "docs/DECISIONS.md", "docs/DEFINITIONS.md",
     "docs/DEFINITIONS_ABNF.md", "docs/EMBEDDING.md", "docs/GLOSSARY.md", "docs/HOW_IT_WORKS.md",
     "docs/LARGE_INPUTS.md", "docs/PROVED.md", "docs/RELIABILITY.md", "man/*",
-    *(f"docs/crates/{it}.md" for it in PAGES), *(f"crates/{it}/src/*" for it in SOURCES),
+    "docs/crates/*", *(f"crates/{it}/src/*" for it in SOURCES),
 )
 # The words of the old dialect, each with the field's word.
 WORDS = (
@@ -57,6 +52,9 @@ WORDS = (
 # What is agreed to be otherwise: a file, and the word as it stands there.
 AGREED = {
     ("docs/GLOSSARY.md", "told"), ("docs/GLOSSARY.md", "refuse"), ("docs/GLOSSARY.md", "comes back to itself"),
+    # names of types and methods, in the comments by which pages.py writes contracts
+    ("docs/crates/flatgrammar.md", "Spot"), ("docs/crates/flatgrammar.md", "spots"),
+    ("docs/crates/matchfailure.md", "Told"),
 }
 LONGEST_SENTENCE = 35
 # A number that documents name: the file of its constant, how that stands there, and how documents say it.
