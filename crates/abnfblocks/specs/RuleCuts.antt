@@ -15,7 +15,7 @@ abbrev pub opens_rule : NumberedLine → Bool
 opens_rule line = begins_rule_line line.bytes
 
 -- Whether a rule of that margin goes on with the second line, where the first one stands before it: with a blank line,
--- a comment, a line of a larger margin, and a line that begins with `/`, `|`, `)` or `]` behind one that is not blank.
+-- a comment, a line of a larger margin, and a line that begins with `/`, `|`, `)` or `]` after one that is not blank.
 abbrev pub goes_on : ℕ → NumberedLine → NumberedLine → Bool
 goes_on margin before line = is_empty_line line || begins_comment line.bytes || nat_lt margin (margin_of line.bytes)
     || (begins_inner line.bytes && not (is_empty_line before))

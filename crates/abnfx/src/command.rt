@@ -27,8 +27,8 @@ Other options:
 
 Exit status:
   0  the grammar is written
-  1  no text gives a rule
-  2  a name has two definitions, the grammar is too long, or the arguments are refused
+  1  a rule is no ABNF, a name has two definitions, or no text gives a rule
+  2  the grammar is too long, or the arguments are refused
   3  a text is longer than 16777216 bytes
   4  a write error, or a text cannot be read
   5  out of memory

@@ -2,7 +2,7 @@
 -- Serves: Packrat::match_unit
 use Rattle.std.proofs.Common.{◌≡◌, inl, inr, ℕ, zero, suc, ◌+◌, ◌*◌, ◌-◌, ◌<◌, ◌≤◌, Bool, List}
 use Rattle.std.proofs.Common.{[], ◌∷◌, true, false}
-use Rattle.std.proofs.Common.{Some, Result, Ok, Err, IfOk, refl, sym, subst, arith}
+use Rattle.std.proofs.Common.{Some, refl, sym, subst, arith}
 use Rattle.std.specs.Prelude.{slice_get}
 use Rattle.pegread.specs.PegViews.{rules_of}
 use Rattle.gramcheck.specs.Grammar.{Grammar}
@@ -67,17 +67,6 @@ times_less : (c most less more : ℕ) → less ≤ more → c * (most - more) �
 times_less c most less more le =
     let under : most - more ≤ most - less = omega (arith, le) in
     grind (arith, under)
-
--- what is less than a number is less than a greater one
-pub then_less : {T E : Type 0} {m k : ℕ} (f : T → ℕ) (r : Result T E) → m < k → IfOk r (λ t. f t ≤ m)
-    → IfOk r (λ t. f t < k)
-then_less f (Ok t) lt h = omega (arith, lt, h)
-then_less f (Err e) lt h = h
-
-pub then_most : {T E : Type 0} {m k : ℕ} (f : T → ℕ) (r : Result T E) → m ≤ k → IfOk r (λ t. f t < m)
-    → IfOk r (λ t. f t ≤ k)
-then_most f (Ok t) le h = omega (arith, le, h)
-then_most f (Err e) le h = h
 
 module _ (g : Grammar) (x : List ℕ) where
   abbrev Most : ℕ
@@ -308,29 +297,3 @@ module _ (g : Grammar) (x : List ℕ) where
       let one = less_on a j (tail_of e) given key head fs mid begun h are in
       let two = entered_less marks e mid gs b begun well i in
       omega (arith, one, two)
-
-  -- the tail after a member costs less
-  pub next_costs : (e next : Entering) (j : Spot) → IsWell g x (tail_of e) → K (tail_of e) (j ∷ (tail_of next ∷ []))
-      → ask_cost Most (tail_of next) < ask_cost Most (tail_of e)
-  next_costs e next j w h =
-      let cost = second_of_tail (way_of e.node h.0) e.node e.index e.place j (tail_of next) h.2 in
-      let lt = member_below e.node e.index e.place w in
-      omega (arith, cost, lt)
-
-  -- a member that gives something at once leaves less
-  pub next_less : (e next : Entering) (j : Spot) (fs : List Frame) (begun now : ℕ) → begun ≤ now
-      → IsWell g x (tail_of e) → K (tail_of e) (j ∷ (tail_of next ∷ []))
-      → left g x (Ask (tail_of next)) fs now ≤ left g x (Ask (tail_of e)) fs begun
-  unfolding left
-  next_less e next j fs begun now le w h =
-      let cost = next_costs e next j w h in
-      let rest = times_less (4 * Most + 4) (most_begun g x) begun now le in
-      omega (arith, cost, rest)
-
-  -- so does a task that gives something at once
-  pub once_less : (a : Spot) (f : Given) (fs : List Frame) (begun now : ℕ) → begun ≤ now
-      → left g x (Answer f) fs now ≤ left g x (Ask a) fs begun
-  unfolding left
-  once_less a f fs begun now le =
-      let rest = times_less (4 * Most + 4) (most_begun g x) begun now le in
-      omega (arith, rest)

@@ -24,7 +24,6 @@ pub mod RunStepsLemmas
 pub mod RunTurnsLemmas
 pub mod TurnsGiveLemmas
 pub mod TurnedLemmas
-pub mod OnceLemmas
 pub mod TakeEventLemmas
 pub mod KeptAtLemmas
 pub mod NextWrittenLemmas

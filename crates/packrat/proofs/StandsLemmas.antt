@@ -51,7 +51,7 @@ use Rattle.packrat.specs.SpotSteps.{FirstBy, TailFirstBy, IsFirst, NextOf, next_
 use Rattle.packrat.specs.Stands.{AreLevels, levels_none, levels_frame, levels_passed, levels_turned}
 use Rattle.packrat.specs.Stands.{Waiting, state_of, key_of}
 use Rattle.packrat.specs.Stands.{Stands, IsClosed, NeedsMore, HeadStands, kept_joined, IsJoined, IsWaitHead}
-use Rattle.packrat.specs.Stands.{AreWaiting, GivenBy, AreGiven, entered, HasChild, IsEntered}
+use Rattle.packrat.specs.Stands.{AreWaiting, GivenBy, AreGiven, entered, IsEntered}
 use Rattle.packrat.specs.declared.onward.Entering.{Entering}
 use Rattle.packrat.proofs.BegunLemmas.{begun_at_places}
 use Rattle.packrat.proofs.MachineLemmas.{run_of_steps}
@@ -676,18 +676,6 @@ module _ (g : Grammar) (x : List ℕ) (more : Bool) (marks : Marks) where
       s =
       subst (λ v. S root v ms su kl m) a (subst (λ v. S root t v su kl m) b (subst (λ v. S root t ls v kl m) c
       (subst (λ v. S root t ls st v m) e (subst (S root t ls st ks) d s))))
-
-  -- a frame that awaits its first child
-  pub waits_first : {root : Spot} {t : Turn} {ls : List Frame} {st : List Stored} {links : List Link} {n : ℕ}
-      (l : Frame) → l.wait ≡ First → S root t (l ∷ ls) st links n
-      → S root t (record { spot = l.spot; key = l.key; wait = First } ∷ ls) st links n
-  waits_first {root = root} {t = t} {ls = ls} {st = st} {links = links} {n = n} l is s =
-      subst (λ v. S root t (record { spot = l.spot; key = l.key; wait = v } ∷ ls) st links n) is s
-
-  pub first_gives : (root : Spot) (l : Frame) (given : Given) (ls : List Frame) (st : List Stored) (links : List Link)
-      (n : ℕ) → S root (Answer given) (l ∷ ls) st links n → l.wait ≡ First → HasChild g x more l.spot given.found
-  first_gives root l given ls st links n s is =
-      let r = ready_of (waits_first l is s) in (r.spot, r.gives.events, r.are.5.0, r.gives.yields)
 
   -- no more are begun than nodes at places
   pub stands_few : (root : ℕ) (t : Turn) (ls : List Frame) (st : List Stored) (links : List Link) (n : ℕ)

@@ -288,7 +288,7 @@ module _ (g : Grammar) (x : List ℕ) (more : Bool) (marks : Marks) (sound : IsS
         (tail_marks marks) v w → SpotSteps (rules_of g.rules) (shapes_of g.nodes) g.bodies x (node_marks marks)
         (tail_marks marks) u w
     then_steps a b = both_steps (rules_of g.rules) g.start (shapes_of g.nodes) g.bodies g.ranks x sound body is_body
-        (node_marks marks) (tail_marks marks) are a b
+        (node_marks marks) (tail_marks marks) are s k t.at t.spelled a b
 
     start_well : IsWell g x (Pair s p)
     start_well = let low = t.low in let within = t.within in (t.spelled, omega (arith, low, within))

@@ -9,7 +9,6 @@ pub mod Onward
 pub mod Turned
 pub mod TurnsLeft
 pub mod Stands
-pub mod Once
 pub mod Done
 pub mod EventLog
 pub mod WaitingHeads

@@ -101,11 +101,6 @@ module _ (g : Grammar) (x : List ℕ) (more : Bool) where
       × PassesOn g x more a asked b first
   Waiting links (Turned last) a asked b = ⊥
 
-  -- the first child of a task gives this
-  abbrev pub HasChild : Spot → Found → Type 0
-  HasChild a f = (j : Spot) × (events : List Event) × IsFirst (rules_of g.rules) (shapes_of g.nodes) g.bodies x a j
-      × SpotYields g x more j f events
-
   abbrev pub IsTurn : List Link → Turn → Spot → Type 0
   IsTurn links (Ask a) b = (a ≡ b) × IsWell g x b × IsNear x more b
   IsTurn links (Answer given) b = GivenBy links b given

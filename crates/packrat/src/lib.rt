@@ -8,7 +8,6 @@ mod frames;
 mod keys;
 mod laws;
 mod machine;
-mod once;
 mod onward;
 mod packrat;
 mod turns;

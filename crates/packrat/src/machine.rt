@@ -1,5 +1,5 @@
 //! The machine: it evaluates by a loop over frames in place of recursion, and stores the keys alone.
-ghost use Rattle.std.specs.Prelude.{◌≡◌, ℕ, ◌+◌, ◌-◌, ◌*◌, ◌^◌, ◌<◌, ◌≤◌, Bool, true, false, List, [], ◌∷◌, length};
+ghost use Rattle.std.specs.Prelude.{◌≡◌, ℕ, ◌+◌, ◌-◌, ◌*◌, ◌^◌, ◌<◌, ◌≤◌, Bool, true, List, [], ◌∷◌, length};
 ghost use Rattle.std.specs.Prelude.{slice_get, Some, IfOk, OnOk, IfSome, IfNone};
 ghost use Rattle.gramcheck.specs.Grammar.{HasKeys, IsSoundGrammar};
 ghost use Rattle.pegmatch.specs.Answers.{WasEnough};
@@ -12,9 +12,9 @@ ghost use Rattle.pegnodes.specs.KeyLists.{Marks, node_marks};
 ghost use Rattle.packrat.specs.ByteGives.{operands_on, turns_closed};
 ghost use Rattle.packrat.specs.Turned.{AreDecided, AreFree, AreTurnedFrames, IsKeyed};
 ghost use Rattle.packrat.specs.TurnsLeft.{left, most_begun};
-ghost use Rattle.packrat.specs.Onward.{IsWell, IsLed, tail_of, member_of};
+ghost use Rattle.packrat.specs.Onward.{IsWell};
 ghost use Rattle.packrat.specs.Stands.{Stands, IsClosed, AreOn, IsEvaluated, LowersLeft, key_of};
-ghost use Rattle.packrat.specs.Stands.{AreWaiting, HasChild, IsWaitHead, IsEntered, IsJoined, GivenBy, AreGiven};
+ghost use Rattle.packrat.specs.Stands.{AreWaiting, IsWaitHead, IsEntered, IsJoined, GivenBy, AreGiven};
 ghost use Rattle.packrat.specs.View.{weight};
 ghost use Rattle.packrat.specs.declared.frames.Wait.{Wait};
 ghost use Rattle.packrat.specs.declared.machine.Turn.{Turn};
@@ -22,7 +22,6 @@ ghost use Rattle.packrat.specs.declared.machine.Turn.{Turn};
 use crate::events::EventLog;
 use crate::frames::{Frame, Frames, Wait};
 use crate::keys::is_key;
-use crate::once::{Ends, at_once, go_over};
 use crate::onward::{Begun, Entering, Onward, begin, go_on};
 use crate::turns::{Turns, find_turns, is_fresh};
 use gramcheck::SoundPeg;
@@ -225,130 +224,6 @@ fn wait_turned(frames: &mut Frames, peg: &SoundPeg, turns: Turns) -> Result<(), 
 }
 
 impl Machine {
-    // Enters a tail, after those of its members that give something at once.
-    #[inline(always)]
-    fn go_into(
-        &mut self,
-        peg: &SoundPeg,
-        window: &[u8],
-        more: bool,
-        entering: Entering,
-    ) -> Result<Turn, Memory>
-        requires some { WasEnough window.now more 0 }
-        requires sound { IsSoundGrammar peg.now }
-        requires well { IsWell peg.now window.now (tail_of entering) }
-        requires led { IsLed peg.now window.now more entering.only (tail_of entering) (member_of entering) }
-        ensures log { OnOk result (self.new.log ≡ self.old.log) }
-        ensures stands { (root : Spot) →
-            Stands peg.now window.now more peg.now.keys root (Turn.Ask (tail_of entering)) self.old.frames
-            self.old.log.stored self.old.events self.old.begun →
-            IfOk result (λ turn. Stands peg.now window.now more peg.now.keys root turn
-            self.new.frames self.new.log.stored self.new.events self.new.begun) }
-        ensures less { IfOk result (λ turn.
-            left peg.now window.now turn self.new.frames self.new.begun
-            ≤ left peg.now window.now (Turn.Ask (tail_of entering)) self.old.frames self.old.begun) }
-        ensures grows { self.old.begun ≤ self.new.begun }
-    {
-        let walk = go_over(peg, window, more, entering, self.begun);
-        self.begun = walk.begun;
-        match walk.ends {
-            Ends::Gives(found) => Ok(Turn::Answer(Given { found, events: 0 })),
-            Ends::Enters(rest) => Ok(Turn::Ask(enter(&mut self.frames, peg, rest)?)),
-        }
-    }
-
-    // Goes on with a frame that is off the others and awaited its first child, which has this result.
-    #[inline(always)]
-    fn after_first(
-        &mut self,
-        peg: &SoundPeg,
-        window: &[u8],
-        more: bool,
-        frame: Frame,
-        given: Given,
-    ) -> Result<Turn, Memory>
-        requires some { WasEnough window.now more 0 }
-        requires sound { IsSoundGrammar peg.now }
-        requires well { IsWell peg.now window.now frame.spot }
-        requires first { frame.wait ≡ Wait.First }
-        requires child { HasChild peg.now window.now more frame.spot given.found }
-        requires rows { self.old.log.rows ≡ length peg.now.nodes }
-        ensures rows { OnOk result (self.new.log.rows ≡ length peg.now.nodes) }
-        ensures stands { (root : Spot) →
-            Stands peg.now window.now more peg.now.keys root (Turn.Answer given) (frame ∷ self.old.frames)
-            self.old.log.stored self.old.events self.old.begun →
-            IfOk result (λ turn. Stands peg.now window.now more peg.now.keys root turn
-            self.new.frames self.new.log.stored self.new.events self.new.begun) }
-        ensures less { IfOk result (λ turn.
-            left peg.now window.now turn self.new.frames self.new.begun
-            < left peg.now window.now (Turn.Answer given) (frame ∷ self.old.frames) self.old.begun) }
-        ensures grows { self.old.begun ≤ self.new.begun }
-    {
-        match go_on(peg, window, frame.spot, given.found) {
-            Onward::Gives(found) => {
-                let own = Given { found, events: 0 };
-                close(&mut self.log, peg, window, frame.spot, frame.key, own)?;
-                Ok(Turn::Answer(own))
-            }
-            Onward::Same => {
-                close(&mut self.log, peg, window, frame.spot, frame.key, given)?;
-                Ok(Turn::Answer(given))
-            }
-            Onward::Passes(kid) => {
-                wait_last(&mut self.frames, frame.spot, frame.key, given.events)?;
-                Ok(Turn::Ask(kid))
-            }
-            Onward::Enters(entering) => {
-                wait_last(&mut self.frames, frame.spot, frame.key, given.events)?;
-                self.go_into(peg, window, more, entering)
-            }
-        }
-    }
-
-    // Asks for the first child of a task that has begun, with the frame that awaits it. Where the child gives something
-    // at once, goes on without that frame.
-    #[inline(always)]
-    fn lead(
-        &mut self,
-        peg: &SoundPeg,
-        window: &[u8],
-        more: bool,
-        frame: Frame,
-        kid: Spot,
-    ) -> Result<Turn, Memory>
-        requires some { WasEnough window.now more 0 }
-        requires sound { IsSoundGrammar peg.now }
-        requires well { IsWell peg.now window.now frame.spot }
-        requires kid { IsLed peg.now window.now more false frame.spot kid }
-        requires first { frame.wait ≡ Wait.First }
-        requires rows { self.old.log.rows ≡ length peg.now.nodes }
-        ensures rows { OnOk result (self.new.log.rows ≡ length peg.now.nodes) }
-        ensures stands { (root : Spot) →
-            Stands peg.now window.now more peg.now.keys root (Turn.Ask kid) (frame ∷ self.old.frames)
-            self.old.log.stored self.old.events self.old.begun →
-            IfOk result (λ turn. Stands peg.now window.now more peg.now.keys root turn
-            self.new.frames self.new.log.stored self.new.events self.new.begun) }
-        ensures less { IfOk result (λ turn.
-            left peg.now window.now turn self.new.frames self.new.begun
-            ≤ left peg.now window.now (Turn.Ask kid) (frame ∷ self.old.frames) self.old.begun) }
-        ensures grows { self.old.begun ≤ self.new.begun }
-    {
-        match at_once(peg, window, more, kid, self.begun) {
-            None => {
-                self.frames.push(frame)?;
-                Ok(Turn::Ask(kid))
-            }
-            Some(once) => {
-                self.begun = once.begun;
-                let given = Given {
-                    found: once.found,
-                    events: 0,
-                };
-                self.after_first(peg, window, more, frame, given)
-            }
-        }
-    }
-
     // Begins a task that is not stored, and goes to a child or returns a result. None if the window is too short.
     #[inline(always)]
     fn start_spot(
@@ -391,12 +266,12 @@ impl Machine {
                 Ok(Some(Turn::Answer(given)))
             }
             Begun::Leads(kid) => {
-                let frame = Frame {
+                self.frames.push(Frame {
                     spot,
                     key,
                     wait: Wait::First,
-                };
-                Ok(Some(self.lead(peg, window, more, frame, kid)?))
+                })?;
+                Ok(Some(Turn::Ask(kid)))
             }
             Begun::Passes(kid) => {
                 wait_last(&mut self.frames, spot, key, 0)?;
@@ -404,7 +279,8 @@ impl Machine {
             }
             Begun::Enters(entering) => {
                 wait_last(&mut self.frames, spot, key, 0)?;
-                Ok(Some(self.go_into(peg, window, more, entering)?))
+                let next = enter(&mut self.frames, peg, entering)?;
+                Ok(Some(Turn::Ask(next)))
             }
             Begun::Need => Ok(None),
         }
@@ -527,36 +403,85 @@ impl Machine {
         }
     }
 
+    // Goes on with the frame that was the last one, and whose first child has this result.
+    #[inline(always)]
+    fn after_first(
+        &mut self,
+        peg: &SoundPeg,
+        window: &[u8],
+        spot: Spot,
+        key: bool,
+        given: Given,
+    ) -> Result<Turn, Memory>
+        requires sound { IsSoundGrammar peg.now }
+        requires well { IsWell peg.now window.now spot }
+        requires rows { self.old.log.rows ≡ length peg.now.nodes }
+        ensures rows { OnOk result (self.new.log.rows ≡ length peg.now.nodes) }
+        ensures stands { (more : Bool) → WasEnough window.now more 0 → (root : Spot) →
+            Stands peg.now window.now more peg.now.keys root (Turn.Answer given)
+            (record { spot = spot; key = key; wait = Wait.First } ∷ self.old.frames)
+            self.old.log.stored self.old.events self.old.begun →
+            IfOk result (λ turn. Stands peg.now window.now more peg.now.keys root turn
+            self.new.frames self.new.log.stored self.new.events self.new.begun) }
+        ensures less { (more : Bool) → WasEnough window.now more 0 → (root : Spot) →
+            Stands peg.now window.now more peg.now.keys root (Turn.Answer given)
+            (record { spot = spot; key = key; wait = Wait.First } ∷ self.old.frames)
+            self.old.log.stored self.old.events self.old.begun → IfOk result (λ turn.
+            left peg.now window.now turn self.new.frames self.new.begun
+            < left peg.now window.now (Turn.Answer given)
+            (record { spot = spot; key = key; wait = Wait.First } ∷ self.old.frames) self.old.begun) }
+    {
+        match go_on(peg, window, spot, given.found) {
+            Onward::Gives(found) => {
+                let own = Given { found, events: 0 };
+                close(&mut self.log, peg, window, spot, key, own)?;
+                Ok(Turn::Answer(own))
+            }
+            Onward::Same => {
+                close(&mut self.log, peg, window, spot, key, given)?;
+                Ok(Turn::Answer(given))
+            }
+            Onward::Passes(kid) => {
+                wait_last(&mut self.frames, spot, key, given.events)?;
+                Ok(Turn::Ask(kid))
+            }
+            Onward::Enters(entering) => {
+                wait_last(&mut self.frames, spot, key, given.events)?;
+                let next = enter(&mut self.frames, peg, entering)?;
+                Ok(Turn::Ask(next))
+            }
+        }
+    }
+
     // Goes on with the frame that was the last one, and whose awaited child has this result.
     #[inline(always)]
     fn resume(
         &mut self,
         peg: &SoundPeg,
         window: &[u8],
-        more: bool,
         frame: Frame,
         given: Given,
     ) -> Result<Turn, Memory>
-        requires some { WasEnough window.now more 0 }
         requires sound { IsSoundGrammar peg.now }
         requires keyed { IsKeyed peg.now }
         requires well { IsWell peg.now window.now frame.spot }
         requires rows { self.old.log.rows ≡ length peg.now.nodes }
         requires first { IsWaitHead self.old.events frame.wait }
-        requires child { frame.wait ≡ Wait.First → HasChild peg.now window.now more frame.spot given.found }
         requires second { IsHead self.old.events given.events }
         ensures rows { OnOk result (self.new.log.rows ≡ length peg.now.nodes) }
-        ensures stands { (root : Spot) →
+        ensures stands { (more : Bool) → WasEnough window.now more 0 → (root : Spot) →
             Stands peg.now window.now more peg.now.keys root (Turn.Answer given) (frame ∷ self.old.frames)
             self.old.log.stored self.old.events self.old.begun →
             IfOk result (λ turn. Stands peg.now window.now more peg.now.keys root turn
             self.new.frames self.new.log.stored self.new.events self.new.begun) }
-        ensures less { IfOk result (λ turn.
+        ensures less { (more : Bool) → WasEnough window.now more 0 → (root : Spot) →
+            Stands peg.now window.now more peg.now.keys root (Turn.Answer given)
+            (frame ∷ self.old.frames) self.old.log.stored self.old.events self.old.begun → IfOk result (λ turn.
             left peg.now window.now turn self.new.frames self.new.begun
             < left peg.now window.now (Turn.Answer given) (frame ∷ self.old.frames) self.old.begun) }
     {
         match frame.wait {
-            Wait::First => self.after_first(peg, window, more, frame, given),
+            Wait::First => self.after_first(peg, window, frame.spot, frame.key, given),
             Wait::Turned(last) => {
                 let spot = frame.spot;
                 self.log.put_run(spot.row(), spot.place(), last, given)?;
@@ -609,7 +534,7 @@ impl Machine {
                 },
                 Turn::Answer(given) => match self.frames.pop() {
                     None => return Ok(Some(given)),
-                    Some(frame) => turn = self.resume(peg, window, more, frame, given)?,
+                    Some(frame) => turn = self.resume(peg, window, frame, given)?,
                 },
             }
         }

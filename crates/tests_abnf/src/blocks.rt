@@ -49,7 +49,7 @@ pub(crate) fn rules_of(alloc: Global, fields: &Fields, out: &mut Text) -> Option
     Some(())
 }
 
-/// `front TEXT`: how many bytes stand behind a byte order mark, and how many blank lines begin the text.
+/// `front TEXT`: how many bytes follow a byte order mark, and how many blank lines begin the text.
 pub(crate) fn front_of(alloc: Global, fields: &Fields, out: &mut Text) -> Option<()> {
     let text = without_mark(fields.text(0));
     out.add_number(text.len() as u128);

@@ -70,21 +70,15 @@ returns-in-None-pop c =
 
 pub turns-smaller : goal.turns-smaller
 turns-smaller c =
+    let stands = L.stands_as c.args.peg.now c.args.window.now c.args.more c.args.peg.now.keys c.in-Answer.is
+    c.in-Some-pop.ensures.some refl refl refl c.turns.invariant.stands in
     subst (λ v. left c.args.peg.now c.args.window.now c.in_ok-turn-in-Some-pop.turn c.resume.new.self.frames
     c.resume.new.self.begun < left c.args.peg.now c.args.window.now v c.turns.self.frames c.turns.self.begun)
     (sym c.in-Answer.is)
     (subst (λ v. left c.args.peg.now c.args.window.now c.in_ok-turn-in-Some-pop.turn c.resume.new.self.frames
     c.resume.new.self.begun < left c.args.peg.now c.args.window.now (Answer c.in-Answer.given) v
     c.turns.self.begun) (sym c.in-Some-pop.ensures.some)
-    c.in_ok-turn-in-Some-pop.ensures.less)
-
-pub resume-requires-clause-child : goal.resume-requires-clause-child
-resume-requires-clause-child c =
-    L.first_gives c.args.peg.now c.args.window.now c.args.more c.args.peg.now.keys (Pair c.args.root 0)
-    c.in-Some-pop.frame c.in-Answer.given c.pop.new.self
-    c.turns.self.log.stored c.turns.self.events c.turns.self.begun
-    (L.stands_as c.args.peg.now c.args.window.now c.args.more c.args.peg.now.keys c.in-Answer.is
-    c.in-Some-pop.ensures.some refl refl refl c.turns.invariant.stands)
+    (c.in_ok-turn-in-Some-pop.ensures.less c.args.more c.requires.some (Pair c.args.root 0) stands))
 
 pub resume-requires-clause-well : goal.resume-requires-clause-well
 resume-requires-clause-well c =

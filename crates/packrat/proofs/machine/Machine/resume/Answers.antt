@@ -1,36 +1,47 @@
-use Rattle.std.proofs.Common.{◌≡◌, ◌∷◌, ◌++◌, subst}
+use Rattle.std.proofs.Common.{◌≡◌, ◌<◌, ◌∷◌, ◌++◌, IfOk, sym, subst}
 use Rattle.packrat.specs.declared.machine.Turn.TheVariants.{Answer}
 use Rattle.packrat.specs.Stands.{Stands}
+use Rattle.packrat.specs.TurnsLeft.{left}
 use Rattle.packrat.proofs.StandsLemmas as L
 use Rattle.packrat.proofs.LeftLemmas as M
 use Rattle.memo.specs.KeyLog.{run_of, place_of}
 use Rattle.packrat.proofs.TurnedLemmas.{stands_back}
 use Rattle.packrat.proofs.machine.Machine.resume.Goals as goal
 
+pub returns-in-First-clause-less : goal.returns-in-First-clause-less
+returns-in-First-clause-less c = λ more some root.
+    subst (λ v. Stands c.args.peg.now c.args.window.now more c.args.peg.now.keys root (Answer c.args.given)
+    (record { spot = c.args.frame.spot; key = c.args.frame.key; wait = v } ∷ c.args.self.now.frames)
+    c.args.self.now.log.stored c.args.self.now.events c.args.self.now.begun → IfOk c.after_first.result (λ turn.
+    left c.args.peg.now c.args.window.now turn c.after_first.new.self.frames c.after_first.new.self.begun
+    < left c.args.peg.now c.args.window.now (Answer c.args.given)
+    (record { spot = c.args.frame.spot; key = c.args.frame.key; wait = v } ∷ c.args.self.now.frames)
+    c.args.self.now.begun)) (sym c.in-First.is) (c.after_first.ensures.less more some root)
+
 pub returns-in_ok-close-in-Last-clause-stands : goal.returns-in_ok-close-in-Last-clause-stands
-returns-in_ok-close-in-Last-clause-stands c = λ root s.
-    L.stands_last c.args.peg.now c.args.window.now c.args.more c.args.peg.now.keys root c.args.frame.spot c.args.given
+returns-in_ok-close-in-Last-clause-stands c = λ more some root s.
+    L.stands_last c.args.peg.now c.args.window.now more c.args.peg.now.keys root c.args.frame.spot c.args.given
     c.args.self.now.frames c.args.self.now.log.stored c.args.self.now.events c.args.self.now.begun c.args.frame.key
     c.in-Last.first
-    (subst (λ v. Stands c.args.peg.now c.args.window.now c.args.more c.args.peg.now.keys root (Answer c.args.given)
+    (subst (λ v. Stands c.args.peg.now c.args.window.now more c.args.peg.now.keys root (Answer c.args.given)
     (record { spot = c.args.frame.spot; key = c.args.frame.key; wait = v } ∷ c.args.self.now.frames)
     c.args.self.now.log.stored c.args.self.now.events c.args.self.now.begun) c.in-Last.is s)
     c.joined.new.events c.in_ok-all-in-Last.all c.close.new.log.stored c.in_ok-all-in-Last.ensures.grown
     c.in_ok-all-in-Last.ensures.joined
-    (c.in_ok-close-in-Last.ensures.closed c.args.more c.args.peg.now.keys c.joined.new.events)
+    (c.in_ok-close-in-Last.ensures.closed more c.args.peg.now.keys c.joined.new.events)
 
 pub returns-in_ok-close-in-Last-clause-less : goal.returns-in_ok-close-in-Last-clause-less
-returns-in_ok-close-in-Last-clause-less c =
+returns-in_ok-close-in-Last-clause-less c = λ more some root s.
     M.less_up c.args.peg.now c.args.window.now c.args.frame c.in_ok-all-in-Last.all c.args.given
     c.args.self.now.frames c.args.self.now.begun
 
 pub returns-in_ok-put_run-in-Turned-clause-stands : goal.returns-in_ok-put_run-in-Turned-clause-stands
-returns-in_ok-put_run-in-Turned-clause-stands c = λ root s.
-    stands_back c.args.peg.now c.args.window.now c.args.more c.args.peg.now.keys c.requires.sound c.requires.keyed.1.0
+returns-in_ok-put_run-in-Turned-clause-stands c = λ more some root s.
+    stands_back c.args.peg.now c.args.window.now more c.args.peg.now.keys c.requires.sound c.requires.keyed.1.0
     c.requires.keyed.1.1 c.requires.keyed.0 root c.args.frame.spot c.args.given c.args.self.now.frames
     c.args.self.now.log.stored c.put_run.new.self.stored c.args.self.now.events c.args.self.now.begun c.in-Turned.last
     c.args.frame.key
-    (subst (λ v. Stands c.args.peg.now c.args.window.now c.args.more c.args.peg.now.keys root (Answer c.args.given)
+    (subst (λ v. Stands c.args.peg.now c.args.window.now more c.args.peg.now.keys root (Answer c.args.given)
     (record { spot = c.args.frame.spot; key = c.args.frame.key; wait = v } ∷ c.args.self.now.frames)
     c.args.self.now.log.stored c.args.self.now.events c.args.self.now.begun) c.in-Turned.is s)
     (subst (λ v. c.put_run.new.self.stored ≡ run_of v (place_of c.args.frame.spot) c.in-Turned.last c.args.given
@@ -39,9 +50,6 @@ returns-in_ok-put_run-in-Turned-clause-stands c = λ root s.
     ++ c.args.self.now.log.stored) c.place.ensures c.in_ok-put_run-in-Turned.ensures.stored))
 
 pub returns-in_ok-put_run-in-Turned-clause-less : goal.returns-in_ok-put_run-in-Turned-clause-less
-returns-in_ok-put_run-in-Turned-clause-less c =
+returns-in_ok-put_run-in-Turned-clause-less c = λ more some root s.
     M.less_up c.args.peg.now c.args.window.now c.args.frame c.args.given c.args.given
     c.args.self.now.frames c.args.self.now.begun
-
-pub after_first-requires-clause-child : goal.after_first-requires-clause-child
-after_first-requires-clause-child c = c.requires.child c.in-First.is

@@ -1,8 +1,11 @@
-use Rattle.std.proofs.Common.{refl, sym, subst, ◌∙◌, arith}
+use Rattle.std.proofs.Common.{◌<◌, ◌+◌, refl, sym, subst, ◌∙◌}
 use Rattle.memo.specs.declared.found.Found.TheVariants.{Took}
 use Rattle.packrat.proofs.KeptAtLemmas.{grown_same}
+use Rattle.packrat.specs.declared.machine.Turn.TheVariants.{Ask}
 use Rattle.packrat.specs.Onward.{tail_of}
 use Rattle.packrat.specs.Stands.{NeedsMore}
+use Rattle.packrat.specs.TurnsLeft.{left}
+use Rattle.packrat.specs.View.{weight}
 use Rattle.packrat.proofs.StandsLemmas as L
 use Rattle.packrat.proofs.LeftLemmas as M
 use Rattle.packrat.proofs.machine.Machine.start_spot.Goals as goal
@@ -46,27 +49,24 @@ returns-in_ok-close-in-Marks-clause-less c = λ le.
     (record { found = Took c.place.result; events = c.in_ok-mark-in-Marks.field-0 })
     c.args.self.now.frames c.args.self.now.begun c.counted-self.result c.counted-self.ensures le c.requires.well
 
-pub lead-requires-clause-kid : goal.lead-requires-clause-kid
-lead-requires-clause-kid c = c.in-Leads.ensures
-
-pub returns-in_ok-lead-in-Leads-clause-stands : goal.returns-in_ok-lead-in-Leads-clause-stands
-returns-in_ok-lead-in-Leads-clause-stands c = λ root key fresh s.
-    c.in_ok-lead-in-Leads.ensures.stands root
-    (L.stands_as c.args.peg.now c.args.window.now c.args.more c.args.peg.now.keys refl refl refl refl
+pub returns-in_ok-push-in-Leads-clause-stands : goal.returns-in_ok-push-in-Leads-clause-stands
+returns-in_ok-push-in-Leads-clause-stands c = λ root key fresh s.
+    L.stands_as c.args.peg.now c.args.window.now c.args.more c.args.peg.now.keys refl (sym
+    c.in_ok-push-in-Leads.ensures)
+    refl refl
     (sym c.counted-self.ensures)
     (L.stands_down c.args.peg.now c.args.window.now c.args.more c.args.peg.now.keys root c.args.spot
     c.args.self.now.frames c.args.self.now.log.stored
     c.args.self.now.events c.args.self.now.begun s (λ t. fresh (key ∙ t)) c.in-Leads.kid c.args.key key
-    c.in-Leads.ensures))
+    c.in-Leads.ensures)
 
-pub returns-in_ok-lead-in-Leads-clause-less : goal.returns-in_ok-lead-in-Leads-clause-less
-returns-in_ok-lead-in-Leads-clause-less c = λ le.
-    let grows = c.lead.ensures.grows in
-    let down = M.less_down c.args.peg.now c.args.window.now c.args.spot c.in-Leads.kid c.args.key c.args.self.now.frames
-    c.args.self.now.begun c.counted-self.result c.counted-self.ensures (omega (arith, grows, le)) c.requires.well
-    c.in-Leads.ensures.0 in
-    let less = c.in_ok-lead-in-Leads.ensures.less in
-    omega (arith, down, less)
+pub returns-in_ok-push-in-Leads-clause-less : goal.returns-in_ok-push-in-Leads-clause-less
+returns-in_ok-push-in-Leads-clause-less c = λ le.
+    subst (λ v. left c.args.peg.now c.args.window.now (Ask c.in-Leads.kid) v c.counted-self.result
+    < left c.args.peg.now c.args.window.now (Ask c.args.spot) c.args.self.now.frames c.args.self.now.begun)
+    (sym c.in_ok-push-in-Leads.ensures)
+    (M.less_down c.args.peg.now c.args.window.now c.args.spot c.in-Leads.kid c.args.key c.args.self.now.frames
+    c.args.self.now.begun c.counted-self.result c.counted-self.ensures le c.requires.well c.in-Leads.ensures.0)
 
 pub returns-in_ok-wait_last-in-Passes-clause-stands : goal.returns-in_ok-wait_last-in-Passes-clause-stands
 returns-in_ok-wait_last-in-Passes-clause-stands c = λ root key fresh s.
@@ -92,29 +92,23 @@ returns-in-Need-clause-stands c = λ root key fresh s.
     c.args.self.now.frames c.args.self.now.log.stored
     c.args.self.now.events c.args.self.now.begun s (λ t. fresh (key ∙ t)) c.in-Need.ensures)
 
-pub go_into-requires-clause-well : goal.go_into-requires-clause-well
-go_into-requires-clause-well c = c.in-Enters.ensures.0.1
-
-pub go_into-requires-clause-led : goal.go_into-requires-clause-led
-go_into-requires-clause-led c = c.in-Enters.ensures.1
-
-pub returns-in_ok-go_into-in-Enters-clause-stands : goal.returns-in_ok-go_into-in-Enters-clause-stands
-returns-in_ok-go_into-in-Enters-clause-stands c = λ root key fresh s.
-    c.in_ok-go_into-in-Enters.ensures.stands root
-    (L.stands_as c.args.peg.now c.args.window.now c.args.more c.args.peg.now.keys refl refl refl refl
+pub returns-in_ok-next-in-Enters-clause-stands : goal.returns-in_ok-next-in-Enters-clause-stands
+returns-in_ok-next-in-Enters-clause-stands c = λ root key fresh s.
+    L.stands_as c.args.peg.now c.args.window.now c.args.more c.args.peg.now.keys refl refl refl refl
     (sym c.counted-self.ensures)
+    (L.stands_entered c.args.peg.now c.args.window.now c.args.more c.args.peg.now.keys root c.in-Enters.entering
+    c.wait_last-in-Enters.new.frames c.args.self.now.log.stored c.args.self.now.events
+    (c.args.self.now.begun + weight c.args.spot)
     (L.stands_pass c.args.peg.now c.args.window.now c.args.more c.args.peg.now.keys root c.args.spot
     c.args.self.now.frames c.args.self.now.log.stored
     c.args.self.now.events c.args.self.now.begun s (λ t. fresh (key ∙ t))
     (tail_of c.in-Enters.entering) c.args.key c.wait_last-in-Enters.new.frames key c.in-Enters.ensures.0
-    c.in_ok-wait_last-in-Enters.ensures))
+    c.in_ok-wait_last-in-Enters.ensures)
+    c.enter.new.frames c.in_ok-next-in-Enters.next c.in-Enters.ensures.1 c.in_ok-next-in-Enters.ensures)
 
-pub returns-in_ok-go_into-in-Enters-clause-less : goal.returns-in_ok-go_into-in-Enters-clause-less
-returns-in_ok-go_into-in-Enters-clause-less c = λ le.
-    let grows = c.go_into.ensures.grows in
-    let pass = M.less_pass c.args.peg.now c.args.window.now c.args.spot (tail_of c.in-Enters.entering) c.args.key 0
-    c.args.self.now.frames c.wait_last-in-Enters.new.frames c.args.self.now.begun c.counted-self.result
-    c.counted-self.ensures (omega (arith, grows, le)) c.requires.well c.in-Enters.ensures.0.0
-    c.in_ok-wait_last-in-Enters.ensures in
-    let less = c.in_ok-go_into-in-Enters.ensures.less in
-    omega (arith, pass, less)
+pub returns-in_ok-next-in-Enters-clause-less : goal.returns-in_ok-next-in-Enters-clause-less
+returns-in_ok-next-in-Enters-clause-less c = λ le.
+    M.less_pass_in c.args.peg.now c.args.window.now c.args.peg.now.keys c.args.spot c.in_ok-next-in-Enters.next
+    c.in-Enters.entering c.args.key 0 c.args.self.now.frames c.wait_last-in-Enters.new.frames c.enter.new.frames
+    c.args.self.now.begun c.counted-self.result c.counted-self.ensures le c.requires.well c.in-Enters.ensures.0.0
+    c.in-Enters.ensures.0.1 c.in_ok-wait_last-in-Enters.ensures c.in_ok-next-in-Enters.ensures
