@@ -7,6 +7,8 @@ import shutil
 import socket
 import subprocess
 import sys
+import threading
+import time
 
 import pytest
 
@@ -82,6 +84,65 @@ def test_what_the_server_refuses(server, wanted, changed):
     if changed.get("Origin") == "own":
         changed = {"Origin": server.split("/#")[0]}
     assert ask(server, **changed)[0] == wanted
+
+
+class Slow:
+    """Answers that take until `end` is set. Counts those that run at once, and the most that did."""
+
+    def __init__(self, monkeypatch):
+        self.end, self.lock, self.running, self.most = threading.Event(), threading.Lock(), 0, 0
+        self.client = playground.page_app(80, "secret").test_client
+        self.threads, self.statuses = [], []
+        monkeypatch.setattr(playground, "answer", self.answer)
+
+    def answer(self, asked):
+        with self.lock:
+            self.running += 1
+            self.most = max(self.most, self.running)
+        self.end.wait(20)
+        with self.lock:
+            self.running -= 1
+        return {}
+
+    def ask(self, count):
+        """Asks so many questions, each on a thread of its own."""
+        heads = {"Host": "127.0.0.1:80", "X-Fanquber-Secret": "secret"}
+        post = lambda: self.statuses.append(self.client().post("/answer", json=QUESTION, headers=heads).status_code)
+        self.threads += [threading.Thread(target=post) for _ in range(count)]
+        for it in self.threads[-count:]:
+            it.start()
+
+    def wait_for(self, holds):
+        until = time.monotonic() + 20
+        while not holds() and time.monotonic() < until:
+            time.sleep(0.01)
+        assert holds()
+
+    def join(self):
+        self.end.set()
+        for it in self.threads:
+            it.join(20)
+
+
+def test_two_run_at_a_time_and_more_wait(monkeypatch):
+    slow = Slow(monkeypatch)
+    slow.ask(5)
+    slow.wait_for(lambda: slow.running == 2)
+    time.sleep(0.3)
+    assert (slow.running, slow.statuses) == (2, [])
+    slow.join()
+    assert (slow.most, slow.statuses) == (2, [200] * 5)
+
+
+def test_who_waits_too_long_is_told_so(monkeypatch):
+    monkeypatch.setattr(playground, "WAIT", 0.1)
+    slow = Slow(monkeypatch)
+    slow.ask(2)
+    slow.wait_for(lambda: slow.running == 2)
+    slow.ask(1)
+    slow.wait_for(lambda: slow.statuses == [503])
+    slow.join()
+    assert (slow.most, sorted(slow.statuses)) == (2, [200, 200, 503])
 
 
 def test_heads_of_answers(server):

@@ -29,6 +29,10 @@ from .worker import MEGABYTE
 
 MOST = 256 * 1024
 """The bytes that a question may have."""
+AT_ONCE = 2
+"""How many answers may be made at a time."""
+WAIT = 10.0
+"""For how long, in seconds, a question waits for others before it is rejected."""
 _HERE = pathlib.Path(__file__).parent
 _EDITOR = pathlib.Path(os.environ.get("FANQUBER_CODEMIRROR") or "/usr/share/javascript/codemirror")
 _FILES = {
@@ -185,7 +189,7 @@ def page_app(port: int, secret: str) -> flask.Flask:
     app = flask.Flask(__name__, static_folder=None)
     app.config["MAX_CONTENT_LENGTH"] = MOST
     hosts = {f"127.0.0.1:{port}", f"localhost:{port}"}
-    turns = threading.BoundedSemaphore(2)
+    turns = threading.BoundedSemaphore(AT_ONCE)
     app.before_request(lambda: _refuse(hosts, secret))
 
     @app.after_request
@@ -209,7 +213,7 @@ def page_app(port: int, secret: str) -> flask.Flask:
         asked: Any = flask.request.get_json()
         if not is_question(asked):
             flask.abort(400)
-        if not turns.acquire(timeout=10):
+        if not turns.acquire(timeout=WAIT):
             flask.abort(503)
         try:
             return flask.jsonify(answer(asked))
