@@ -7,7 +7,6 @@ from typing import Any, Callable, Dict, Iterable, List, NamedTuple, Optional, Ty
 from ._library import (
     DEFAULT_LIMIT,
     AbnfJudge,
-    Answer,
     GrammarError,
     Letters,
     Mode,
@@ -182,20 +181,9 @@ class Abnf(_PerThread):
         )
         return judge
 
-    def _answers(self, lines: Iterable[Text], viable: bool) -> List[Answer]:
-        """Returns the answers to all lines."""
-        judge = self._judge(viable)
-        answers: List[Answer] = []
-        for text in map(as_bytes, lines):
-            if len(text) > self._limit:
-                out = b"".join(b"yes\n" if it.derived else b"no\n" for it in answers)
-                raise Overlong(f"line {len(answers) + 1} longer than {self._limit} bytes", out)
-            answers.append(judge.answer(text))
-        return answers
-
     def judge(self, lines: Iterable[Text]) -> List[bool]:
         """Returns for each line whether the rule derives it."""
-        return [it.derived for it in self._answers(lines, viable=False)]
+        return self._judge().derived(map(as_bytes, lines))
 
     def derives(self, line: Text) -> bool:
         """Returns whether the rule derives a line."""
@@ -209,7 +197,7 @@ class Abnf(_PerThread):
     def viable(self, line: Text) -> Optional[int]:
         """Returns None for a line that the rule derives. Of any other it returns how many letters the longest viable
         prefix has: they begin something that the rule derives, and the letter after them cannot stand there."""
-        answer = self._answers([line], viable=True)[0]
+        answer = self._judge(viable=True).answer(as_bytes(line))
         return None if answer.derived else answer.reached
 
     def refusal(self, line: Text) -> Optional[Refusal]:

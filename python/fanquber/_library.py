@@ -3,7 +3,7 @@ import ctypes
 import enum
 import os
 import threading
-from typing import Any, Dict, List, NamedTuple, Optional, Sequence, Tuple, Union
+from typing import Any, Dict, Iterable, List, NamedTuple, Optional, Sequence, Tuple, Union
 
 from .findings import Finding
 
@@ -60,6 +60,9 @@ class GrammarError(FanquberError):
         super().__init__("; ".join(notes))
         self.notes, self.findings = notes, list(findings)
 
+    def __reduce__(self) -> Tuple[Any, ...]:
+        return GrammarError, (self.notes, self.findings)
+
 
 class Overlong(FanquberError):
     """A line or a unit is longer than the limit. `out` has what was written before it."""
@@ -67,6 +70,9 @@ class Overlong(FanquberError):
     def __init__(self, message: str, out: bytes) -> None:
         super().__init__(message)
         self.out = out
+
+    def __reduce__(self) -> Tuple[Any, ...]:
+        return Overlong, (str(self), self.out)
 
 
 class OutOfMemory(FanquberError, MemoryError):
@@ -302,15 +308,30 @@ class AbnfJudge(_Opened):
     ) -> None:
         settings = _settings(limit, Mode.RUN, rule, letters=letters, viable=viable)
         super().__init__(_library.fanquber_abnf_open, _library.fanquber_abnf_close, settings, grammar, rule)
+        self._limit = limit
 
     def answer(self, line: bytes) -> Answer:
         """Returns the answer to a line. `Overlong` if it is longer than the limit."""
         got = _library.fanquber_abnf_judge(ctypes.byref(self._place), line, len(line))
-        if got.status == Status.OVERLONG:
-            raise Overlong(f"line of {len(line)} bytes is longer than the limit", b"")
-        if got.status == Status.NO_MEMORY:
-            raise OutOfMemory("out of memory")
+        self._check([got.status])
         return Answer(got.status == Status.DONE, got.reached)
+
+    def derived(self, lines: Iterable[bytes]) -> List[bool]:
+        """Returns for each line whether the rule derives it. `Overlong` if one is longer than the limit."""
+        call, place = _library.fanquber_abnf_judge, ctypes.byref(self._place)
+        statuses = [call(place, line, len(line)).status for line in lines]
+        self._check(statuses)
+        return [not status for status in statuses]
+
+    def _check(self, statuses: List[int]) -> None:
+        """Raises what the first status stands for that is no answer."""
+        if max(statuses, default=0) <= Status.NO_MATCH:
+            return
+        at = next(index for index, status in enumerate(statuses) if status > Status.NO_MATCH)
+        if statuses[at] != Status.OVERLONG:
+            raise OutOfMemory("out of memory")
+        out = b"".join(b"no\n" if status else b"yes\n" for status in statuses[:at])
+        raise Overlong(f"line {at + 1} longer than {self._limit} bytes", out)
 
 
 class PegRunner(_Opened):

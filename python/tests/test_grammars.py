@@ -1,5 +1,8 @@
 """Rules as trees, findings, refusals, files and closing. Wanted texts are those of the manual pages' examples."""
 import pathlib
+import pickle
+import subprocess
+import sys
 import threading
 
 import pytest
@@ -243,3 +246,21 @@ def test_every_message_of_the_rows_is_read():
         found = read_findings("\n".join(lines).encode())
         assert found and all(isinstance(it, Finding) for it in found)
         assert {it.message for it in found if it.code == "other"} == set(), path.name
+
+
+@pytest.mark.parametrize("module, package", [("testing", "hypothesis"), ("dask", "distributed")])
+def test_what_a_module_lacks_is_said_in_one_line(module, package):
+    script = f"import sys; sys.modules[{package!r}] = None; import fanquber.{module}"
+    ran = subprocess.run([sys.executable, "-c", script], capture_output=True, text=True)
+    said = f"ImportError: fanquber.{module} needs {package} (Debian: python3-{package})"
+    assert (ran.returncode, ran.stderr.splitlines()[-1]) == (1, said)
+
+
+def test_errors_go_from_process_to_process():
+    fault = pickle.loads(pickle.dumps(Overlong("line 2 longer than 2 bytes", b"yes\n")))
+    assert (str(fault), fault.out) == ("line 2 longer than 2 bytes", b"yes\n")
+    with pytest.raises(GrammarError) as rejected:
+        Abnf("a = b")
+    fault = pickle.loads(pickle.dumps(rejected.value))
+    assert (fault.notes, fault.findings) == (rejected.value.notes, rejected.value.findings)
+    assert fault.findings[0].code == "undefined"

@@ -88,4 +88,5 @@ def main(words):
     return 0 if is_right else 1
 
 
-sys.exit(main(sys.argv[1:]))
+if __name__ == "__main__":
+    sys.exit(main(sys.argv[1:]))
