@@ -83,9 +83,10 @@ def judge(folder):
     environment = {**os.environ, "PARALLEL_SSH": f"ssh -F {folder}/ssh", "PARALLEL": f"--joblog {folder}/log"}
     environment.update(HOSTS=",".join(HOSTS), JOBS="2")
     start = time.monotonic()
-    with open(folder / "lines", "rb") as given, open(folder / "answers", "wb") as out, open(folder / "err", "wb") as err:
+    with open(folder / "lines", "rb") as given, open(folder / "answers", "wb") as out:
         # (each block has the notes on the grammar)
-        run("sh", "hosts.sh", "-s", "date-time", cwd=folder, env=environment, stdin=given, stdout=out, stderr=err)
+        words = ["sh", "hosts.sh", "-s", "date-time"]
+        run(*words, cwd=folder, env=environment, stdin=given, stdout=out, stderr=subprocess.DEVNULL)
     taken = time.monotonic() - start
     log = [it.split("\t") for it in (folder / "log").read_text().splitlines()[1:]]
     return taken, {host: sum(it[1] == host for it in log) for host in HOSTS}
