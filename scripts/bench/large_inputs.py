@@ -68,7 +68,7 @@ def row_of(name, title, size, folder):
     for count in (it for it in PROCESSORS if it <= os.cpu_count()):
         taken, status = seconds_of(["sh", "stream.sh", "g.abnf"], count, folder)
         cells.append(f"{taken:.1f} s")
-        is_right &= status == 1 and is_wanted(folder)
+        is_right &= status == 0 and is_wanted(folder)
     _, status = seconds_of(["sh", "file.sh", "g.abnf"], min(4, os.cpu_count()), folder)
     return f"| {' | '.join(cells)} |", is_right and status == 1 and is_wanted(folder)
 
