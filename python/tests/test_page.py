@@ -157,6 +157,30 @@ def test_names_lead_to_their_rules(page):
     wait(page, lambda: page.execute_script("return document.getElementById('diagrams').scrollTop") != before)
 
 
+def test_a_link_has_all_of_it(page, server):
+    choose(page, "cut", "whole")
+    put(page, "grammar", 'a = "x"\nb = "\u00e9+/~"\n')
+    put(page, "input", "x\n\u20ac")
+    wait(page, lambda: [it.text for it in page.find_elements(By.CSS_SELECTOR, "#rule option")] == ["the first", "a", "b"])
+    choose(page, "rule", "b")
+    page.find_element(By.ID, "link").click()
+    made = page.current_url
+    assert "/#=" in made and server.split("#")[1] not in made
+    page.execute_script("sessionStorage.removeItem('question')")
+    page.get("about:blank")
+    page.get(made)
+    shown = "return [...arguments].map((id) => document.querySelector(`#${id} .CodeMirror`).CodeMirror.getValue())"
+    assert page.execute_script(shown, "grammar", "input") == ['a = "x"\nb = "\u00e9+/~"\n', "x\n\u20ac"]
+    chosen = "return [...arguments].map((id) => document.getElementById(id).value)"
+    assert page.execute_script(chosen, "kind", "rule", "cut", "letters", "ends") == ["abnf", "b", "whole", "bytes", "lf"]
+    # What is no link changes nothing, and an edit takes the link off the address
+    for wrong in ("#=AAAA", "#=!", "#=bnVsbA", "#=e30"):
+        page.execute_script("location.hash = arguments[0]", wrong)
+    assert page.execute_script(shown, "input") == ["x\n\u20ac"]
+    put(page, "input", "y")
+    wait(page, lambda: "#" not in page.current_url)
+
+
 def test_without_the_secret(server, browser):
     browser.get("about:blank")
     browser.execute_script("window.x = 1")

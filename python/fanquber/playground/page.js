@@ -79,6 +79,7 @@ function question() {
 
 async function ask() {
   const mine = ++asked, it = question();
+  if (location.hash && location.hash !== linkTo(it)) history.replaceState(null, "", location.pathname);
   sessionStorage.setItem("question", JSON.stringify(it));
   by("state").textContent = "..";
   let reply;
@@ -91,6 +92,23 @@ async function ask() {
   if (!reply.ok) return say(refused[reply.status] || `refused: ${reply.status}`, true);
   latest = await reply.json();
   if (mine === asked) show(it);
+}
+
+// All of the page as a fragment, which no browser sends to a server
+function linkTo(it) {
+  const bytes = Array.from(new TextEncoder().encode(JSON.stringify(it)), (byte) => String.fromCharCode(byte));
+  return "#=" + btoa(bytes.join("")).replaceAll("+", "-").replaceAll("/", "_").replaceAll("=", "");
+}
+
+function linked(hash) {
+  let it;
+  try {
+    const bytes = atob(hash.slice(2).replaceAll("-", "+").replaceAll("_", "/"));
+    it = JSON.parse(new TextDecoder().decode(Uint8Array.from(bytes, (byte) => byte.charCodeAt(0))));
+  } catch { return null; }
+  const isText = (id) => typeof it[id] === "string";
+  const isChoice = (id) => [...by(id).options].some((option) => option.value === it[id]);
+  return it && ["rule", "grammar", "input"].every(isText) && OPTIONS.every(isChoice) ? it : null;
 }
 
 function say(text, bad) { by("state").textContent = text; by("state").className = bad ? "bad" : ""; }
@@ -328,5 +346,7 @@ function load(it) {
 
 for (const name of Object.keys(EXAMPLES)) by("example").append(new Option(name, name));
 by("example").addEventListener("change", () => { const it = EXAMPLES[by("example").value]; if (it) load(it); });
+by("link").addEventListener("click", () => history.replaceState(null, "", linkTo(question())));
+window.addEventListener("hashchange", () => { const it = linked(location.hash); if (it) load(it); });
 const kept = sessionStorage.getItem("question");
-load(kept ? JSON.parse(kept) : EXAMPLES["ABNF: date and time (RFC 3339)"]);
+load(linked(location.hash) || (kept ? JSON.parse(kept) : EXAMPLES["ABNF: date and time (RFC 3339)"]));
