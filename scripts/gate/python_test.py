@@ -1,6 +1,6 @@
 #!/usr/bin/env python3
 """Runs the tests of the package of python/ by pytest, over the shared object and the programs in bin/, and the rules
-of its types by mypy.
+of its types by mypy, where Flask and Hypothesis are there, whose types it needs.
 
 usage: python_test.py
 
@@ -18,11 +18,11 @@ LIBRARY = TOP / "bin/libfanquber.so.2"
 SECONDS = 300
 
 
-def python_with(module):
-    """Returns a Python that has a module, or None."""
+def python_with(modules):
+    """Returns a Python that has all of some modules, or None."""
     for it in (sys.executable, "/usr/bin/python3"):
         if pathlib.Path(it).is_file():
-            found = subprocess.run([it, "-c", f"import {module}"], stderr=subprocess.DEVNULL, check=False)
+            found = subprocess.run([it, "-c", f"import {modules}"], stderr=subprocess.DEVNULL, check=False)
             if found.returncode == 0:
                 return it
     return None
@@ -42,14 +42,14 @@ def main():
     if not LIBRARY.is_file():
         print("python: `make lib` has not made the shared object: skipped")
         return 0
-    tester, checker = python_with("pytest"), python_with("mypy")
+    tester, checker = python_with("pytest"), python_with("mypy, flask, hypothesis")
     wrong = False
     if tester is None:
         print("python: no pytest (Debian: python3-pytest): skipped")
     else:
         wrong |= not run(tester, "-B", "-m", "pytest", "-q", "-rs", "-p", "no:cacheprovider", "tests")
     if checker is None:
-        print("python: no mypy (Debian: mypy): skipped")
+        print("python: no mypy, Flask or Hypothesis (Debian: mypy python3-flask python3-hypothesis): types skipped")
     else:
         wrong |= not run(checker, "-m", "mypy", f"--cache-dir={TOP / 'bin/.mypy_cache'}", "--strict", "fanquber")
     return 1 if wrong else 0
