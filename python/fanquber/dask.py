@@ -15,6 +15,7 @@ The client and the workers need this package, the shared object, and the files u
 `pip install fanquber[dask]`, or python3-distributed of Debian.
 """
 import functools
+import itertools
 import os
 import pickle
 from typing import Any, Iterator, List, NamedTuple, Sequence, Tuple, Union
@@ -28,8 +29,10 @@ try:
 except ImportError as fault:
     raise ImportError("fanquber.dask needs distributed (Debian: python3-distributed)") from fault
 
-from ._grammars import Abnf, Path
+from ._grammars import MANY, Abnf, Path
 from ._library import Overlong
+
+_SWAPPED = bytes.maketrans(b"\0\1", b"\1\0")
 
 
 class Line(NamedTuple):
@@ -52,11 +55,11 @@ class _Block(NamedTuple):
     at: int
     size: int
 
-    def lines(self) -> List[bytes]:
-        """Returns the lines without their line feeds. `OSError` if the file cannot be read."""
+    def text(self) -> bytes:
+        """Returns the bytes of the lines. `OSError` if the file cannot be read."""
         with self.fs.open(self.file, "rb") as file:
-            lines: List[bytes] = read_block(file, self.at, self.size, b"\n").split(b"\n")
-        return lines if lines[-1] else lines[:-1]
+            text: bytes = read_block(file, self.at, self.size, b"\n")
+        return text
 
 
 def judge_files(
@@ -69,10 +72,11 @@ def judge_files(
     `hdfs://`. Lines end at line feeds alone, so a carriage return belongs to its line. The last line needs no line
     feed. Both bags have the order of the files, and of the lines in each.
 
-    The workers of the client begin to judge at once, a block of about `block` bytes at a time. Each reads the grammar
-    once a thread. The cluster keeps the answers, a byte a line, while one of the bags lives. A bag is lazy, and has a
-    partition a block. Computing it, by the same client, reads the lines from the files again, so these must not change
-    before. If a worker is lost, others do its work again.
+    The workers of the client begin to judge at once, a block of about `block` bytes at a time. Each worker opens the
+    grammar once. A block of many lines is a whole run, as `Abnf.judge` makes it. The cluster keeps the answers, a byte
+    a line, while one of the bags lives. A bag is lazy, and has a partition a block. Computing it, by the same client,
+    reads the lines from the files again, so these must not change before. If a worker is lost, others do its work
+    again.
 
     `ValueError` for an empty list, and `OSError` if no file matches or a file cannot be read. Computing a bag raises
     `OSError` for a file that cannot be read or has changed, `Overlong` for a line above the grammar's limit, and
@@ -104,6 +108,12 @@ def _found(files: Union[Path, Sequence[Path]]) -> Iterator[Tuple[Any, str]]:
         yield from ((fs, path) for path in sorted(paths))
 
 
+def _lines(text: bytes) -> List[bytes]:
+    """Returns the lines of a text without their line feeds."""
+    lines = text.split(b"\n")
+    return lines if lines[-1] else lines[:-1]
+
+
 @functools.lru_cache(maxsize=8)
 def _opened(pickled: bytes) -> Abnf:
     """Returns a grammar, which a process makes once."""
@@ -113,11 +123,11 @@ def _opened(pickled: bytes) -> Abnf:
 
 def _answers(block: _Block, pickled: bytes) -> bytes:
     """Returns a byte for each line of a block: 1 if the rule derives it, else 0."""
-    lines = block.lines()
+    text, grammar = block.text(), _opened(pickled)
     try:
-        return bytes(_opened(pickled).judge(lines))
+        return grammar.answers(text) if text.count(b"\n") >= MANY else bytes(grammar.judge(_lines(text)))
     except Overlong as fault:
-        begin = lines[fault.out.count(b"\n")][:40]
+        begin = _lines(text)[fault.out.count(b"\n")][:40]
         raise Overlong(f"{block.file}, from byte {block.at} on: {fault}: {begin!r}..", fault.out) from None
 
 
@@ -134,8 +144,9 @@ def _firsts(offsets: List[int], counts: List[int]) -> List[int]:
 
 def _chosen(block: _Block, answers: bytes, firsts: List[int], index: int, derived: bool) -> List[Line]:
     """Returns the lines of a block that have an answer. `index` is that of its first number."""
-    lines = block.lines()
+    lines = _lines(block.text())
     if len(lines) != len(answers):
         raise OSError(f"{block.file} has changed since it was judged")
-    numbered = enumerate(zip(lines, answers), firsts[index])
-    return [Line(block.file, number, line) for number, (line, answer) in numbered if answer == derived]
+    marks = answers if derived else answers.translate(_SWAPPED)
+    numbers = itertools.compress(itertools.count(firsts[index]), marks)
+    return list(map(Line, itertools.repeat(block.file), numbers, itertools.compress(lines, marks)))

@@ -53,8 +53,8 @@ def test_blocks_of_all_sizes_have_each_line_once(text, lines, tmp_path):
     (tmp_path / "x").write_bytes(text)
     for size in range(1, len(text) + 3):
         starts = range(0, max(len(text), 1), size)
-        cut = [judged._Block(LocalFileSystem(), str(tmp_path / "x"), at, size).lines() for at in starts]
-        assert sum(cut, []) == lines, size
+        cut = [judged._Block(LocalFileSystem(), str(tmp_path / "x"), at, size).text() for at in starts]
+        assert sum(map(judged._lines, cut), []) == lines, size
 
 
 @pytest.mark.parametrize("block", [11, 1000])
@@ -77,6 +77,13 @@ def test_both_bags(client, tmp_path, block):
     assert derived.compute() == [it for it, answer in wanted if answer == b"yes"]
     assert refused.compute() == [it for it, answer in wanted if answer == b"no"]
     assert (derived.count().compute(), refused.count().compute()) == (23, 4)
+
+
+def test_large_blocks(client, tmp_path):
+    lines = [b"%04d-01-01" % at if at % 5 else b"%d" % at for at in range(30000)]
+    derived, refused = judge_files(Abnf(DAY), written(tmp_path, a=b"\n".join(lines)), client, block=150000)
+    assert [it.number - 1 for it in refused.compute()] == [at for at in range(30000) if len(lines[at]) != 10]
+    assert derived.count().compute() == sum(len(it) == 10 for it in lines)
 
 
 def test_lists_of_files_keep_their_order(client, tmp_path):

@@ -256,6 +256,18 @@ def test_what_a_module_lacks_is_said_in_one_line(module, package):
     assert (ran.returncode, ran.stderr.splitlines()[-1]) == (1, said)
 
 
+def test_many_lines_get_the_answers_of_each():
+    day, lines = Abnf(DAY, limit=10), [b"1985-04-12", b"1985-4-12", b"", b"2020-01-01", b"\r"] * 2001
+    assert day.judge(iter(lines)) == [True, False, False, True, False] * 2001
+    assert day.judge([*lines, b"x\ny"])[-2:] == [False, False]
+    for count in (2000, 20000):
+        with pytest.raises(Overlong) as refused:
+            day.judge([*lines[:count], b"1985-04-123", b"x"])
+        at = min(count, len(lines))
+        assert str(refused.value) == f"line {at + 1} longer than 10 bytes"
+        assert refused.value.out.count(b"\n") == at and refused.value.out.startswith(b"yes\nno\nno\nyes\n")
+
+
 def test_errors_go_from_process_to_process():
     fault = pickle.loads(pickle.dumps(Overlong("line 2 longer than 2 bytes", b"yes\n")))
     assert (str(fault), fault.out) == ("line 2 longer than 2 bytes", b"yes\n")
