@@ -1,5 +1,5 @@
 -- Hints on a grammar in ABNF: what RFC 5234 allows, and most likely is not meant. Own.
-use Rattle.std.specs.Prelude.{◌≡◌, ℕ, ◌-◌, ◌<◌, ◌≤◌, ◌==◌, Bool, List, [], ◌∷◌, ◌++◌, Option, Some, None, length, map}
+use Rattle.std.specs.Prelude.{◌≡◌, ℕ, ◌-◌, ◌<◌, ◌==◌, Bool, List, [], ◌∷◌, ◌++◌, Option, Some, None, length, map}
 use Rattle.std.specs.Prelude.{take, Contains, codes, decimal, slice_index_or}
 use Rattle.std.specs.List.{find, flat_map}
 use Rattle.abnfcheck.specs.AbnfGrammar.{IsSound}
@@ -14,7 +14,7 @@ use Rattle.abnfread.specs.AbnfKinds.{ends_list}
 use Rattle.abnfread.specs.AbnfSlices.{White, First}
 use Rattle.abnfread.specs.AbnfWords as words
 use Rattle.abnfread.specs.Element.{Rule}
-use Rattle.abnfread.specs.Numerals.{SaysNum, max_number}
+use Rattle.abnfread.specs.Numerals.{SaysNum}
 use Rattle.abnfread.specs.declared.kind.AbnfKind.{AbnfKind}
 use Rattle.lexer.specs.TokenLists.{Tok, AreTokens}
 use Rattle.diagnostics.specs.BodyMentions.{MentionedAt, mentions_in}
@@ -44,12 +44,11 @@ module _ (has : ℕ → Bool) (rules : List Rule) where
     pub derives : RuleDerives has rules id word
     pub holds : (w : List ℕ) → AreLetters has w → RuleDerives has rules id w → Contains w letter
 
--- the token of a range gives a number and a smaller one after it (RFC 5234, section 3.4), within the limit
+-- the token of a range gives a number and a smaller one after it (RFC 5234, section 3.4)
 pub record IsReversed (slice : List ℕ) : Type 0 where
   pub low : ℕ
   pub high : ℕ
   pub says : SaysNum slice (words.Range low high)
-  pub small : low ≤ max_number
   pub less : high < low
 
 -- the reversed ranges of what bodies mention, in order
