@@ -80,15 +80,15 @@ module _ (definitions : List DefinedAt) (mentions : List MentionedAt) where
       ++ (cut (name_of_head (find (λ d. d.start == m.within) definitions)) ++ (codes "'\n  line "
       ++ (decimal m.line ++ (codes ": " ++ (cut m.text ++ codes " derives nothing\n")))))
 
--- the byte that ends a line, as it is reported
+-- the byte that ends a line, and the option by which another one does
 abbrev pub end_told : LineEnd → List ℕ
-end_told AtLf = codes "%x0A"
-end_told AtNul = codes "%x00"
+end_told AtLf = codes "%x0A\n  with -z, records end with %x00 and may hold %x0A\n"
+end_told AtNul = codes "%x00\n"
 
 -- a rule that derives no line
 abbrev pub lineless_told : LineEnd → List ℕ → List ℕ
 lineless_told end name = codes "rule '" ++ (cut name ++ (codes "' derives no line\n  all that it derives holds "
-    ++ (end_told end ++ codes "\n")))
+    ++ end_told end))
 
 -- what is reported of the judged rule: that it derives no line, if it derives something
 pub data IsToldOfJudged (has : ℕ → Bool) (rules : List Rule) (end : LineEnd) : Option ℕ → List ℕ → Type 0 where
