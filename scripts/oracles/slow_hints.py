@@ -148,7 +148,8 @@ def abnf_hints(text, start, letters, end):
     last = ""
     if judged in rules.all and some[judged] < math.inf == spared[judged] and is_whole(rules, judged):
         last = (f"rule '{cut(rules.spelled.get(judged, judged).encode())}' derives no line\n"
-                f"  all that it derives holds %x{end:02X}\n")
+                f"  all that it derives holds %x{end:02X}\n"
+                + ("  with -z, records end with %x00 and may hold %x0A\n" if end == 10 else ""))
     return (told(barren) + told(turned) + last).encode("latin-1")
 
 

@@ -2,17 +2,17 @@
 -- Serves: abnf_hints
 use Rattle.std.proofs.Common.{◌≡◌, ◌↔◌, ℕ, ◌<◌, ◌≤◌, ◌-◌, ◌==◌, Bool, false, List, [], ◌∷◌, ◌++◌, length, take, refl}
 use Rattle.std.proofs.Common.{sym, ◌∙◌, ap, subst}
+use Rattle.std.specs.Char.{digit_value}
 use Rattle.std.specs.Prelude.{IsTrue}
-use Rattle.std.specs.Str.Parse.{digits_value}
-use Rattle.std.proofs.lemmas.Bool.{eqb-true}
+use Rattle.std.specs.Str.Parse.{AllDigits, digits_value}
+use Rattle.std.proofs.lemmas.Bool.{eqb-true, ltb-true}
 use Rattle.std.proofs.lemmas.List.{nil_from_length}
 use Rattle.lexer.specs.SliceEnds.{Lacks}
 use Rattle.lexer.proofs.TokenListLemmas.{cut-front}
-use Rattle.abnfread.specs.AbnfSlices.{Run, Stops, Digits, more, digits}
+use Rattle.abnfread.specs.AbnfSlices.{Run, Stops, Digits, none, more, digits}
 use Rattle.abnfread.specs.AbnfWords.{Said, Range}
 use Rattle.abnfread.specs.BaseDigits.{is_digit, Tells}
 use Rattle.abnfread.specs.Numerals.{SaysNum, says_values, says_range}
-use Rattle.abnfread.specs.declared.number.TheConstants.{MAX_VALUE}
 use Rattle.abnfread.proofs.AbnfFirstLemmas.{tells-one}
 use Rattle.abnfread.proofs.AbnfSliceLemmas.{run-end}
 use Rattle.abnfread.proofs.ByteRunLemmas.{run-to, no-digit}
@@ -20,6 +20,13 @@ use Rattle.abnfread.proofs.NumeralLemmas.{digits-run, ends-range, heads-equal, r
 use Rattle.abnfhints.specs.AbnfHints.{IsReversed}
 
 -- a text of digits
+all_run : (base : ℕ) {t : List ℕ} → Run (is_digit base) t [] → AllDigits base t
+all_run base none = tt
+all_run base (more {b} is run) = (ltb-true (digit_value b) base is, all_run base run)
+
+pub all_digits : (base : ℕ) {t : List ℕ} → Digits base t [] → AllDigits base t
+all_digits base (digits {b} is run) = (ltb-true (digit_value b) base is, all_run base run)
+
 run_digits : (base b : ℕ) (bs : List ℕ) → Run (is_digit base) (b ∷ bs) [] → Digits base (b ∷ bs) []
 run_digits base b bs (more is rest) = digits is rest
 
@@ -117,16 +124,15 @@ module _ (z t : List ℕ) (base c : ℕ) (is : z ≡ 37 ∷ c ∷ t) (tells : Te
       never s.low s.high s.cut s.low_digits s.high_digits
 
   pub reversed_as : (low high : List ℕ) (told : Bool) → base ≤ 36 → t ≡ low ++ 45 ∷ high → Digits base low []
-      → Digits base high [] → (IsTrue told ↔ ((digits_value base low ≤ MAX_VALUE)
-      × (digits_value base high < digits_value base low))) → IsTrue told ↔ IsReversed z
+      → Digits base high [] → (IsTrue told ↔ (digits_value base high < digits_value base low))
+      → IsTrue told ↔ IsReversed z
   reversed_as low high told w cut d f tell = (
-    (λ on. let p = tell.0 on in record {
+    (λ on. record {
       low = digits_value base low;
       high = digits_value base high;
       says = subst (λ v. SaysNum v (Range (digits_value base low) (digits_value base high))) (sym is)
           (says_range tells cut d f);
-      small = p.0;
-      less = p.1;
+      less = tell.0 on;
     }),
     (λ r.
         let s = same_range r.low r.high (range_in r.low r.high r.says refl) in
@@ -134,5 +140,5 @@ module _ (z t : List ℕ) (base c : ℕ) (is : z ≡ 37 ∷ c ∷ t) (tells : Te
         (no-digit base 45 36 refl w) in
         let low_is : r.low ≡ digits_value base low = s.low_is ∙ ap (digits_value base) ends.0 in
         let high_is : r.high ≡ digits_value base high = s.high_is ∙ ap (digits_value base) (tails-equal ends.1) in
-        tell.1 (rw (sym low_is) r.small, rw (sym low_is, sym high_is) r.less)),
+        tell.1 (rw (sym low_is, sym high_is) r.less)),
   )

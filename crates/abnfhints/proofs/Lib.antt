@@ -3,6 +3,7 @@ mod AbnfNamesInLemmas
 mod AreReversedLemmas
 mod BarrenNamesLemmas
 mod DerivesOnlyWithLemmas
+mod DigitsValueLemmas
 mod IsReversedLemmas
 mod RulesWithoutLemmas
 mod ToldFirstLemmas

@@ -34,12 +34,6 @@ four_pieces o a b c d u v w x f g h k =
     let whole : d ≡ (((o ++ u) ++ v) ++ w) ++ x = rw (k, h, g, f) refl in
     whole ∙ simp append_assoc
 
-pub five_pieces : (o a b c d e u v w x y : List ℕ) → a ≡ o ++ u → b ≡ a ++ v → c ≡ b ++ w → d ≡ c ++ x → e ≡ d ++ y
-    → e ≡ o ++ (u ++ (v ++ (w ++ (x ++ y))))
-five_pieces o a b c d e u v w x y f g h k l =
-    let whole : e ≡ ((((o ++ u) ++ v) ++ w) ++ x) ++ y = rw (l, k, h, g, f) refl in
-    whole ∙ simp append_assoc
-
 pub seven_pieces : (o a b c d e f g u v w x y z t : List ℕ) → a ≡ o ++ u → b ≡ a ++ v → c ≡ b ++ w → d ≡ c ++ x
     → e ≡ d ++ y → f ≡ e ++ z → g ≡ f ++ t → g ≡ o ++ (u ++ (v ++ (w ++ (x ++ (y ++ (z ++ t))))))
 seven_pieces o a b c d e f g u v w x y z t h1 h2 h3 h4 h5 h6 h7 =

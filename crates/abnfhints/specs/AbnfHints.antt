@@ -1,5 +1,5 @@
 -- Hints on a grammar in ABNF: what RFC 5234 allows, and most likely is not meant. Own.
-use Rattle.std.specs.Prelude.{◌≡◌, ℕ, ◌-◌, ◌<◌, ◌≤◌, ◌==◌, Bool, List, [], ◌∷◌, ◌++◌, Option, Some, None, length, map}
+use Rattle.std.specs.Prelude.{◌≡◌, ℕ, ◌-◌, ◌<◌, ◌==◌, Bool, List, [], ◌∷◌, ◌++◌, Option, Some, None, length, map}
 use Rattle.std.specs.Prelude.{take, Contains, codes, decimal, slice_index_or}
 use Rattle.std.specs.List.{find, flat_map}
 use Rattle.abnfcheck.specs.AbnfGrammar.{IsSound}
@@ -14,7 +14,7 @@ use Rattle.abnfread.specs.AbnfKinds.{ends_list}
 use Rattle.abnfread.specs.AbnfSlices.{White, First}
 use Rattle.abnfread.specs.AbnfWords as words
 use Rattle.abnfread.specs.Element.{Rule}
-use Rattle.abnfread.specs.Numerals.{SaysNum, max_number}
+use Rattle.abnfread.specs.Numerals.{SaysNum}
 use Rattle.abnfread.specs.declared.kind.AbnfKind.{AbnfKind}
 use Rattle.lexer.specs.TokenLists.{Tok, AreTokens}
 use Rattle.diagnostics.specs.BodyMentions.{MentionedAt, mentions_in}
@@ -44,12 +44,11 @@ module _ (has : ℕ → Bool) (rules : List Rule) where
     pub derives : RuleDerives has rules id word
     pub holds : (w : List ℕ) → AreLetters has w → RuleDerives has rules id w → Contains w letter
 
--- the token of a range gives a number and a smaller one after it (RFC 5234, section 3.4), within the limit
+-- the token of a range gives a number and a smaller one after it (RFC 5234, section 3.4)
 pub record IsReversed (slice : List ℕ) : Type 0 where
   pub low : ℕ
   pub high : ℕ
   pub says : SaysNum slice (words.Range low high)
-  pub small : low ≤ max_number
   pub less : high < low
 
 -- the reversed ranges of what bodies mention, in order
@@ -81,15 +80,15 @@ module _ (definitions : List DefinedAt) (mentions : List MentionedAt) where
       ++ (cut (name_of_head (find (λ d. d.start == m.within) definitions)) ++ (codes "'\n  line "
       ++ (decimal m.line ++ (codes ": " ++ (cut m.text ++ codes " derives nothing\n")))))
 
--- the byte that ends a line, as it is reported
+-- the byte that ends a line, and the option by which another one does
 abbrev pub end_told : LineEnd → List ℕ
-end_told AtLf = codes "%x0A"
-end_told AtNul = codes "%x00"
+end_told AtLf = codes "%x0A\n  with -z, records end with %x00 and may hold %x0A\n"
+end_told AtNul = codes "%x00\n"
 
 -- a rule that derives no line
 abbrev pub lineless_told : LineEnd → List ℕ → List ℕ
 lineless_told end name = codes "rule '" ++ (cut name ++ (codes "' derives no line\n  all that it derives holds "
-    ++ (end_told end ++ codes "\n")))
+    ++ end_told end))
 
 -- what is reported of the judged rule: that it derives no line, if it derives something
 pub data IsToldOfJudged (has : ℕ → Bool) (rules : List Rule) (end : LineEnd) : Option ℕ → List ℕ → Type 0 where

@@ -18,13 +18,13 @@ use diagnostics::push_cut;
 use ruletable::{Memory, NameCase};
 use std::alloc::Global;
 
-// Returns a byte that ends a line, as it is reported.
+// Returns the byte that ends a line, as it is reported, and the option by which another one does.
 fn told_end(end: LineEnd) -> &'static [u8]
     ensures { result.now ≡ end_told end }
 {
     match end {
-        LineEnd::Lf => b"%x0A",
-        LineEnd::Nul => b"%x00",
+        LineEnd::Lf => b"%x0A\n  with -z, records end with %x00 and may hold %x0A\n",
+        LineEnd::Nul => b"%x00\n",
     }
 }
 
@@ -53,7 +53,6 @@ fn push_lineless(out: &mut Vec<u8>, end: LineEnd, name: &[u8]) -> Result<(), Mem
     push_cut(out, name)?;
     out.extend_from_slice(b"' derives no line\n  all that it derives holds ")?;
     out.extend_from_slice(told_end(end))?;
-    out.extend_from_slice(b"\n")?;
     Ok(())
 }
 

@@ -1,13 +1,12 @@
 //! The numbers of a range.
-ghost use Rattle.std.specs.Prelude.{◌≡◌, ◌↔◌, ℕ, ◌<◌, ◌≤◌, ◌∷◌, ◌++◌, [], List, IsTrue, MatchOption};
+ghost use Rattle.std.specs.Prelude.{◌≡◌, ◌↔◌, ℕ, ◌<◌, ◌≤◌, ◌∷◌, ◌++◌, [], List, length, IsTrue, MatchOption};
 ghost use Rattle.std.specs.Char.{digit_value};
-ghost use Rattle.std.specs.Str.Parse.{digits_value};
+ghost use Rattle.std.specs.Str.Parse.{AllDigits, digits_value};
 ghost use Rattle.abnfhints.specs.AbnfHints.{IsReversed};
 ghost use Rattle.abnfread.specs.AbnfSlices.{Run, Stops, Digits};
 ghost use Rattle.abnfread.specs.BaseDigits.{is_digit as is_digit_in, Tells};
-ghost use Rattle.abnfread.specs.Numerals.{max_number};
+ghost use Rattle.lexer.specs.SliceEnds.{Lacks};
 
-use abnfread::MAX_VALUE;
 use lexer::after_byte;
 
 // Returns the number that a byte says as a digit.
@@ -90,35 +89,46 @@ fn ends_of(base: u8, digits: &[u8]) -> Option<(&[u8], &[u8])>
     }
 }
 
-// Returns the number that digits say, if it is within the limit.
-fn number_in(base: u8, digits: &[u8]) -> Option<u32>
-    requires least { 2 ≤ base }
-    requires most { base ≤ 36 }
-    ensures { MatchOption result (max_number < digits_value base digits.now)
-        (λ n. (n ≡ digits_value base digits.now) × (n ≤ max_number)) }
+// Returns the digits from the first one that is not `0`.
+fn without_zeros(digits: &[u8]) -> &[u8]
+    ensures value { (base : ℕ) → digits_value base result.now ≡ digits_value base digits.now }
+    ensures digits { (base : ℕ) → AllDigits base digits.now → AllDigits base result.now }
+    ensures first { Lacks 48 result.now }
 {
-    let mut number: u64 = 0;
     let mut rest = digits;
-    while let Some((first, tail)) = rest.split_first() {
-        number = number * u64::from(base) + u64::from(digit(*first));
-        if number > u64::from(MAX_VALUE) {
-            return None;
-        }
+    while let Some(tail) = after_byte(rest, b'0') {
         rest = tail;
     }
-    Some(number as u32)
+    rest
 }
 
-// Returns whether the first number is within the limit and the second less.
-fn is_above(base: u8, low: &[u8], high: &[u8]) -> bool
-    requires least { 2 ≤ base }
-    requires most { base ≤ 36 }
-    ensures { IsTrue result ↔ ((digits_value base low.now ≤ max_number)
-        × (digits_value base high.now < digits_value base low.now)) }
+// Returns whether the first of two numbers is the greater, given as many digits of each.
+fn is_above_by_digits(low: &[u8], high: &[u8]) -> bool
+    requires { length low.now ≡ length high.now }
+    ensures { (base : ℕ) → AllDigits base low.now → AllDigits base high.now
+        → (IsTrue result ↔ (digits_value base high.now < digits_value base low.now)) }
 {
-    match (number_in(base, low), number_in(base, high)) {
-        (Some(low), Some(high)) => high < low,
-        _ => false,
+    for (i, first) in low.iter().enumerate() {
+        let low = digit(*first);
+        let high = digit(high[i]);
+        if low != high {
+            return high < low;
+        }
+    }
+    false
+}
+
+// Returns whether the first of two numbers is the greater, given their digits.
+fn is_above(low: &[u8], high: &[u8]) -> bool
+    ensures { (base : ℕ) → 1 ≤ base → AllDigits base low.now → AllDigits base high.now
+        → (IsTrue result ↔ (digits_value base high.now < digits_value base low.now)) }
+{
+    let low = without_zeros(low);
+    let high = without_zeros(high);
+    if low.len() == high.len() {
+        is_above_by_digits(low, high)
+    } else {
+        high.len() < low.len()
     }
 }
 
@@ -130,7 +140,7 @@ pub(crate) fn is_reversed(text: &[u8]) -> bool
         return false;
     };
     match ends_of(base, digits) {
-        Some((low, high)) => is_above(base, low, high),
+        Some((low, high)) => is_above(low, high),
         None => false,
     }
 }

@@ -1,5 +1,6 @@
 -- By the digits of both ends.
-use Rattle.abnfhints.proofs.IsReversedLemmas.{no_reversed, reversed_as}
+use Rattle.std.proofs.Common.{arith}
+use Rattle.abnfhints.proofs.IsReversedLemmas.{all_digits, no_reversed, reversed_as}
 use Rattle.abnfhints.proofs.numbers.is_reversed.Goals as goal
 
 pub returns-in-Some-ends_of : goal.returns-in-Some-ends_of
@@ -7,7 +8,9 @@ returns-in-Some-ends_of c =
     let b = c.in-Some.ensures in
     let r = c.in-Some-ends_of.ensures in
     reversed_as c.args.text.now c.in-Some.digits.now c.in-Some.base b.0 b.1 b.2 c.in-Some-ends_of.low.now
-    c.in-Some-ends_of.high.now c.is_above.result b.4 r.0 r.1 r.2 c.is_above.ensures
+    c.in-Some-ends_of.high.now c.is_above.result b.4 r.0 r.1 r.2
+    (c.is_above.ensures c.in-Some.base (omega arith) (all_digits c.in-Some.base r.1)
+    (all_digits c.in-Some.base r.2))
 
 pub returns-in-None : goal.returns-in-None
 returns-in-None c = (
