@@ -55,7 +55,7 @@ def by_dask(folder, grammar):
     from distributed import Client, LocalCluster, futures_of, wait
     from fanquber.dask import judge_files
 
-    how = {"host": "127.0.0.1", "dashboard_address": None, "local_directory": str(folder)}
+    how = {"host": "127.0.0.1", "dashboard_address": None, "local_directory": str(folder), "silence_logs": "ERROR"}
     with LocalCluster(n_workers=WORKERS, threads_per_worker=1, **how) as cluster, Client(cluster) as client:
         start = time.monotonic()
         derived, refused = judge_files(grammar, folder / "lines-*.txt", client)
