@@ -92,7 +92,7 @@ HINTED = abnf("hints on a grammar", b'a = "x" b / "y"\nb = %x39-30\n', b"y\n", [
               b"rule 'b' derives nothing\n  line 2: 'b' is defined\n"
               b"reversed numbers in rule 'b'\n  line 2: %x39-30 derives nothing\n", words=["-x"])
 PEG_HINTED = peg("a hint on a choice", b"S <- 'a' / 'ab' {x}", b"a", [],
-                 b"alternative never taken in rule 'S'\n  line 1: \"ab\" behind \"a\"\n", words=["-x"])
+                 b"alternative never taken in rule 'S'\n  line 1: \"ab\" after \"a\"\n", words=["-x"])
 PRINTED = peg("a grammar printed", b"A<-('x')/[b-da^-]*", b"", [b'A <- "x" / [\\055\\136a-d]*\n'], words=PRINT)
 ALTERNATIVES = b'k = %s"Ab"\n  / "cd"\nK =/ 2*3%x78'
 LINES = b"Ab\nab\nCD\nxx\nxxxx\n"

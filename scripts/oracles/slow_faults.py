@@ -128,10 +128,12 @@ ABNF_PHRASES = [
 ]
 
 PEG_FACTS = [
+    (b"%{", '"%{", "%}", "%%" are of leg(1)'), (b"%}", '"%{", "%}", "%%" are of leg(1)'),
+    (b"%%", '"%{", "%}", "%%" are of leg(1)'), (b"@", '"@{ .. }" is of leg(1)'),
+    (b";", '";" is of leg(1): leave it out'), (b"=", 'a rule is defined by "<-": "=" is of leg(1)'),
     (b"'", "the literal has no closing quote"), (b'"', "the literal has no closing quote"),
     (b"[", 'the class has no closing "]"'), (b"{", 'the action has no closing "}"'),
-    (b"\xEF\xBB\xBF", "a byte order mark is no part of a grammar"), (b"\xE2\x86\x90", 'a rule is defined by "<-"'),
-    (b"=", 'a rule is defined by "<-"'), (b":", 'a rule is defined by "<-"'),
+    (b"\xE2\x86\x90", 'a rule is defined by "<-"'), (b":", 'a rule is defined by "<-"'),
     (b"|", 'alternatives have "/" between them'), (b"-", 'names hold letters, digits and "_"'),
 ]
 ABNF_FACTS = [
@@ -217,6 +219,33 @@ def bad_fact(token, text, facts):
     return next((f"  {told}\n" for front, told in facts if text.startswith(front, token.start)), "")
 
 
+def peg_point(front):
+    """Returns what is told of the code point that these bytes begin with, or None."""
+    for points, words in ((range(0x2018, 0x2020), "is a curly quote: literals stand in ' or \""),
+                          ([*range(0x2010, 0x2016), 0x2212], 'is a dash: write "-"'),
+                          ([0xA0, *range(0x2000, 0x200C), 0x202F, 0x3000], "is no white space: write a space"),
+                          ([0xFEFF], "is a byte order mark: a grammar has none")):
+        for point in points:
+            if front.startswith(chr(point).encode()):
+                return f"U+{point:04X} {words}"
+    return None
+
+
+def peg_mistake(text, tokens, number):
+    """Returns the line on what the token that decides shows: the first row that applies."""
+    token = tokens[number]
+    if token.kind != "Bad":
+        return ""
+    if text[:2] in (b"\xFF\xFE", b"\xFE\xFF") or b"\0" in text[:2]:
+        return "  the text is UTF-16, not UTF-8\n"
+    if told := peg_point(text[token.start:]):
+        return f"  {told}\n"
+    before = tokens[number - 1]
+    if number > 1 and before.kind == "Ident" and not token.gap and re.match(rb":[A-Za-z_]", text[token.start:]):
+        return '  "name:element" is of leg(1)\n'
+    return bad_fact(token, text, PEG_FACTS)
+
+
 def is_large(token):
     """Tells whether a number of a token of ABNF is over its limit."""
     if token.kind == "Repeat":
@@ -239,7 +268,7 @@ def peg(text):
         if not prefixes.can_stand(token.kind, False, False):
             is_code = token.kind == "Action" and number > 0 and tokens[number - 1].kind == "Amp"
             told = f"line {line}: " + ("code predicate\n" if is_code else "syntax error\n")
-            return told + where + expected(prefixes, PEG_PHRASES) + bad_fact(token, text, PEG_FACTS)
+            return told + where + expected(prefixes, PEG_PHRASES) + peg_mistake(text, tokens, number)
         depth += opens(token)
         if depth > MAX_OPEN:
             return f"line {line}: nested too deeply\n{where}200 brackets are open before it\n"

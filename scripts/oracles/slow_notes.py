@@ -188,7 +188,7 @@ class PegPlaces(Places):
         """Returns what is told of alternatives that are never taken."""
         told = [f"alternative never taken in rule '{cut(name.encode())}'\n"
                 f"  line {line}: {cut(canonical(('bytes', later)).encode())}"
-                f" behind {cut(canonical(('bytes', earlier)).encode())}\n"
+                f" after {cut(canonical(('bytes', earlier)).encode())}\n"
                 for name, e in self.rules.items()
                 for line, (later, earlier) in zip(self.literals.get(name.encode(), []), literals(e))
                 if earlier is not None]

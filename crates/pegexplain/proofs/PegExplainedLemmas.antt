@@ -18,7 +18,8 @@ use Rattle.ruletable.specs.declared.fault.ReadFault.TheVariants as faults
 use Rattle.pegexplain.specs.declared.stand.Place.{Place}
 use Rattle.pegexplain.specs.PegDecisions.{IsTokenOf, TellsKinds, NoneDecides}
 use Rattle.pegexplain.specs.PegExpected.{CanStand, phrases}
-use Rattle.pegexplain.specs.PegExplained.{token_place, token_facts, Why, hopeless, too_deep}
+use Rattle.pegexplain.specs.PegExplained.{token_place, Why, hopeless, too_deep}
+use Rattle.pegexplain.specs.PegMistakes.{mistake_told}
 use Rattle.pegexplain.specs.PegStands.{allows}
 
 -- a token of a text lies in it
@@ -47,9 +48,10 @@ module _ (text : List ℕ) (t : Tok) (within : length text ≤ MAX_GRAMMAR) wher
   pub hopeless-why : (place : Place) (told : List (List ℕ)) (why : List ℕ) →
       IsTokenOf text t (λ ts i. IsHopeless ts i × TellsKinds place ts i)
       → AreTold (λ k. allows place k ≡ true) phrases told
-      → why ≡ token_place text t ++ (codes "expected " ++ (listed told ++ (codes "\n" ++ token_facts t)))
+      → ((all : List Tok) → AreTokens (length text) text all → why ≡ token_place text t ++ (codes "expected "
+      ++ (listed told ++ (codes "\n" ++ mistake_told text all t))))
       → Why text why
-  hopeless-why place told why h tells e = rw e
+  hopeless-why place told why h tells e = rw (e h.all h.are_tokens)
       (hopeless within h.are_tokens h.there h.holds.0 (place-tells place h.all h.number h.holds.1 tells))
 
   pub deep-why : (why : List ℕ) → IsTokenOf text t IsTooDeep

@@ -16,7 +16,8 @@ use Rattle.pegread.specs.Tokens.{Tok, AreTokens}
 use Rattle.pegread.proofs.IsShallowLemmas.{shallow-take}
 use Rattle.pegread.proofs.SliceLemmas.{tokens-one}
 use Rattle.pegexplain.specs.PegExpected.{CanStand, phrases}
-use Rattle.pegexplain.specs.PegExplained.{Why, too_long, hopeless, too_deep, Explains, token_place, token_facts}
+use Rattle.pegexplain.specs.PegExplained.{Why, too_long, hopeless, too_deep, Explains, token_place}
+use Rattle.pegexplain.specs.PegMistakes.{mistake_told}
 
 abbrev Decides : List Tok → ℕ → Type 0
 Decides ts i = IsHopeless ts i ⊎ IsTooDeep ts i
@@ -53,9 +54,9 @@ not-both text all others i j t u are are' at at' h k =
     let deep : IsTooDeep all j = (let d = k in rw one.lists at d) in
     viability.not-both Viable AreWithin viable-take within-take all i h (let d = deep in rw one.numbers at d)
 
-abbrev told_lines : List ℕ → Tok → List (List ℕ) → List ℕ
-told_lines text t told =
-    token_place text t ++ (codes "expected " ++ (listed told ++ (codes "\n" ++ token_facts t)))
+abbrev told_lines : List ℕ → List Tok → Tok → List (List ℕ) → List ℕ
+told_lines text all t told =
+    token_place text t ++ (codes "expected " ++ (listed told ++ (codes "\n" ++ mistake_told text all t)))
 
 one-why : (text a b : List ℕ) → Why text a → Why text b → a ≡ b
 one-why text a b (too_long l) (too_long m) = refl
@@ -67,8 +68,9 @@ one-why text a b (hopeless {all = all} {i = i} {t = t} {told = said} w are at h 
     (hopeless {all = others} {i = j} {t = u} {told = say} v are' at' k tell) =
     let one = one-token text all others i j t u are are' at at' (inl h) (inl k) in
     let there : AreTold (CanStand all i) phrases say = (let d = tell in rw (one.lists, one.numbers) at d) in
-    ap (λ (x : Tok). told_lines text x said) one.tokens
-    ∙ ap (λ (ws : List (List ℕ)). told_lines text u ws) (one-told told there)
+    ap (λ (ts : List Tok). told_lines text ts t said) (sym one.lists)
+    ∙ ap (λ (x : Tok). told_lines text others x said) one.tokens
+    ∙ ap (λ (ws : List (List ℕ)). told_lines text others u ws) (one-told told there)
 one-why text a b (hopeless {all = all} {i = i} {t = t} w are at h told)
     (too_deep {all = others} {i = j} {t = u} v are' at' k) =
     absurd (not-both text all others i j t u are are' at at' h k)

@@ -7,6 +7,7 @@ pub mod NullTests
 pub mod PegDecisions
 pub mod PegExpected
 pub mod PegExplained
+pub mod PegMistakes
 pub mod PegStands
 pub mod PhraseRows
 pub mod PegLoops

@@ -49,7 +49,7 @@ rule_told rule = codes "alternative never taken in rule '" ++ (cut rule ++ codes
 abbrev pub hint_line : Option ℕ → List ℕ → List ℕ → List ℕ
 hint_line None later earlier = []
 hint_line (Some line) later earlier = codes "  line " ++ (decimal line ++ (codes ": " ++ (cut (text_of (Bytes later))
-    ++ (codes " behind " ++ (cut (text_of (Bytes earlier)) ++ codes "\n")))))
+    ++ (codes " after " ++ (cut (text_of (Bytes earlier)) ++ codes "\n")))))
 
 -- where it is known on which lines the literals of a rule stand
 module _ (lines : List ℕ → List ℕ) where

@@ -9,6 +9,7 @@ mod left_lines;
 mod left_notes;
 mod left_uses;
 mod loops;
+mod mistakes;
 mod notes;
 mod nulls;
 mod phrases;

@@ -55,7 +55,7 @@ fn push_line(
     push_number(out, line)?;
     out.extend_from_slice(b": ")?;
     push_literal(alloc, out, later)?;
-    out.extend_from_slice(b" behind ")?;
+    out.extend_from_slice(b" after ")?;
     push_literal(alloc, out, earlier)?;
     out.extend_from_slice(b"\n")?;
     Ok(())

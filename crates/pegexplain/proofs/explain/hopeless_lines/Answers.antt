@@ -6,7 +6,7 @@ returns c =
     let told = c.in_ok-push_expected.ensures in (
       told.0,
       told.1,
-      five-join _ _ _ _ _ _ _ _ _ _ _ c.new-out.ensures.items c.in_ok-push_token_place.ensures
+      λ all are. five-join _ _ _ _ _ _ _ _ _ _ _ c.new-out.ensures.items c.in_ok-push_token_place.ensures
           c.in_ok-extend_from_slice.ensures.items told.2 c.in_ok-extend_from_slice-2.ensures.items
-          c.in_ok-push_token_facts.ensures,
+          (c.in_ok-push_mistake.ensures all are),
     )
