@@ -137,8 +137,8 @@ PEG_FACTS = [
     (b"|", 'alternatives have "/" between them'), (b"-", 'names hold letters, digits and "_"'),
 ]
 ABNF_FACTS = [
-    (b"\xEF\xBB\xBF", "a byte order mark is no part of a grammar"), (b"|", 'alternatives have "/" between them'),
-    (b":", 'a rule is defined by "="'), (b"_", 'names hold letters, digits and "-"'),
+    (b"|", 'alternatives have "/" between them'), (b":", 'a rule is defined by "="'),
+    (b"_", 'names hold letters, digits and "-"'),
     (b"#", '"#" is no part of ABNF in RFC 5234; lists of RFC 9110, section 5.6.1, are to be written out'),
     (b"'", "texts stand in double quotes"),
     (b'"', "the text has no closing quote, or holds a byte that is not %x20-7E"),
@@ -287,6 +287,48 @@ def line_facts(text, tokens, number):
     return facts
 
 
+OPERANDS = {"Name", "Text", "Num", "Prose", "RParen", "RBrack"}
+BEGIN = {"Name", "Text", "Num", "Prose", "LParen", "LBrack"}
+POINTS = [
+    ("\u2018-\u201f", 'a curly quote: texts stand in "'), ("\u2010-\u2015\u2212", 'a dash: write "-"'),
+    ("\xa0\u2000-\u200b\u202f\u3000", "no white space: write a space"),
+    ("\ufeff", "a byte order mark: a grammar has none"),
+]
+
+
+def mistake(text, tokens, number):
+    """Returns the line of the first usual mistake that shows, without its end; None if none does."""
+    token, before = tokens[number], tokens[number - 1] if number else None
+    kind, ahead, was = token.kind, text[token.start:], before.kind if before else None
+    bad, tight = kind == "Bad", not token.gap
+    if bad and (text[:2] in (b"\xFF\xFE", b"\xFE\xFF") or 0 in text[:2]):
+        return "the text is UTF-16, not UTF-8"
+    if bad and ahead[:1] == b"\r" or kind == "End" and b"\r" in text and b"\n" not in text:
+        return "lines end with LF or CR LF, not CR"
+    if tight and ahead[:1] == b'"' and was == "Text" and before.text.endswith(b'\\"'):
+        return "a double quote is DQUOTE: texts have no escapes"
+    if tight and kind == was == "Slash" or bad and ahead[:1] == b"#" and (token.first or ahead[1:2] in b" \t\r\n#!"):
+        return 'comments begin with ";"'
+    if tight and was == "Num" and (kind == "Name" or kind == "Repeat" and ahead[:1].isdigit()):
+        return "a number is %x, %d or %b and digits"
+    if not bad and was == "Repeat" or tight and kind == "Repeat" and was in OPERANDS or re.match(rb"\{[0-9,]", ahead):
+        return "a repetition stands before its element: 2*3DIGIT"
+    if tight and not token.first and kind in BEGIN and was in OPERANDS:
+        return "elements have white space between them"
+    if bad and ahead[0] >= 0x80:
+        point = next((it for size in (2, 3) if (it := ahead[:size].decode(errors="replace")) != "\ufffd"), "\ufffd")
+        for those, told in POINTS:
+            if re.match(f"[{those}]", point):
+                return f"U+{ord(point[0]):04X} is {told}"
+    if bad and tight and ahead[:1] == b"+" and before and was == "Name" and before.text in (b"U", b"u"):
+        return "a code point is written %x41"
+    if bad and was in ("Num", "Text") and re.match(rb'-[ \t]*[%"0-9A-Fa-f]|\.\.', ahead):
+        return "a range is written %x30-39"
+    if bad and ahead[:1] == b"-" and was in OPERANDS:
+        return "ABNF has no exceptions"
+    return None
+
+
 def abnf(text):
     """Returns what is told of the fault of a grammar for abnfi, and explains it; None if it has none."""
     tokens, prefixes, depth = tokens_of(text, ABNF_WHITE, ABNF_TOKENS, False), Prefixes(ABNF_RULES), 0
@@ -294,7 +336,9 @@ def abnf(text):
     for number, token in enumerate(tokens):
         line, where = text.count(b"\n", 0, token.start) + 1, place(text, token, rb"\r?\n")
         if not prefixes.can_stand(token.kind, token.gap, token.first):
+            told = mistake(text, tokens, number)
             facts = bad_fact(token, text, ABNF_FACTS) + line_facts(text, tokens, number)
+            facts = f"  {told}\n" if told else facts
             return f"line {line}: syntax error\n{where}{expected(prefixes, ABNF_PHRASES)}{facts}"
         if is_large(token):
             return f"line {line}: number too large\n{where}above 4294967295\n"

@@ -3,7 +3,7 @@ use Rattle.std.specs.Prelude.{◌≡◌, ℕ, ◌<◌, ◌≤◌, ◌&&◌, Bool
 use Rattle.std.specs.Prelude.{Option, Some, None, codes, decimal, if◌then◌else◌}
 use Rattle.lexer.specs.TokenLists.{tok, kind_of, start_of}
 use Rattle.lexer.specs.GrammarLimits.{max_grammar}
-use Rattle.diagnostics.specs.FirstBytes.{Row, first_told}
+use Rattle.diagnostics.specs.FirstBytes.{Row, fact_line, first_told}
 use Rattle.diagnostics.specs.LinesAround.{bytes_before}
 use Rattle.diagnostics.specs.PhraseLists.{listed}
 use Rattle.diagnostics.specs.Pictures.{place_told}
@@ -17,6 +17,7 @@ use Rattle.ruletable.specs.declared.fault.ReadFault.TheVariants.{Memory}
 use Rattle.ruletable.specs.declared.lines.LineRule.TheVariants.{Lf}
 use Rattle.abnfexplain.specs.AbnfDecisions.{first_marked, last_marked}
 use Rattle.abnfexplain.specs.AbnfExpected.{CanStand, phrases}
+use Rattle.abnfexplain.specs.AbnfMistakes.{shown_mistake}
 use Rattle.abnfexplain.specs.AbnfStands.{defines}
 
 -- what stands before what is reported of a token: its position, but for the end
@@ -27,8 +28,7 @@ token_place text (marked (tok _ z p) g f) = place_told Lf text p.start
 -- what the first bytes of what begins no token show
 abbrev pub bad_rows : List Row
 bad_rows =
-    record { begins = 0xEF ∷ 0xBB ∷ 0xBF ∷ []; told = codes "a byte order mark is no part of a grammar" }
-    ∷ record { begins = codes "|"; told = codes "alternatives have \"/\" between them" }
+    record { begins = codes "|"; told = codes "alternatives have \"/\" between them" }
     ∷ record { begins = codes ":"; told = codes "a rule is defined by \"=\"" }
     ∷ record { begins = codes "_"; told = codes "names hold letters, digits and \"-\"" }
     ∷ record {
@@ -81,9 +81,18 @@ name_fact text (Some o) (Some b) m = if is_later_name b && defines (kind_of (tok
 name_fact text (Some o) None m = []
 name_fact text None b m = []
 
--- what is reported of a token after those that can stand there, by the text's first token and the one before it
+-- what is reported of a token that shows no usual mistake, by the text's first token and the one before it
+abbrev pub other_facts : List ℕ → Option Marked → Option Marked → Marked → List ℕ
+other_facts text o b m = bad_fact m ++ (line_fact text o m ++ name_fact text o b m)
+
+-- the line of a mistake, or else other facts
+abbrev pub facts_by : Option (List ℕ) → List ℕ → List ℕ
+facts_by None facts = facts
+facts_by (Some told) facts = fact_line told
+
+-- what is reported of a token after those that can stand there
 abbrev pub token_facts : List ℕ → Option Marked → Option Marked → Marked → List ℕ
-token_facts text o b m = bad_fact m ++ (line_fact text o m ++ name_fact text o b m)
+token_facts text o b m = facts_by (shown_mistake text b m) (other_facts text o b m)
 
 -- The lines that explain why the text is no grammar.
 pub data Why (text : List ℕ) : List ℕ → Type 0 where

@@ -7,3 +7,5 @@ pub mod AbnfStands
 pub mod ChainLines
 pub mod LargeRuns
 pub mod AbnfNoteLines
+pub mod AbnfMistakes
+pub mod AbnfMistakeRows

@@ -4,6 +4,7 @@ ghost use Rattle.std.specs.Option.{option_map};
 ghost use Rattle.lexer.specs.GrammarLimits.{max_grammar};
 ghost use Rattle.lexer.specs.TokenLists.{Tok};
 ghost use Rattle.diagnostics.specs.FactRows.{row_of};
+ghost use Rattle.diagnostics.specs.FirstBytes.{fact_line};
 ghost use Rattle.diagnostics.specs.PhraseLists.{listed};
 ghost use Rattle.diagnostics.specs.ToldPhrases.{AreTold};
 ghost use Rattle.abnfread.specs.AbnfReading.{IsFaultOf};
@@ -11,12 +12,14 @@ ghost use Rattle.abnfread.specs.MarkedTokens.{AreTokens, marked_of};
 ghost use Rattle.abnfexplain.specs.AbnfDecisions.{NoneDecides};
 ghost use Rattle.abnfexplain.specs.AbnfExpected.{phrases};
 ghost use Rattle.abnfexplain.specs.AbnfExplained.{bad_rows, token_place, bad_fact, indent, line_fact, name_fact};
-ghost use Rattle.abnfexplain.specs.AbnfExplained.{is_later_name as later_name, token_facts, Why, Explains};
+ghost use Rattle.abnfexplain.specs.AbnfExplained.{is_later_name as later_name, other_facts, token_facts};
+ghost use Rattle.abnfexplain.specs.AbnfExplained.{Why, Explains};
 ghost use Rattle.abnfexplain.specs.AbnfPlaces.{place_allows};
 ghost use Rattle.abnfexplain.specs.AbnfStands.{defines as defining};
 ghost use Rattle.abnfread.specs.declared.marks.MarkedToken.{MarkedToken as Marks};
 
 use crate::abnf_decide::{Decision, Refused, deciding_token};
+use crate::abnf_mistakes::shown_mistake;
 use crate::abnf_phrases::told_phrases;
 use crate::abnf_stand::Place;
 use abnfread::{AbnfKind, MarkedToken};
@@ -25,11 +28,7 @@ use lexer::tokens_make_up;
 use ruletable::{LineRule, Memory, ReadFault};
 use std::alloc::Global;
 
-static BAD_FACTS: [Fact; 12] = [
-    Fact {
-        begins: b"\xEF\xBB\xBF",
-        told: b"a byte order mark is no part of a grammar",
-    },
+static BAD_FACTS: [Fact; 11] = [
     Fact {
         begins: b"|",
         told: b"alternatives have \"/\" between them",
@@ -198,6 +197,35 @@ fn push_expected(alloc: Global, out: &mut Vec<u8>, place: &Place) -> Result<(), 
     Ok(())
 }
 
+// Adds what is reported of a token that shows no usual mistake.
+fn push_other_facts(
+    out: &mut Vec<u8>,
+    text: &[u8],
+    origin: Option<MarkedToken<'_>>,
+    before: Option<MarkedToken<'_>>,
+    token: MarkedToken<'_>,
+) -> Result<(), Memory>
+    requires first { (o : Marks) → origin ≡ Some o → o.token.span.start ≤ length text.now }
+    requires within { token.token.span.start ≤ length text.now }
+    ensures { OnOk result (out.new.items ≡ out.old.items ++ other_facts text.now (option_map marked_of origin.entry)
+        (option_map marked_of before.entry) (marked_of token.entry)) }
+{
+    push_bad_fact(out, token)?;
+    push_line_fact(out, text, origin, token)?;
+    push_name_fact(out, text, origin, before, token)?;
+    Ok(())
+}
+
+// Adds the line of a mistake.
+fn push_mistake(out: &mut Vec<u8>, told: &[u8]) -> Result<(), Memory>
+    ensures { OnOk result (out.new.items ≡ out.old.items ++ fact_line told.now) }
+{
+    out.extend_from_slice(b"  ")?;
+    out.extend_from_slice(told)?;
+    out.extend_from_slice(b"\n")?;
+    Ok(())
+}
+
 // Adds what is reported after what can stand there.
 fn push_token_facts(
     out: &mut Vec<u8>,
@@ -211,10 +239,10 @@ fn push_token_facts(
     ensures { OnOk result (out.new.items ≡ out.old.items ++ token_facts text.now (option_map marked_of origin.entry)
         (option_map marked_of before.entry) (marked_of token.entry)) }
 {
-    push_bad_fact(out, token)?;
-    push_line_fact(out, text, origin, token)?;
-    push_name_fact(out, text, origin, before, token)?;
-    Ok(())
+    match shown_mistake(text, before, token) {
+        Some(told) => push_mistake(out, told),
+        None => push_other_facts(out, text, origin, before, token),
+    }
 }
 
 // The lines on a token that goes on no grammar.

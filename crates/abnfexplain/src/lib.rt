@@ -3,6 +3,7 @@
 
 mod abnf_decide;
 mod abnf_explain;
+mod abnf_mistakes;
 mod abnf_phrases;
 mod abnf_stand;
 mod chain_lines;

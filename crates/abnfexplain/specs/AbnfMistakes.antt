@@ -1,0 +1,240 @@
+-- The usual mistakes in a grammar in ABNF: a table of what shows one, by the token that decides and the one before it.
+use Prim.Native.Char.{code}
+use Rattle.std.specs.Prelude.{ℕ, zero, suc, ◌+◌, ◌-◌, ◌/◌, ◌%◌, ◌==◌, ◌&&◌, ◌||◌, not, Bool, true, false}
+use Rattle.std.specs.Prelude.{if◌then◌else◌, List, [], ◌∷◌, ◌++◌, drop, length, slice_index, Option, Some, None, codes}
+use Rattle.std.specs.Fmt.{digit_glyph}
+use Rattle.std.specs.List.{list_any, starts_with}
+use Rattle.lexer.specs.TokenLists.{tok}
+use Rattle.abnfread.specs.declared.kind.AbnfKind.{AbnfKind}
+use Rattle.abnfread.specs.declared.kind.AbnfKind.TheVariants.{Name, Is, Adds, Slash, LParen, RParen, LBrack, RBrack}
+use Rattle.abnfread.specs.declared.kind.AbnfKind.TheVariants.{Repeat, Text, Num, Prose, Bad, End}
+use Rattle.abnfread.specs.MarkedTokens.{Marked, marked}
+use Rattle.diagnostics.specs.FirstBytes.{Row}
+use Rattle.abnfexplain.specs.declared.abnf_mistakes.Marks.{Marks}
+use Rattle.abnfexplain.specs.declared.abnf_mistakes.Marks.TheVariants.{Any, Tight, Within, First}
+
+abbrev pub kind_number : AbnfKind → ℕ
+kind_number Name = 0
+kind_number Is = 1
+kind_number Adds = 2
+kind_number Slash = 3
+kind_number LParen = 4
+kind_number RParen = 5
+kind_number LBrack = 6
+kind_number RBrack = 7
+kind_number Repeat = 8
+kind_number Text = 9
+kind_number Num = 10
+kind_number Prose = 11
+kind_number Bad = 12
+kind_number End = 13
+
+-- one of these kinds
+abbrev pub has_kind : List AbnfKind → AbnfKind → Bool
+has_kind kinds kind = list_any (λ k. kind_number k == kind_number kind) kinds
+
+-- these marks: no white space before it; that, and not the first of a line that begins a rule; such a first one
+abbrev pub has_marks : Marks → Bool → Bool → Bool
+has_marks Any gap first = true
+has_marks Tight gap first = not gap
+has_marks Within gap first = not gap && not first
+has_marks First gap first = first
+
+-- A mistake: kinds and marks of the token that decides, its first bytes, the byte after these and blanks, or the end;
+-- kinds of the token before it, and its last bytes or all; what is reported.
+pub record Mistake : Type 0 where
+  pub kinds : List AbnfKind
+  pub marks : Marks
+  pub begins : List ℕ
+  pub blanks : Bool
+  pub next : List ℕ
+  pub ends : Bool
+  pub before : List AbnfKind
+  pub word : List ℕ
+  pub whole : Bool
+  pub told : List ℕ
+
+abbrev pub operands : List AbnfKind
+operands = Name ∷ Text ∷ Num ∷ Prose ∷ RParen ∷ RBrack ∷ []
+
+abbrev pub begin_elements : List AbnfKind
+begin_elements = Name ∷ Text ∷ Num ∷ Prose ∷ LParen ∷ LBrack ∷ []
+
+abbrev pub all_but_bad : List AbnfKind
+all_but_bad = Name ∷ Is ∷ Adds ∷ Slash ∷ LParen ∷ RParen ∷ LBrack ∷ RBrack ∷ Repeat ∷ Text ∷ Num ∷ Prose ∷ End ∷ []
+
+-- by kinds and marks, the first bytes, and the kinds before
+abbrev pub mistake : List AbnfKind → Marks → List ℕ → List AbnfKind → List ℕ → Mistake
+mistake kinds marks begins before told = record {
+  kinds = kinds;
+  marks = marks;
+  begins = begins;
+  blanks = false;
+  next = [];
+  ends = false;
+  before = before;
+  word = [];
+  whole = false;
+  told = told;
+}
+
+-- .. where one of those bytes follows the first ones
+abbrev pub mistake_next : List AbnfKind → Marks → List ℕ → List ℕ → List AbnfKind → List ℕ → Mistake
+mistake_next kinds marks begins next before told = record (mistake kinds marks begins before told) { next = next }
+
+-- .. where the token before ends so
+abbrev pub mistake_after : Marks → List ℕ → AbnfKind → List ℕ → Bool → List AbnfKind → List ℕ → Mistake
+mistake_after marks begins before word whole kinds told =
+    record (mistake kinds marks begins (before ∷ []) told) { word = word; whole = whole }
+
+abbrev pub comment_told : List ℕ
+comment_told = codes "comments begin with \";\""
+
+abbrev pub repetition_told : List ℕ
+repetition_told = codes "a repetition stands before its element: 2*3DIGIT"
+
+abbrev pub range_told : List ℕ
+range_told = codes "a range is written %x30-39"
+
+abbrev pub number_told : List ℕ
+number_told = codes "a number is %x, %d or %b and digits"
+
+abbrev pub point_told : List ℕ
+point_told = codes "a code point is written %x41"
+
+abbrev pub digit_bytes : List ℕ
+digit_bytes = codes "0123456789"
+
+abbrev pub range_bytes : List ℕ
+range_bytes = codes "%\"0123456789ABCDEFabcdef"
+
+-- The mistakes, in the order in which they are looked for.
+abbrev pub mistakes : List Mistake
+mistakes =
+    mistake (Bad ∷ []) Any (codes "\r") [] (codes "lines end with LF or CR LF, not CR")
+    ∷ mistake_after Tight (codes "\"") Text (codes "\\\"") false []
+    (codes "a double quote is DQUOTE: texts have no escapes")
+    ∷ mistake (Slash ∷ []) Tight [] (Slash ∷ []) comment_told ∷ mistake (Bad ∷ []) First (codes "#") [] comment_told
+    ∷ record (mistake_next (Bad ∷ []) Any (codes "#") (codes " \t\r\n#!") [] comment_told) { ends = true }
+    ∷ mistake (Name ∷ []) Tight [] (Num ∷ []) number_told
+    ∷ mistake_next (Repeat ∷ []) Tight [] digit_bytes (Num ∷ []) number_told
+    ∷ mistake all_but_bad Any [] (Repeat ∷ []) repetition_told ∷ mistake (Repeat ∷ []) Tight [] operands repetition_told
+    ∷ mistake_next (Bad ∷ []) Any (codes "{") (code "," ∷ digit_bytes) [] repetition_told
+    ∷ mistake begin_elements Within [] operands (codes "elements have white space between them")
+    ∷ mistake_after Tight (codes "+") Name (codes "U") true (Bad ∷ []) point_told
+    ∷ mistake_after Tight (codes "+") Name (codes "u") true (Bad ∷ []) point_told
+    ∷ record (mistake_next (Bad ∷ []) Any (codes "-") range_bytes (Num ∷ Text ∷ []) range_told) {
+      blanks = true;
+    }
+    ∷ mistake (Bad ∷ []) Any (codes "..") (Num ∷ Text ∷ []) range_told
+    ∷ mistake (Bad ∷ []) Any (codes "-") operands (codes "ABNF has no exceptions") ∷ []
+
+-- without the spaces and tabs before it
+abbrev pub after_blanks : List ℕ → List ℕ
+after_blanks [] = []
+after_blanks (b ∷ bs) = if (b == code " ") || (b == code "\t") then after_blanks bs else b ∷ bs
+
+abbrev pub has_byte : List ℕ → ℕ → Bool
+has_byte text byte = list_any (λ b. b == byte) text
+
+-- one of those bytes comes next, if there are any; or the text ends, if it may
+abbrev pub comes_next : List ℕ → Bool → List ℕ → Bool
+comes_next next ends text = (length next == 0)
+    || (if length text == 0 then ends else has_byte next (slice_index text 0))
+
+abbrev pub equals : ℕ → ℕ → Bool
+equals a b = a == b
+
+-- a token's bytes are those of the row
+abbrev pub has_bytes : Mistake → List ℕ → Bool
+has_bytes row z = starts_with equals z row.begins && comes_next row.next row.ends
+    (if row.blanks then after_blanks (drop (length row.begins) z) else drop (length row.begins) z)
+
+-- a token ends with that word, or is it
+abbrev pub has_word : List ℕ → Bool → List ℕ → Bool
+has_word word whole z = starts_with equals (drop (length z - length word) z) word
+    && (not whole || (length z == length word))
+
+-- the token before is that of the row
+abbrev pub is_after : Mistake → Option Marked → Bool
+is_after row None = length row.before == 0
+is_after row (Some (marked (tok kind z p) gap first)) = (length row.before == 0)
+    || (has_kind row.before kind && has_word row.word row.whole z)
+
+-- the token that decides is, and the one before it
+abbrev pub is_mistake : Mistake → Option Marked → Marked → Bool
+is_mistake row before (marked (tok kind z p) gap first) = ((length row.kinds == 0) || has_kind row.kinds kind)
+    && (has_marks row.marks gap first && (has_bytes row z && is_after row before))
+
+-- the first that applies
+abbrev pub first_mistake : List Mistake → Option Marked → Marked → Option (List ℕ)
+first_mistake [] before m = None
+first_mistake (row ∷ rows) before m = if is_mistake row before m then Some row.told else first_mistake rows before m
+
+-- a code point in four hexadecimal digits
+abbrev pub point_digits : ℕ → List ℕ
+point_digits c = digit_glyph true (c / 0x1000) ∷ digit_glyph true (c / 0x100 % 16) ∷ digit_glyph true (c / 16 % 16)
+    ∷ digit_glyph true (c % 16) ∷ []
+
+-- the row of a code point from 0x800 to 0xFFFF: its bytes in UTF-8 (RFC 3629, section 3)
+abbrev pub point_row : List ℕ → ℕ → Row
+point_row told c = record {
+  begins = (0xE0 + c / 0x1000) ∷ (0x80 + c / 64 % 64) ∷ (0x80 + c % 64) ∷ [];
+  told = codes "U+" ++ (point_digits c ++ told);
+}
+
+-- the rows of so many code points from one on
+abbrev pub point_rows : List ℕ → ℕ → ℕ → List Row
+point_rows told c zero = []
+point_rows told c (suc n) = point_row told c ∷ point_rows told (c + 1) n
+
+abbrev pub quote_told : List ℕ
+quote_told = codes " is a curly quote: texts stand in \""
+
+abbrev pub dash_told : List ℕ
+dash_told = codes " is a dash: write \"-\""
+
+abbrev pub space_told : List ℕ
+space_told = codes " is no white space: write a space"
+
+-- the code points that are taken for characters of ABNF
+abbrev pub wrong_points : List Row
+wrong_points =
+    point_rows quote_told 0x2018 8 ++ (point_rows dash_told 0x2010 6 ++ (point_row dash_told 0x2212
+    ∷ record { begins = 0xC2 ∷ 0xA0 ∷ []; told = codes "U+00A0" ++ space_told }
+    ∷ (point_rows space_told 0x2000 12 ++ (point_row space_told 0x202F ∷ point_row space_told 0x3000
+    ∷ point_row (codes " is a byte order mark: a grammar has none") 0xFEFF ∷ []))))
+
+abbrev pub first_row : List Row → List ℕ → Option (List ℕ)
+first_row [] z = None
+first_row (row ∷ rows) z = if starts_with equals z row.begins then Some row.told else first_row rows z
+
+-- a text in UTF-16: it begins with a byte order mark of it, or a NUL is one of its first two bytes
+abbrev pub is_utf16 : List ℕ → Bool
+is_utf16 [] = false
+is_utf16 (a ∷ []) = a == 0
+is_utf16 (a ∷ b ∷ bs) = (a == 0) || (b == 0) || ((a == 0xFF) && (b == 0xFE)) || ((a == 0xFE) && (b == 0xFF))
+
+-- the text has a CR and no LF
+abbrev pub ends_in_cr : List ℕ → Bool
+ends_in_cr text = has_byte text (code "\r") && not (has_byte text (code "\n"))
+
+-- what a text as a whole shows, at what begins no token and at the end
+abbrev pub text_mistake : List ℕ → AbnfKind → Option (List ℕ)
+text_mistake text Bad = if is_utf16 text then Some (codes "the text is UTF-16, not UTF-8") else None
+text_mistake text End = if ends_in_cr text then Some (codes "lines end with LF or CR LF, not CR") else None
+text_mistake text _ = None
+
+-- a code point that is taken for a character of ABNF
+abbrev pub point_mistake : AbnfKind → List ℕ → Option (List ℕ)
+point_mistake Bad z = first_row wrong_points z
+point_mistake _ z = None
+
+abbrev pub or_else : Option (List ℕ) → Option (List ℕ) → Option (List ℕ)
+or_else None other = other
+or_else (Some z) other = Some z
+
+-- the mistake that the token that decides shows
+abbrev pub shown_mistake : List ℕ → Option Marked → Marked → Option (List ℕ)
+shown_mistake text before (marked (tok kind z p) gap first) = or_else (text_mistake text kind)
+    (or_else (first_mistake mistakes before (marked (tok kind z p) gap first)) (point_mistake kind z))
