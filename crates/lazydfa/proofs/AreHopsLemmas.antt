@@ -1,112 +1,163 @@
 -- Known cells that lead to states.
 -- Serves: judge, viable.
-use Rattle.std.proofs.Common.{◌≡◌, ℕ, ◌+◌, ◌*◌, ◌/◌, ◌<◌, ◌≤◌, Bool, true, false, List, [], length, refl, sym, ◌∙◌}
-use Rattle.std.proofs.Common.{subst, arith, ◌⊎◌, inl, inr, if◌then◌else◌}
-use Rattle.std.proofs.Math.ListN.{set}
-use Rattle.std.proofs.lemmas.Bool.{cases_lt}
+use Rattle.std.proofs.Common.{◌≡◌, ℕ, ◌+◌, ◌*◌, ◌/◌, ◌^◌, ◌<◌, ◌≤◌, Bool, true, false, List, [], length, refl, sym, ◌∙◌}
+use Rattle.std.proofs.Common.{subst, arith, ◌⊎◌, inl, inr}
 use Rattle.std.specs.Prelude.{slice_get, Some, Contains}
 use Rattle.flatgrammar.specs.declared.tables.Tables as code_flat
-use Rattle.flatgrammar.proofs.InnerLemmas.{set_same, set_other}
 use Rattle.lazydfa.specs.declared.conts.Cont.{Cont}
 use Rattle.lazydfa.specs.declared.cache.State.{State}
 use Rattle.lazydfa.specs.declared.cache.Cell.TheVariants.{To}
-use Rattle.lazydfa.specs.declared.hops.Hop.{Hop}
-use Rattle.lazydfa.specs.declared.hops.Hop.TheVariants.{Unknown, Runs, Ends}
 use Rattle.lazydfa.specs.Conts.{AreKept}
 use Rattle.lazydfa.specs.Cached.{AreGrown, Grows, IsCache, IsCell}
-use Rattle.lazydfa.specs.Hops.{IsHopTo, IsHop, AreHops, IsHopMade, AreHopsNoted}
+use Rattle.lazydfa.specs.Hops.{AreHops, AreHopsNoted, IsEndAt, IsEndMade, IsHop, IsHopMade, IsHopPut, IsHopTo, last_word}
 use Rattle.lazydfa.specs.Memos.{AreUnfolds, IsMemo}
 use Rattle.lazydfa.specs.declared.memo.Memo.{Memo}
 use Rattle.lazydfa.proofs.AreCachedLemmas.{cached_none, cell_kept, grown_at, row_is, class_is}
 use Rattle.lazydfa.proofs.IsOverLemmas.{unfolds_kept, unfolds_none}
-use Rattle.lazydfa.proofs.IsAtLemmas.{some_at}
 
--- growth keeps a hop
+-- growth keeps a word
 module _ (tables : code_flat.Tables) (samples : List ℕ) (old new : List Cont) (states more : List State)
     (kept : AreKept old new) (grown : AreGrown states more) (within : (s : ℕ) (state : State)
     → slice_get states s ≡ Some state → (id : ℕ) → Contains state.tops.items id → id ≤ length old) where
-  hop_to_kept : (i r : ℕ) (ended : Bool) → IsHopTo tables samples old states i r ended
-      → IsHopTo tables samples new more i r ended
-  hop_to_kept i r ended h = record {
+  hop_to_kept : (i r : ℕ) → IsHopTo tables samples old states i r → IsHopTo tables samples new more i r
+  hop_to_kept i r h = record {
     to = h.to;
-    there = h.there;
-    there_is = grown_at states more grown h.to h.there h.there_is;
-    ended_is = h.ended_is;
     row = h.row;
-    leads = λ d sample. cell_kept tables d old new states more (i / length samples) (To h.to) kept grown within
+    leads = λ d sample. cell_kept tables d old new states more (i / (length samples + 1)) (To h.to) kept grown within
         (h.leads d sample);
   }
 
-  hop_kept : (i : ℕ) (hop : Hop) → IsHop tables samples old states i hop → IsHop tables samples new more i hop
-  hop_kept i Unknown h = tt
-  hop_kept i (Runs r) h = hop_to_kept i r false h
-  hop_kept i (Ends r) h = hop_to_kept i r true h
+  end_kept : (i : ℕ) (ended : Bool) → IsEndAt samples states i ended → IsEndAt samples more i ended
+  end_kept i ended h = record {
+    state = h.state;
+    is = grown_at states more grown (i / (length samples + 1)) h.state h.is;
+    ended_is = h.ended_is;
+  }
 
-  pub hops_kept : (hops : List Hop) → AreHops tables samples old states hops → AreHops tables samples new more hops
-  hops_kept hops are i hop h = hop_kept i hop (are i hop h)
+  pub hops_kept : (hops : List ℕ) → AreHops tables samples old states hops → AreHops tables samples new more hops
+  hops_kept hops are i word is = record {
+    leads = λ lt below. hop_to_kept i word ((are i word is).leads lt below);
+    runs = λ last zero. end_kept i false ((are i word is).runs last zero);
+    ends = λ last one. end_kept i true ((are i word is).ends last one);
+  }
 
 pub hops_none : (tables : code_flat.Tables) (samples : List ℕ) (conts : List Cont) (states : List State)
-    (hops : List Hop) → hops ≡ [] → AreHops tables samples conts states hops
-hops_none tables samples conts states hops none i hop is =
-    absurd (let e = subst (λ v. slice_get v i ≡ Some hop) none is in cc e)
+    (hops : List ℕ) → hops ≡ [] → AreHops tables samples conts states hops
+hops_none tables samples conts states hops none i word is =
+    absurd (let e = subst (λ v. slice_get v i ≡ Some word) none is in cc e)
 
--- a hop was written over hops
-pub hop_written : (old : List Hop) (at : ℕ) (hop : Hop) → at < length old → (i : ℕ) (other : Hop)
-    → slice_get (set old at hop) i ≡ Some other → (slice_get old i ≡ Some other) ⊎ ((i ≡ at) × (hop ≡ other))
-hop_written old at hop lt i other there = by (cases_lt i at) (cases_lt at i)
+-- a word that says nothing
+nothing_said : (tables : code_flat.Tables) (samples : List ℕ) (conts : List Cont) (states : List State) (i word : ℕ)
+    → 2 ^ 31 ≤ word → IsHop tables samples conts states i word
+nothing_said tables samples conts states i word high = record {
+  leads = λ lt below. absurd (omega (arith, high, below));
+  runs = λ last zero. absurd (omega (arith, high, zero));
+  ends = λ last one. absurd (omega (arith, high, one));
+}
+
+-- two words were written
+pub two_put : (old mid new : List ℕ) (at one last two : ℕ) → IsHopPut old mid at one → IsHopPut mid new last two
+    → (i word : ℕ) → slice_get new i ≡ Some word → ((slice_get old i ≡ Some word) ⊎ (2 ^ 31 ≤ word))
+    ⊎ (((i ≡ at) × (one ≡ word)) ⊎ ((i ≡ last) × (two ≡ word)))
+two_put old mid new at one last two first second i word there = by (second i word there)
   where
-    elsewhere : (i ≡ at → ⊥) → slice_get old i ≡ Some other
-    elsewhere not = sym (set_other old at i hop not) ∙ there
+    before : ((slice_get old i ≡ Some word) ⊎ (2 ^ 31 ≤ word)) ⊎ ((i ≡ at) × (one ≡ word))
+        → ((slice_get old i ≡ Some word) ⊎ (2 ^ 31 ≤ word))
+        ⊎ (((i ≡ at) × (one ≡ word)) ⊎ ((i ≡ last) × (two ≡ word)))
+    before (inl is) = inl is
+    before (inr is) = inr (inl is)
 
-    by : (i < at) ⊎ (at ≤ i) → (at < i) ⊎ (i ≤ at) → (slice_get old i ≡ Some other) ⊎ ((i ≡ at) × (hop ≡ other))
-    by (inl less) _ = inl (elsewhere (λ e. omega (arith, less, e)))
-    by (inr le) (inl more) = inl (elsewhere (λ e. omega (arith, more, e)))
-    by (inr le) (inr ge) =
-        let here : i ≡ at = omega (arith, le, ge) in
-        let both : Some hop ≡ Some other = sym (set_same old at hop lt)
-        ∙ subst (λ v. slice_get (set old at hop) v ≡ Some other) here there in
-        inr (here, (let same : hop ≡ other = cc both in same))
+    by : ((slice_get mid i ≡ Some word) ⊎ (2 ^ 31 ≤ word)) ⊎ ((i ≡ last) × (two ≡ word))
+        → ((slice_get old i ≡ Some word) ⊎ (2 ^ 31 ≤ word))
+        ⊎ (((i ≡ at) × (one ≡ word)) ⊎ ((i ≡ last) × (two ≡ word)))
+    by (inl (inl is)) = before (first i word is)
+    by (inl (inr high)) = inl (inr high)
+    by (inr is) = inr (inr is)
 
--- a hop of a known cell was kept
+-- a word and the last word of the row that it leads to were written
+pub hops_put : (states : List State) (classes s k t at row last two : ℕ) (there : State) (old mid new : List ℕ)
+    → slice_get states t ≡ Some there → k < classes → at ≡ s * (classes + 1) + k → row ≡ t * (classes + 1) + 0
+    → last ≡ row + classes → two ≡ last_word there.ended → IsHopPut old mid at row
+    → IsHopPut mid new last two → AreHopsNoted states classes s k t old new
+hops_put states classes s k t at row last two there old mid new there_is within at_is row_at last_is two_is first
+    second i word is =
+    by (two_put old mid new at row last two first second i word is)
+  where
+    by : ((slice_get old i ≡ Some word) ⊎ (2 ^ 31 ≤ word)) ⊎ (((i ≡ at) × (row ≡ word)) ⊎ ((i ≡ last) × (two ≡ word)))
+        → ((slice_get old i ≡ Some word) ⊎ (2 ^ 31 ≤ word)) ⊎ (IsHopMade classes s k t i word
+        ⊎ IsEndMade states classes t i word)
+    by (inl before) = inl before
+    by (inr (inl made)) = inr (inl (record {
+      within = within;
+      place = made.0 ∙ at_is;
+      is = let e : row ≡ word = made.1 in omega (arith, e, row_at);
+    }))
+    by (inr (inr end)) = inr (inr (record {
+      place = let e : i ≡ last = end.0 in omega (arith, e, last_is, row_at);
+      state = there;
+      there = there_is;
+      is = sym end.1 ∙ two_is;
+    }))
+
+-- the words of a known cell were kept
 module _ (tables : code_flat.Tables) (samples : List ℕ) (conts : List Cont) (states : List State) (s k t : ℕ)
     (leads : (d : ℕ) → slice_get samples k ≡ Some d → IsCell tables d conts states s (To t)) where
-  module _ (i : ℕ) (within : k < length samples) (place : i ≡ s * length samples + k) where
-    made_to : (there : State) → slice_get states t ≡ Some there → (ended : Bool) → there.ended ≡ ended
-        → IsHopTo tables samples conts states i (t * length samples) ended
-    made_to there there_is ended is = record {
-      to = t;
-      there = there;
-      there_is = there_is;
-      ended_is = is;
-      row = refl;
-      leads = λ d sample.
-          subst (λ v. IsCell tables d conts states v (To t)) (sym (row_is s k (length samples) i within place))
-          (leads d (subst (λ v. slice_get samples v ≡ Some d) (class_is s k (length samples) i within place) sample));
-    }
+  made_is : (i word : ℕ) → IsHopMade (length samples) s k t i word → IsHop tables samples conts states i word
+  made_is i word made =
+      let within = made.within in
+      let wide : k < length samples + 1 = omega (arith, within) in
+      let class = class_is s k (length samples + 1) i wide made.place in
+      record {
+        leads = λ lt below. record {
+          to = t;
+          row = made.is;
+          leads = λ d sample. subst (λ v. IsCell tables d conts states v (To t))
+              (sym (row_is s k (length samples + 1) i wide made.place))
+              (leads d (subst (λ v. slice_get samples v ≡ Some d) class sample));
+        };
+        runs = λ last zero. absurd (let e : k ≡ length samples = sym class ∙ last in omega (arith, within, e));
+        ends = λ last one. absurd (let e : k ≡ length samples = sym class ∙ last in omega (arith, within, e));
+      }
 
-    made_hop : (there : State) → slice_get states t ≡ Some there → (ended : Bool) → there.ended ≡ ended
-        → IsHop tables samples conts states i
-        (if ended then Ends (t * length samples) else Runs (t * length samples))
-    made_hop there there_is true is = made_to there there_is true is
-    made_hop there there_is false is = made_to there there_is false is
-
-  made_is : (i : ℕ) (hop : Hop) → IsHopMade states (length samples) s k t i hop
-      → IsHop tables samples conts states i hop
-  made_is i hop made =
-      let w = some_at samples k made.within in
-      let step = leads w.0 w.1 in
-      subst (λ v. IsHop tables samples conts states i v) (sym (made.is step.to step.to_is))
-      (made_hop i made.within made.place step.to step.to_is step.to.ended refl)
-
-  pub hops_noted : (old new : List Hop) → AreHopsNoted states (length samples) s k t old new
-      → AreHops tables samples conts states old → AreHops tables samples conts states new
-  hops_noted old new noted are i hop there = by (noted i hop there)
+  end_is : (i word : ℕ) → IsEndMade states (length samples) t i word → IsHop tables samples conts states i word
+  end_is i word made =
+      let wide : length samples < length samples + 1 = omega arith in
+      let class = class_is t (length samples) (length samples + 1) i wide made.place in
+      let there = subst (λ v. slice_get states v ≡ Some made.state)
+      (sym (row_is t (length samples) (length samples + 1) i wide made.place)) made.there in
+      record {
+        leads = λ lt below. absurd (let l : length samples < length samples = subst (λ v. v < length samples) class lt in
+            omega (arith, l));
+        runs = λ last zero. record {
+          state = made.state;
+          is = there;
+          ended_is = zero_runs made.state.ended (sym made.is ∙ zero);
+        };
+        ends = λ last one. record {
+          state = made.state;
+          is = there;
+          ended_is = one_ends made.state.ended (sym made.is ∙ one);
+        };
+      }
     where
-      by : ((slice_get old i ≡ Some hop) ⊎ (hop ≡ Unknown)) ⊎ IsHopMade states (length samples) s k t i hop
-          → IsHop tables samples conts states i hop
-      by (inl (inl is)) = are i hop is
-      by (inl (inr is)) = subst (λ v. IsHop tables samples conts states i v) (sym is) tt
-      by (inr made) = made_is i hop made
+      zero_runs : (ended : Bool) → last_word ended ≡ 0 → ended ≡ false
+      zero_runs true is = absurd (omega (arith, is))
+      zero_runs false is = refl
+
+      one_ends : (ended : Bool) → last_word ended ≡ 1 → ended ≡ true
+      one_ends true is = refl
+      one_ends false is = absurd (omega (arith, is))
+
+  pub hops_noted : (old new : List ℕ) → AreHopsNoted states (length samples) s k t old new
+      → AreHops tables samples conts states old → AreHops tables samples conts states new
+  hops_noted old new noted are i word there = by (noted i word there)
+    where
+      by : ((slice_get old i ≡ Some word) ⊎ (2 ^ 31 ≤ word)) ⊎ (IsHopMade (length samples) s k t i word
+          ⊎ IsEndMade states (length samples) t i word) → IsHop tables samples conts states i word
+      by (inl (inl is)) = are i word is
+      by (inl (inr high)) = nothing_said tables samples conts states i word high
+      by (inr (inl made)) = made_is i word made
+      by (inr (inr made)) = end_is i word made
 
 -- what is kept beside a cache that grew
 pub memo_kept : (tables : code_flat.Tables) (samples : List ℕ) (old new : Memo) → IsMemo tables samples old

@@ -10,6 +10,6 @@ pub mod IsSplitOffLemmas
 pub mod PutsBackLemmas
 pub mod IsOverLemmas
 pub mod AreHopsLemmas
-pub mod IsStandLemmas
+pub mod IsTrackLemmas
 pub mod IsRunVerdictLemmas
 pub mod AreUncountedLemmas

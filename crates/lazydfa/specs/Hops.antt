@@ -1,54 +1,85 @@
 -- Known cells that lead to states, and how they are kept.
-use Rattle.std.specs.Prelude.{◌≡◌, ◌⊎◌, ℕ, ◌+◌, ◌*◌, ◌/◌, ◌%◌, ◌<◌, Bool, true, false, List, length, slice_get, Some}
-use Rattle.std.specs.Prelude.{if◌then◌else◌}
+use Rattle.std.specs.Prelude.{◌≡◌, ◌⊎◌, ℕ, ◌+◌, ◌*◌, ◌/◌, ◌%◌, ◌^◌, ◌<◌, ◌≤◌, Bool, true, false, List, length}
+use Rattle.std.specs.Prelude.{slice_get, Some}
+use Rattle.flatgrammar.specs.Flat.{Flat}
 use Rattle.flatgrammar.specs.declared.tables.Tables as code_flat
+use Rattle.letterclasses.specs.ClassBounds.{AreClasses, IsClassOf}
 use Rattle.lazydfa.specs.declared.conts.Cont.{Cont}
 use Rattle.lazydfa.specs.declared.cache.State.{State}
-use Rattle.lazydfa.specs.declared.hops.Hop.{Hop}
-use Rattle.lazydfa.specs.declared.hops.Hop.TheVariants.{Unknown, Runs, Ends}
 use Rattle.lazydfa.specs.Cached.{IsStep}
 
--- the cell i leads to the state whose first cell is r, whether that has ended or not
+-- the word i leads to the state whose row is r; a row has a word for each class and a last one
 pub record IsHopTo (tables : code_flat.Tables) (samples : List ℕ) (conts : List Cont) (states : List State) (i r : ℕ)
-    (ended : Bool) : Type 0 where
+    : Type 0 where
   pub to : ℕ
-  pub there : State
-  pub there_is : slice_get states to ≡ Some there
-  pub ended_is : there.ended ≡ ended
-  pub row : r ≡ to * length samples
-  pub leads : (d : ℕ) → slice_get samples (i % length samples) ≡ Some d
-      → IsStep tables d conts states (i / length samples) to
+  pub row : r ≡ to * (length samples + 1)
+  pub leads : (d : ℕ) → slice_get samples (i % (length samples + 1)) ≡ Some d
+      → IsStep tables d conts states (i / (length samples + 1)) to
 
-abbrev pub IsHop : code_flat.Tables → List ℕ → List Cont → List State → ℕ → Hop → Type 0
-IsHop tables samples conts states i Unknown = Unit {0}
-IsHop tables samples conts states i (Runs r) = IsHopTo tables samples conts states i r false
-IsHop tables samples conts states i (Ends r) = IsHopTo tables samples conts states i r true
+-- the word i is in the row of a state that has ended, or has not
+pub record IsEndAt (samples : List ℕ) (states : List State) (i : ℕ) (ended : Bool) : Type 0 where
+  pub state : State
+  pub is : slice_get states (i / (length samples + 1)) ≡ Some state
+  pub ended_is : state.ended ≡ ended
 
-abbrev pub AreHops : code_flat.Tables → List ℕ → List Cont → List State → List Hop → Type 0
-AreHops tables samples conts states hops = (i : ℕ) (hop : Hop) → slice_get hops i ≡ Some hop
-    → IsHop tables samples conts states i hop
+-- what the word i says: for a class, below 2 ^ 31, to which row it leads; last in a row, whether that state has ended
+pub record IsHop (tables : code_flat.Tables) (samples : List ℕ) (conts : List Cont) (states : List State) (i word : ℕ)
+    : Type 0 where
+  pub leads : i % (length samples + 1) < length samples → word < 2 ^ 31 → IsHopTo tables samples conts states i word
+  pub runs : i % (length samples + 1) ≡ length samples → word ≡ 0 → IsEndAt samples states i false
+  pub ends : i % (length samples + 1) ≡ length samples → word ≡ 1 → IsEndAt samples states i true
 
--- the hop i leads to the first cell r, and where parts are left to a state that has not ended
-abbrev pub IsTaken : List Hop → Bool → ℕ → ℕ → Type 0
-IsTaken hops bare i r = (slice_get hops i ≡ Some (Runs r)) ⊎ ((bare ≡ true) × (slice_get hops i ≡ Some (Ends r)))
+abbrev pub AreHops : code_flat.Tables → List ℕ → List Cont → List State → List ℕ → Type 0
+AreHops tables samples conts states hops = (i word : ℕ) → slice_get hops i ≡ Some word
+    → IsHop tables samples conts states i word
 
--- hops were added that are not known
-abbrev pub AreHopsAdded : List Hop → List Hop → Type 0
-AreHopsAdded old new = (i : ℕ) (hop : Hop) → slice_get new i ≡ Some hop
-    → (slice_get old i ≡ Some hop) ⊎ (hop ≡ Unknown)
+-- the word i leads to the row r, and where parts are left its state has not ended
+abbrev pub IsTaken : List ℕ → ℕ → Bool → ℕ → ℕ → Type 0
+IsTaken hops classes bare i r = (slice_get hops i ≡ Some r) × (r < 2 ^ 31)
+    × ((bare ≡ true) ⊎ (slice_get hops (r + classes) ≡ Some 0))
+
+-- a class leads from a row to that row
+abbrev pub LeadsBack : List ℕ → ℕ → ℕ → Type 0
+LeadsBack hops row class = slice_get hops (row + class) ≡ Some row
+
+-- a symbol has such a class
+abbrev pub StaysBy : List ℕ → List ℕ → List ℕ → ℕ → ℕ → Type 0
+StaysBy low samples hops row c = (flat : Flat) → AreClasses flat low samples → (class : ℕ)
+    × IsClassOf flat samples c class × LeadsBack hops row class
+
+-- .. and so have all symbols from one position to another
+abbrev pub StaysOver : List ℕ → List ℕ → List ℕ → List ℕ → ℕ → ℕ → ℕ → Type 0
+StaysOver low samples hops x row from to = (j c : ℕ) → from ≤ j → j < to → slice_get x j ≡ Some c
+    → StaysBy low samples hops row c
+
+-- words were added that say nothing
+abbrev pub AreHopsAdded : List ℕ → List ℕ → Type 0
+AreHopsAdded old new = (i word : ℕ) → slice_get new i ≡ Some word → (slice_get old i ≡ Some word) ⊎ (2 ^ 31 ≤ word)
 
 -- .. and at most that one was written
-abbrev pub IsHopPut : List Hop → List Hop → ℕ → Hop → Type 0
-IsHopPut old new at hop = (i : ℕ) (other : Hop) → slice_get new i ≡ Some other
-    → ((slice_get old i ≡ Some other) ⊎ (other ≡ Unknown)) ⊎ ((i ≡ at) × (hop ≡ other))
+abbrev pub IsHopPut : List ℕ → List ℕ → ℕ → ℕ → Type 0
+IsHopPut old new at word = (i other : ℕ) → slice_get new i ≡ Some other
+    → ((slice_get old i ≡ Some other) ⊎ (2 ^ 31 ≤ other)) ⊎ ((i ≡ at) × (word ≡ other))
 
--- a hop from a state to another, where there are so many classes
-pub record IsHopMade (states : List State) (classes s k t : ℕ) (i : ℕ) (hop : Hop) : Type 0 where
+-- a word that leads from a state to another, where there are so many classes
+pub record IsHopMade (classes s k t i word : ℕ) : Type 0 where
   pub within : k < classes
-  pub place : i ≡ s * classes + k
-  pub is : (got : State) → slice_get states t ≡ Some got
-      → hop ≡ (if got.ended then Ends (t * classes) else Runs (t * classes))
+  pub place : i ≡ s * (classes + 1) + k
+  pub is : word ≡ t * (classes + 1)
 
-abbrev pub AreHopsNoted : List State → ℕ → ℕ → ℕ → ℕ → List Hop → List Hop → Type 0
-AreHopsNoted states classes s k t old new = (i : ℕ) (hop : Hop) → slice_get new i ≡ Some hop
-    → ((slice_get old i ≡ Some hop) ⊎ (hop ≡ Unknown)) ⊎ IsHopMade states classes s k t i hop
+-- the last word of a state's row
+abbrev pub last_word : Bool → ℕ
+last_word true = 1
+last_word false = 0
+
+-- .. and where it was written
+pub record IsEndMade (states : List State) (classes t i word : ℕ) : Type 0 where
+  pub place : i ≡ t * (classes + 1) + classes
+  pub state : State
+  pub there : slice_get states t ≡ Some state
+  pub is : word ≡ last_word state.ended
+
+abbrev pub AreHopsNoted : List State → ℕ → ℕ → ℕ → ℕ → List ℕ → List ℕ → Type 0
+AreHopsNoted states classes s k t old new = (i word : ℕ) → slice_get new i ≡ Some word
+    → ((slice_get old i ≡ Some word) ⊎ (2 ^ 31 ≤ word)) ⊎ (IsHopMade classes s k t i word
+    ⊎ IsEndMade states classes t i word)

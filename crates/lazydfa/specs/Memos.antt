@@ -1,5 +1,5 @@
 -- What is kept from line to line beside the cache, and where a run over a line stands.
-use Rattle.std.specs.Prelude.{◌≡◌, ℕ, ◌+◌, ◌*◌, ◌<◌, ◌≤◌, true, List, [], length, slice_get, Some}
+use Rattle.std.specs.Prelude.{◌≡◌, ℕ, ◌+◌, ◌*◌, ◌<◌, ◌≤◌, Bool, true, List, [], length, slice_get, Some}
 use Rattle.flatgrammar.specs.NodeSteps.{flat_of}
 use Rattle.flatgrammar.specs.TableViews.{GiveRoots}
 use Rattle.flatgrammar.specs.declared.tables.Tables as code_flat
@@ -7,7 +7,6 @@ use Rattle.lazydfa.specs.declared.conts.Cont.{Cont}
 use Rattle.lazydfa.specs.declared.cache.State.{State}
 use Rattle.lazydfa.specs.declared.memo.Memo.{Memo}
 use Rattle.lazydfa.specs.declared.memo.Unfold.{Unfold}
-use Rattle.lazydfa.specs.declared.glide.Stand.{Stand}
 use Rattle.lazydfa.specs.declared.glide.Track.{Track}
 use Rattle.lazydfa.specs.declared.run.Step.{Step}
 use Rattle.lazydfa.specs.declared.run.Step.TheVariants.{To, Dead, Over}
@@ -63,17 +62,13 @@ RunsOver tables memo = IsOver tables memo.cache.conts.items.items memo.cache.sta
 abbrev pub RunsAt : code_flat.Tables → Memo → ℕ → List ℕ → ℕ → Type 0
 RunsAt tables memo = IsSettled tables memo.cache.conts.items.items memo.cache.states.items memo.parts.items
 
--- a run goes on from there, and some letters led to something
-pub record IsStand (tables : code_flat.Tables) (memo : Memo) (x : List ℕ) (stand : Stand) : Type 0 where
-  pub runs : RunsAt tables memo stand.state x stand.at
-  pub reached : 0 < stand.at → IsReached (flat_of tables) (last_of tables) x stand.at
-
--- .. and that state is given by its first cell
+-- a run goes on from there, and some letters led to something; its state is given by its row
 pub record IsTrack (tables : code_flat.Tables) (samples : List ℕ) (memo : Memo) (x : List ℕ) (track : Track) : Type 0
   where
     pub state : ℕ
-    pub row : track.row ≡ state * length samples
-    pub stands : IsStand tables memo x (record { state = state; at = track.at })
+    pub row : track.row ≡ state * (length samples + 1)
+    pub runs : RunsAt tables memo state x track.at
+    pub reached : 0 < track.at → IsReached (flat_of tables) (last_of tables) x track.at
 
 -- where a run goes on, it goes on to there, by any grammar that the memo is of
 abbrev pub GlidesOver : List ℕ → List ℕ → Memo → List ℕ → Track → Track → Type 0
@@ -81,10 +76,11 @@ GlidesOver low samples memo x from to = (tables : code_flat.Tables) → GiveRoot
     → AreClasses (flat_of tables) low samples → IsMemo tables samples memo → IsTrack tables samples memo x from
     → IsTrack tables samples memo x to
 
-abbrev pub Glides : List ℕ → List ℕ → Memo → List ℕ → Stand → Stand → Type 0
-Glides low samples memo x from to = (tables : code_flat.Tables) → GiveRoots (flat_of tables) tables.roots.items
-    → AreClasses (flat_of tables) low samples → IsMemo tables samples memo → IsStand tables memo x from
-    → IsStand tables memo x to
+-- whether the state of a row has ended
+abbrev pub IsEndOf : List ℕ → Memo → ℕ → Bool → Type 0
+IsEndOf samples memo row ended = (tables : code_flat.Tables) → IsMemo tables samples memo → (s : ℕ)
+    → row ≡ s * (length samples + 1) → (got : State) → slice_get memo.cache.states.items s ≡ Some got
+    → ended ≡ got.ended
 
 -- what the letter after the first j leads to
 abbrev pub IsStepTaken : code_flat.Tables → Memo → List ℕ → ℕ → Step → Type 0

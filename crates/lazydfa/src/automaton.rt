@@ -125,7 +125,7 @@ fn empty_cache(alloc: Global, nodes: usize, room: usize) -> Cache
     ensures states { result.states.items ≡ [] }
     ensures cells { result.cells.items ≡ [] }
 {
-    let most = nodes.saturating_mul(4).saturating_add(1024);
+    let most = nodes.saturating_mul(4).saturating_add(16_384);
     Cache {
         conts: Conts {
             items: Vec::new(alloc),

@@ -153,7 +153,7 @@ fn chain_all(states: &[State], chains: &mut Chains) -> Result<(), Memory> {
 // Adds the last state to chains. Where there are fewer chains than states, more of them are made.
 fn chain_last(states: &[State], chains: &mut Chains) -> Result<(), Memory> {
     if chains.is_crowded() {
-        chains.restart(states.len().saturating_mul(4).max(256))?;
+        chains.restart(states.len().saturating_mul(2).max(256))?;
         return chain_all(states, chains);
     }
     match states.last() {

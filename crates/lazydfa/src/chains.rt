@@ -21,10 +21,9 @@ impl Chains {
 
     // Returns the number of the chain of what hashes to that.
     fn slot(&self, hash: usize) -> usize {
-        if self.heads.len() > 0 {
-            hash % self.heads.len()
-        } else {
-            0
+        match self.heads.len().checked_sub(1) {
+            Some(mask) => (hash ^ (hash >> 16)) & mask,
+            None => 0,
         }
     }
 
@@ -64,9 +63,11 @@ impl Chains {
         self.heads.len() <= self.links.len()
     }
 
-    /// Forgets all entries, and makes so many chains. `Memory` if an allocation fails; there is no chain then.
+    /// Forgets all entries, and makes at least so many chains, a power of two. `Memory` if an allocation fails; there
+    /// is no chain then.
     pub(crate) fn restart(&mut self, count: usize) -> Result<(), Memory> {
         self.clear();
+        let count = count.checked_next_power_of_two().unwrap_or(count);
         self.heads.resize(count, 0usize)?;
         Ok(())
     }

@@ -62,7 +62,7 @@ fn chain_all(conts: &[Cont], chains: &mut Chains) -> Result<(), Memory> {
 // Adds the last continuation to chains. Where there are fewer chains than continuations, more of them are made.
 fn chain_last(conts: &[Cont], chains: &mut Chains) -> Result<(), Memory> {
     if chains.is_crowded() {
-        chains.restart(conts.len().saturating_mul(4).max(1024))?;
+        chains.restart(conts.len().saturating_mul(2).max(1024))?;
         return chain_all(conts, chains);
     }
     match conts.last() {

@@ -1,73 +1,115 @@
 //! A run over letters while no cell is filled and no part is pushed or put back.
-ghost use Rattle.std.specs.Prelude.{◌≤◌, length, map};
-ghost use Rattle.lazydfa.specs.Memos.{Glides, GlidesOver};
+ghost use Rattle.std.specs.Prelude.{◌≡◌, ◌≤◌, ◌<◌, ◌+◌, ◌^◌, IsTrue, length, map};
+ghost use Rattle.lazydfa.specs.Memos.{GlidesOver};
+ghost use Rattle.lazydfa.specs.Hops.{StaysBy, StaysOver};
 
-use crate::fill::spot;
-use crate::hops::next_row;
+use crate::hops::{leads_back, next_row};
 use crate::memo::Memo;
 use letterclasses::class_of;
 use letters::Letter;
 
-/// A state of a run, and how many letters led to it.
-#[derive(Clone, Copy)]
-pub(crate) struct Stand {
-    pub(crate) state: usize,
-    pub(crate) at: usize,
-}
+/// In lines of so many letters it is tried whether a state stays over four of them.
+const LONG: usize = 256;
 
-/// The first cell of a run's state, by its place, and how many letters led to that state.
+/// The row of a run's state, by its place, and how many letters led to that state.
 #[derive(Clone, Copy)]
 pub(crate) struct Track {
     pub(crate) row: usize,
     pub(crate) at: usize,
 }
 
-/// Goes over letters of a line while the hops of their classes are known and no part is to be put back, and returns
-/// where that stops.
+// Returns whether a letter leads from the state of a row to that state.
 #[inline(always)]
-fn hop_on<L: Letter>(memo: &Memo, low: &[usize], samples: &[u32], line: &[L], from: Track) -> Track
+fn stays<L: Letter>(hops: &[u32], low: &[usize], samples: &[u32], letter: L, row: usize) -> bool
+    ensures { IsTrue result → StaysBy low.now samples.now hops.now row (L.number letter) }
+{
+    leads_back(hops, row, class_of(low, samples, letter.value()))
+}
+
+// Returns whether the next four letters lead from the state of a row to that state.
+#[inline(always)]
+fn stay_four<L: Letter>(
+    hops: &[u32],
+    low: &[usize],
+    samples: &[u32],
+    line: &[L],
+    from: Track,
+) -> bool
+    requires within { from.at + 4 ≤ length line.now }
+    ensures { IsTrue result → StaysOver low.now samples.now hops.now (map L.number line.now) from.row from.at
+        (from.at + 4) }
+{
+    if !stays(hops, low, samples, line[from.at], from.row) {
+        return false;
+    }
+    if !stays(hops, low, samples, line[from.at + 1], from.row) {
+        return false;
+    }
+    if !stays(hops, low, samples, line[from.at + 2], from.row) {
+        return false;
+    }
+    stays(hops, low, samples, line[from.at + 3], from.row)
+}
+
+// Goes on by four letters while they lead from the state of a row to that state, if that is to be tried, and returns
+// where that stops.
+#[inline(always)]
+fn stay_on<L: Letter>(
+    hops: &[u32],
+    low: &[usize],
+    samples: &[u32],
+    line: &[L],
+    from: Track,
+    is_tried: bool,
+) -> usize
+    requires within { from.at ≤ length line.now }
+    ensures within { result ≤ length line.now }
+    ensures further { from.at ≤ result }
+    ensures stays { StaysOver low.now samples.now hops.now (map L.number line.now) from.row from.at result }
+{
+    let row = from.row;
+    let mut at = from.at;
+    'fours: while is_tried && line.len() - at >= 4 {
+        if !stay_four(hops, low, samples, line, Track { row, at }) {
+            return at;
+        }
+        at += 4;
+    }
+    at
+}
+
+/// Goes over letters of a line while what their classes lead to is known and no part is pushed or put back, and returns
+/// where that stops.
+pub(crate) fn glide<L: Letter>(
+    memo: &Memo,
+    low: &[usize],
+    samples: &[u32],
+    line: &[L],
+    from: Track,
+) -> Track
     requires within { from.at ≤ length line.now }
     ensures within { result.at ≤ length line.now }
     ensures further { from.at ≤ result.at }
     ensures glides { GlidesOver low.now samples.now memo.now (map L.number line.now) from result }
 {
     let is_bare = memo.parts.len() == 0;
+    let is_long = line.len() >= LONG;
     let hops = memo.hops.as_slice();
     let mut track = from;
     while track.at < line.len() {
         let class = class_of(low, samples, line[track.at].value());
-        let Some(row) = next_row(hops, is_bare, track.row, class) else {
+        let Some(row) = next_row(hops, samples.len(), is_bare, track.row, class) else {
             return track;
         };
-        track = Track {
+        let is_tried = is_long && row == track.row;
+        let next = Track {
             row,
             at: track.at + 1,
         };
+        track = Track {
+            row,
+            at: stay_on(hops, low, samples, line, next, is_tried),
+        };
     }
     track
-}
-
-/// Goes over letters of a line while what they lead to is known and no part is pushed or put back, and returns where
-/// that stops.
-pub(crate) fn glide<L: Letter>(
-    memo: &Memo,
-    low: &[usize],
-    samples: &[u32],
-    line: &[L],
-    from: Stand,
-) -> Stand
-    requires within { from.at ≤ length line.now }
-    ensures within { result.at ≤ length line.now }
-    ensures further { from.at ≤ result.at }
-    ensures glides { Glides low.now samples.now memo.now (map L.number line.now) from result }
-{
-    let Some(row) = spot(from.state, samples.len(), 0) else {
-        return from;
-    };
-    let track = Track { row, at: from.at };
-    let stop = hop_on(memo, low, samples, line, track);
-    match stop.row.checked_div(samples.len()) {
-        Some(state) => Stand { state, at: stop.at },
-        None => from,
-    }
 }

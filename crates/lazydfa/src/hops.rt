@@ -1,74 +1,118 @@
 //! Known cells that lead to states, so that a run goes over them fast.
-ghost use Rattle.std.specs.Prelude.{◌≡◌, ◌⊎◌, ◌+◌, ◌*◌, Bool, IfOk, IfSome, if◌then◌else◌};
-ghost use Rattle.lazydfa.specs.Hops.{AreHopsAdded, AreHopsNoted, IsHopPut, IsTaken};
+ghost use Rattle.std.specs.Prelude.{◌≡◌, ◌+◌, IsTrue, IfOk, IfSome, Some, slice_get};
+ghost use Rattle.lazydfa.specs.Hops.{AreHopsAdded, AreHopsNoted, IsHopPut, IsTaken, LeadsBack, last_word};
 
-use crate::cache::{Cache, has_ended};
+use crate::cache::{Cache, State};
 use crate::fill::spot;
 use ruletable::Memory;
 
-/// What a cell is known to lead to: nothing yet, or a state that has not ended, or one that has. A state is given by
-/// the place of its first cell.
-#[derive(Clone, Copy)]
-pub(crate) enum Hop {
-    Unknown,
-    Runs(u32),
-    Ends(u32),
-}
+/// A word from here on says nothing. A word below it in the place of a class is the place of a row.
+const PLACES: u32 = 0x8000_0000;
 
-/// Returns the first cell of the state that a class of letters leads to, from the state whose first cell is given, if
-/// that is known and no part is to be put back there.
+/// Returns the row of the state that a class leads to, from the state of a given row, if that is known and no part is
+/// to be put back there. A row has a word for each class, and a last one: 0 for a state that has not ended, 1 for one
+/// that has.
 #[inline(always)]
-pub(crate) fn next_row(hops: &[Hop], is_bare: bool, row: usize, class: usize) -> Option<usize>
-    ensures { IfSome result (IsTaken hops.now is_bare (row + class)) }
+pub(crate) fn next_row(
+    hops: &[u32],
+    classes: usize,
+    is_bare: bool,
+    row: usize,
+    class: usize,
+) -> Option<usize>
+    ensures { IfSome result (IsTaken hops.now classes is_bare (row + class)) }
 {
     let at = row.checked_add(class)?;
     match hops.get(at) {
-        Some(Hop::Runs(next)) => Some(*next as usize),
-        Some(Hop::Ends(next)) if is_bare => Some(*next as usize),
+        Some(next) if *next < PLACES => {
+            let next = *next as usize;
+            if is_bare || runs_on(hops, classes, next) {
+                Some(next)
+            } else {
+                None
+            }
+        }
         _ => None,
     }
 }
 
-// Adds hops that are not known. `Memory` if an allocation fails.
-fn add_hops(count: usize, hops: &mut Vec<Hop>) -> Result<(), Memory>
+// Returns whether the state of a row has not ended, if its last word says so.
+#[inline(always)]
+fn runs_on(hops: &[u32], classes: usize, row: usize) -> bool
+    ensures { IsTrue result → slice_get hops.now (row + classes) ≡ Some 0 }
+{
+    let Some(at) = row.checked_add(classes) else {
+        return false;
+    };
+    match hops.get(at) {
+        Some(last) => *last == 0,
+        None => false,
+    }
+}
+
+/// Returns whether the state of a row has ended, if its last word says so.
+#[inline(always)]
+pub(crate) fn end_of(hops: &[u32], classes: usize, row: usize) -> Option<bool>
+    ensures { IfSome result (λ ended. slice_get hops.now (row + classes) ≡ Some (last_word ended)) }
+{
+    let at = row.checked_add(classes)?;
+    match hops.get(at) {
+        Some(0) => Some(false),
+        Some(1) => Some(true),
+        _ => None,
+    }
+}
+
+/// Returns whether a class leads from the state of a row to that state.
+#[inline(always)]
+pub(crate) fn leads_back(hops: &[u32], row: usize, class: usize) -> bool
+    ensures { IsTrue result → LeadsBack hops.now row class }
+{
+    let Some(at) = row.checked_add(class) else {
+        return false;
+    };
+    match hops.get(at) {
+        Some(next) => *next as usize == row,
+        None => false,
+    }
+}
+
+// Adds words that say nothing. `Memory` if an allocation fails.
+fn add_hops(count: usize, hops: &mut Vec<u32>) -> Result<(), Memory>
     ensures { IfOk result (λ done. AreHopsAdded hops.old.items hops.new.items) }
 {
     for _ in 0..count {
-        hops.push(Hop::Unknown)?;
+        hops.push(u32::MAX)?;
     }
     Ok(())
 }
 
-// Writes a hop. `Memory` if an allocation fails.
-fn put_hop(hops: &mut Vec<Hop>, at: usize, hop: Hop) -> Result<(), Memory>
-    ensures { IfOk result (λ done. IsHopPut hops.old.items hops.new.items at hop) }
+// Writes a word. `Memory` if an allocation fails.
+fn put_hop(hops: &mut Vec<u32>, at: usize, word: u32) -> Result<(), Memory>
+    ensures { IfOk result (λ done. IsHopPut hops.old.items hops.new.items at word) }
 {
     if at >= hops.len() {
         add_hops(at.saturating_sub(hops.len()).saturating_add(1), hops)?;
     }
     if at < hops.len() {
-        hops[at] = hop;
+        hops[at] = word;
     }
     Ok(())
 }
 
-// Returns the hop to a state.
-fn hop_to(ended: bool, row: u32) -> Hop
-    ensures { result ≡ (if ended then Hop.Ends row else Hop.Runs row) }
+// Returns the last word of a state's row.
+fn end_word(state: &State) -> u32
+    ensures { result ≡ last_word state.now.ended }
 {
-    if ended {
-        Hop::Ends(row)
-    } else {
-        Hop::Runs(row)
-    }
+    if state.ended { 1 } else { 0 }
 }
 
-/// Keeps that a class of letters leads from a state to another, if the first cell of that has a place below 2 ^ 32.
-/// `Memory` if an allocation fails.
+/// Keeps that a class leads from a state to another, and whether that has ended, if the place of its row is below
+/// 2 ^ 32. `Memory` if an allocation fails.
 pub(crate) fn note_hop(
     cache: &Cache,
     classes: usize,
-    hops: &mut Vec<Hop>,
+    hops: &mut Vec<u32>,
     state: usize,
     class: usize,
     to: usize,
@@ -76,14 +120,22 @@ pub(crate) fn note_hop(
     ensures { IfOk result (λ done. AreHopsNoted cache.now.states.items classes state class to hops.old.items
         hops.new.items) }
 {
+    let Some(stride) = classes.checked_add(1) else {
+        return Ok(());
+    };
+    let Some(there) = cache.states.get(to) else {
+        return Ok(());
+    };
+    let (Some(at), Some(row)) = (spot(state, stride, class), spot(to, stride, 0)) else {
+        return Ok(());
+    };
+    let (Ok(word), Some(last)) = (u32::try_from(row), row.checked_add(classes)) else {
+        return Ok(());
+    };
     if class >= classes {
         return Ok(());
     }
-    let (Some(at), Some(row)) = (spot(state, classes, class), spot(to, classes, 0)) else {
-        return Ok(());
-    };
-    let Ok(row) = u32::try_from(row) else {
-        return Ok(());
-    };
-    put_hop(hops, at, hop_to(has_ended(cache, to), row))
+    put_hop(hops, at, word)?;
+    put_hop(hops, last, end_word(there))?;
+    Ok(())
 }

@@ -7,7 +7,6 @@ ghost use Rattle.lazydfa.specs.declared.cache.State.{State};
 use crate::cache::{Cache, forget, state_of};
 use crate::chains::Chains;
 use crate::fill::may_fill;
-use crate::hops::Hop;
 use crate::parts::put_back;
 use flatgrammar::Tables;
 use ruletable::Memory;
@@ -21,12 +20,12 @@ pub(crate) struct Unfold {
     pub(crate) to: usize,
 }
 
-/// Holds a cache, the hops of its cells and its unfolds, and of the line that is read the parts below its state, the
-/// topmost last.
+/// Holds a cache, the words of its cells that lead to states (`hops.rt`), its unfolds, and of the line that is read the
+/// parts below its state, the topmost last.
 #[derive(Drop)]
 pub(crate) struct Memo {
     pub(crate) cache: Cache,
-    pub(crate) hops: Vec<Hop>,
+    pub(crate) hops: Vec<u32>,
     pub(crate) unfolds: Vec<Unfold>,
     pub(crate) chains: Chains,
     pub(crate) parts: Vec<usize>,
@@ -80,7 +79,7 @@ fn chain_all(unfolds: &[Unfold], chains: &mut Chains) -> Result<(), Memory> {
 // Adds the last unfold to chains. Where there are fewer chains than unfolds, more of them are made.
 fn chain_last(unfolds: &[Unfold], chains: &mut Chains) -> Result<(), Memory> {
     if chains.is_crowded() {
-        chains.restart(unfolds.len().saturating_mul(4).max(64))?;
+        chains.restart(unfolds.len().saturating_mul(2).max(64))?;
         return chain_all(unfolds, chains);
     }
     match unfolds.last() {
@@ -117,7 +116,7 @@ fn state_over(
         return Ok(None);
     };
     cache.budget.spend(cache.ids.items.len().saturating_add(1));
-    cache.budget.note(1);
+    cache.budget.note(0);
     let t = state_of(cache, samples.len(), front)?;
     Ok(Some(t))
 }

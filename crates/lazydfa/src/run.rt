@@ -5,7 +5,7 @@ ghost use Rattle.flatgrammar.specs.NodeSteps.{flat_of};
 ghost use Rattle.flatgrammar.specs.TableViews.{GiveRoots};
 ghost use Rattle.lazydfa.specs.Conts.{AreKept, AreOlder, last_of};
 ghost use Rattle.lazydfa.specs.Cached.{IsCache, IsCell, Grows, IsStart, IsStartAt};
-ghost use Rattle.lazydfa.specs.Memos.{IsMemo, IsStepTaken, RunsAt, RunsOver};
+ghost use Rattle.lazydfa.specs.Memos.{IsEndOf, IsMemo, IsStepTaken, RunsAt, RunsOver};
 ghost use Rattle.letterclasses.specs.ClassBounds.{AreClasses, IsClassOf};
 ghost use Rattle.lazydfa.specs.declared.cache.State.{State};
 ghost use Rattle.lazydfa.specs.RunVerdicts.{IsRunVerdict};
@@ -13,9 +13,9 @@ ghost use Rattle.lazydfa.specs.RunVerdicts.{IsRunVerdict};
 use crate::cache::{Cache, Cell, has_ended, state_of};
 use crate::close::{Ids, close, empty, enter};
 use crate::conts::Conts;
-use crate::fill::{fill, look, may_fill};
-use crate::glide::{Stand, glide};
-use crate::hops::note_hop;
+use crate::fill::{fill, look, may_fill, spot};
+use crate::glide::{Track, glide};
+use crate::hops::{end_of, note_hop};
 use crate::memo::{Memo, forget_all, unfolded};
 use crate::transition::{Front, readers};
 use flatgrammar::{Tables, Verdict, whole_root};
@@ -198,6 +198,17 @@ fn verdict_at_end(ended: bool, letters: usize) -> Verdict
     }
 }
 
+// Returns whether the state of a row has ended.
+#[inline(always)]
+fn ends_at(memo: &Memo, samples: &[u32], row: usize) -> bool
+    ensures { IsEndOf samples.now memo.now row result }
+{
+    match end_of(&memo.hops, samples.len(), row) {
+        Some(ended) => ended,
+        None => has_ended(&memo.cache, row / (samples.len() + 1)),
+    }
+}
+
 /// Goes over a line, and returns whether the whole may end after it, or else how many of its letters lead to something;
 /// `None` if that takes more than there may be. `Memory` if an allocation fails.
 fn follow<L: Letter>(
@@ -219,30 +230,33 @@ fn follow<L: Letter>(
     let Some(first) = begin(alloc, tables, samples, &mut memo.cache)? else {
         return Ok(None);
     };
-    let start = Stand {
-        state: first,
-        at: 0,
+    let stride = samples.len() + 1;
+    let Some(row) = spot(first, stride, 0) else {
+        return Ok(None);
     };
-    let mut stand = glide(memo, low, samples, line, start);
-    while stand.at < line.len() {
-        let class = class_of(low, samples, line[stand.at].value());
-        match take_step(alloc, tables, samples, memo, stand.state, class)? {
+    let mut track = glide(memo, low, samples, line, Track { row, at: 0 });
+    while track.at < line.len() {
+        let class = class_of(low, samples, line[track.at].value());
+        match take_step(alloc, tables, samples, memo, track.row / stride, class)? {
             Step::To(t) => {
-                let next = Stand {
-                    state: t,
-                    at: stand.at + 1,
+                let Some(row) = spot(t, stride, 0) else {
+                    return Ok(None);
                 };
-                stand = glide(memo, low, samples, line, next);
+                let next = Track {
+                    row,
+                    at: track.at + 1,
+                };
+                track = glide(memo, low, samples, line, next);
             }
             Step::Dead => {
-                return Ok(Some(Verdict::No(stand.at)));
+                return Ok(Some(Verdict::No(track.at)));
             }
             Step::Over => {
                 return Ok(None);
             }
         }
     }
-    Ok(Some(verdict_at_end(has_ended(&memo.cache, stand.state), line.len())))
+    Ok(Some(verdict_at_end(ends_at(memo, samples, track.row), line.len())))
 }
 
 /// Returns what `follow` returns. It forgets all if an allocation fails.

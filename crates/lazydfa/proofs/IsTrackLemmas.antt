@@ -1,0 +1,266 @@
+-- A run goes on to a state that is kept.
+-- Serves: judge, viable.
+use Rattle.std.proofs.Common.{◌≡◌, ℕ, zero, suc, ◌+◌, ◌-◌, ◌*◌, ◌/◌, ◌%◌, ◌^◌, ◌<◌, ◌≤◌, Bool, true, false, List, []}
+use Rattle.std.proofs.Common.{length, refl, sym, ◌∙◌, ap, subst, arith, ◌⊎◌, inl, inr, add-zero}
+use Rattle.std.proofs.lemmas.Bool.{cases_lt}
+use Rattle.std.proofs.lemmas.Option.{slice_get_within}
+use Rattle.std.specs.Prelude.{slice_get, Some}
+use Rattle.flatgrammar.specs.NodeSteps.{flat_of}
+use Rattle.flatgrammar.specs.TableViews.{GiveRoots}
+use Rattle.flatgrammar.specs.declared.tables.Tables as code_flat
+use Rattle.lazydfa.specs.declared.conts.Cont.{Cont}
+use Rattle.lazydfa.specs.declared.cache.State.{State}
+use Rattle.lazydfa.specs.declared.cache.Cell.{Cell}
+use Rattle.lazydfa.specs.declared.cache.Cell.TheVariants.{To}
+use Rattle.lazydfa.specs.Conts.{last_of}
+use Rattle.lazydfa.specs.Cached.{AreCached, IsCell}
+use Rattle.letterclasses.specs.ClassBounds.{AreClasses, IsClassOf}
+use Rattle.lazydfa.specs.declared.memo.Memo.{Memo}
+use Rattle.lazydfa.specs.Hops.{IsEndAt, IsHopTo, IsTaken, StaysBy, StaysOver, last_word}
+use Rattle.lazydfa.specs.Memos.{IsMemo, IsOver, IsSettled, IsTrack}
+use Rattle.lazydfa.specs.RunVerdicts.{IsReached}
+use Rattle.lazydfa.specs.StackParts.{below_of}
+use Rattle.lazydfa.proofs.ContsLemmas.{kept_same}
+use Rattle.lazydfa.proofs.AreCachedLemmas.{grown_same, row_is, class_is}
+use Rattle.lazydfa.proofs.IsAtLemmas.{some_at, step_to, step_reached}
+use Rattle.lazydfa.proofs.IsOverLemmas.{over_kept, plain_below, settled_running}
+
+-- by a letter that is known to lead to a state
+module _ (tables : code_flat.Tables) (roots : GiveRoots (flat_of tables) tables.roots.items) (samples : List ℕ)
+    (conts : List Cont) (states : List State) (cells : List Cell) (cached : AreCached tables samples conts states cells)
+    (parts : List ℕ) (x : List ℕ) (s j c k t : ℕ) (runs : IsSettled tables conts states parts s x j)
+    (letter : slice_get x j ≡ Some c) (class : IsClassOf (flat_of tables) samples c k)
+    (known : (d : ℕ) → slice_get samples k ≡ Some d → IsCell tables d conts states s (To t)) where
+  over_next : IsOver tables conts states parts t x (j + 1)
+  over_next =
+      over_kept tables conts conts states states (kept_same conts) (grown_same states) cached.within parts t x (j + 1)
+      (step_to tables roots x conts conts states states (kept_same conts) (grown_same states) s j c k
+      (below_of conts parts) runs.over.at (plain_below conts parts runs.over.at.state.ended runs.plain) samples cells
+      cached letter class (To t) known t refl) runs.over.parts_are
+
+  next_bare : parts ≡ [] → IsSettled tables conts states parts t x (j + 1)
+  next_bare none = record { over = over_next; plain = λ ended. none }
+
+  next_running : (there : State) → slice_get states t ≡ Some there → there.ended ≡ false
+      → IsSettled tables conts states parts t x (j + 1)
+  next_running there there_is runs_on =
+      settled_running tables conts states parts t x (j + 1) there.ended
+      (λ got is. let both : Some there ≡ Some got = sym there_is ∙ is in let same : there ≡ got = cc both in
+      ap (λ v. v.ended) same) runs_on over_next
+
+  next_same : t ≡ s → IsSettled tables conts states parts t x (j + 1)
+  next_same same = record {
+    over = over_next;
+    plain = λ ended. runs.plain (
+        let both : Some over_next.at.state ≡ Some runs.over.at.state =
+        sym over_next.at.is ∙ subst (λ v. slice_get states v ≡ Some runs.over.at.state) (sym same) runs.over.at.is in
+        let one : over_next.at.state ≡ runs.over.at.state = cc both in
+        sym (ap (λ v. v.ended) one) ∙ ended);
+  }
+
+  next_reached : IsReached (flat_of tables) (last_of tables) x (j + 1)
+  next_reached =
+      step_reached tables roots x conts conts states states (kept_same conts) (grown_same states) s j c k
+      (below_of conts parts) runs.over.at (plain_below conts parts runs.over.at.state.ended runs.plain) samples cells
+      cached letter class (To t) known t refl
+
+-- a word below 2 ^ 31 in the place of a class
+module _ (tables : code_flat.Tables) (roots : GiveRoots (flat_of tables) tables.roots.items) (samples : List ℕ)
+    (memo : Memo) (is_memo : IsMemo tables samples memo) (x : List ℕ) (row j c k next : ℕ)
+    (before : IsTrack tables samples memo x (record { row = row; at = j })) (letter : slice_get x j ≡ Some c)
+    (class : IsClassOf (flat_of tables) samples c k) (word : slice_get memo.hops.items (row + k) ≡ Some next)
+    (below : next < 2 ^ 31) where
+  class_within : k < length samples
+  class_within = slice_get_within samples k class.sample class.is
+
+  wide : k < length samples + 1
+  wide = let w = class_within in omega (arith, w)
+
+  word_place : row + k ≡ before.state * (length samples + 1) + k
+  word_place = ap (λ v. v + k) before.row
+
+  word_class : (row + k) % (length samples + 1) ≡ k
+  word_class = class_is before.state k (length samples + 1) (row + k) wide word_place
+
+  hop : IsHopTo tables samples memo.cache.conts.items.items memo.cache.states.items (row + k) next
+  hop =
+      (is_memo.hops (row + k) next word).leads (subst (λ v. v < length samples) (sym word_class) class_within) below
+
+  cell_known : (d : ℕ) → slice_get samples k ≡ Some d
+      → IsCell tables d memo.cache.conts.items.items memo.cache.states.items before.state (To hop.to)
+  cell_known d sample =
+      subst (λ v. IsCell tables d memo.cache.conts.items.items memo.cache.states.items v (To hop.to))
+      (row_is before.state k (length samples + 1) (row + k) wide word_place)
+      (hop.leads d (subst (λ v. slice_get samples v ≡ Some d) (sym word_class) sample))
+
+  track_to : IsSettled tables memo.cache.conts.items.items memo.cache.states.items memo.parts.items hop.to x (j + 1)
+      → IsTrack tables samples memo x (record { row = next; at = j + 1 })
+  track_to settled = record {
+    state = hop.to;
+    row = hop.row;
+    runs = settled;
+    reached = λ _. next_reached tables roots samples memo.cache.conts.items.items memo.cache.states.items
+        memo.cache.cells.items is_memo.cached memo.parts.items x before.state j c k hop.to before.runs letter class
+        cell_known;
+  }
+
+  track_bare : memo.parts.items ≡ [] → IsTrack tables samples memo x (record { row = next; at = j + 1 })
+  track_bare none =
+      track_to (next_bare tables roots samples memo.cache.conts.items.items memo.cache.states.items
+      memo.cache.cells.items is_memo.cached memo.parts.items x before.state j c k hop.to before.runs letter class
+      cell_known none)
+
+  track_running : slice_get memo.hops.items (next + length samples) ≡ Some 0
+      → IsTrack tables samples memo x (record { row = next; at = j + 1 })
+  track_running last =
+      let place : next + length samples ≡ hop.to * (length samples + 1) + length samples =
+      ap (λ v. v + length samples) hop.row in
+      let wider : length samples < length samples + 1 = omega arith in
+      let end = (is_memo.hops (next + length samples) 0 last).runs
+      (class_is hop.to (length samples) (length samples + 1) (next + length samples) wider place) refl in
+      track_to (next_running tables roots samples memo.cache.conts.items.items memo.cache.states.items
+      memo.cache.cells.items is_memo.cached memo.parts.items x before.state j c k hop.to before.runs letter class
+      cell_known end.state (subst (λ v. slice_get memo.cache.states.items v ≡ Some end.state)
+      (row_is hop.to (length samples) (length samples + 1) (next + length samples) wider place) end.is) end.ended_is)
+
+  track_same : next ≡ row → IsTrack tables samples memo x (record { row = next; at = j + 1 })
+  track_same back =
+      let wider : 0 < length samples + 1 = omega arith in
+      let there : next ≡ hop.to * (length samples + 1) + 0 = let r = hop.row in omega (arith, r) in
+      let here : next ≡ before.state * (length samples + 1) + 0 = let r = before.row in omega (arith, r, back) in
+      track_to (next_same tables roots samples memo.cache.conts.items.items memo.cache.states.items
+      memo.cache.cells.items is_memo.cached memo.parts.items x before.state j c k hop.to before.runs letter class
+      cell_known (sym (row_is hop.to 0 (length samples + 1) next wider there)
+      ∙ row_is before.state 0 (length samples + 1) next wider here))
+
+module _ (tables : code_flat.Tables) (roots : GiveRoots (flat_of tables) tables.roots.items) (samples : List ℕ)
+    (memo : Memo) (is_memo : IsMemo tables samples memo) (x : List ℕ) where
+  pub hop_taken : (row j c k next : ℕ) (bare : Bool) → (bare ≡ true → memo.parts.items ≡ [])
+      → IsTrack tables samples memo x (record { row = row; at = j }) → slice_get x j ≡ Some c
+      → IsClassOf (flat_of tables) samples c k → IsTaken memo.hops.items (length samples) bare (row + k) next
+      → IsTrack tables samples memo x (record { row = next; at = j + 1 })
+  hop_taken row j c k next bare none before letter class taken = by taken.2
+    where
+      by : (bare ≡ true) ⊎ (slice_get memo.hops.items (next + length samples) ≡ Some 0)
+          → IsTrack tables samples memo x (record { row = next; at = j + 1 })
+      by (inl is) =
+          track_bare tables roots samples memo is_memo x row j c k next before letter class taken.0 taken.1 (none is)
+      by (inr last) =
+          track_running tables roots samples memo is_memo x row j c k next before letter class taken.0 taken.1 last
+
+  -- by symbols that lead from a row to that row
+  module _ (low : List ℕ) (classes : AreClasses (flat_of tables) low samples) (row from : ℕ) (below : row < 2 ^ 31)
+    where
+      stays_more : (n : ℕ) → from + n ≤ length x → StaysOver low samples memo.hops.items x row from (from + n)
+          → IsTrack tables samples memo x (record { row = row; at = from })
+          → IsTrack tables samples memo x (record { row = row; at = from + n })
+      stays_more zero within stays track =
+          subst (λ v. IsTrack tables samples memo x (record { row = row; at = v })) (sym (add-zero from)) track
+      stays_more (suc n) within stays track =
+          let some = some_at x (from + n) (omega (arith, within)) in
+          let by = stays (from + n) some.0 (omega arith) (omega arith) some.1 (flat_of tables) classes in
+          let before = stays_more n (omega (arith, within)) (λ j c le lt. stays j c le (omega (arith, lt))) track in
+          subst (λ v. IsTrack tables samples memo x (record { row = row; at = v }))
+          (let e : from + n + 1 ≡ from + suc n = omega arith in e)
+          (track_same tables roots samples memo is_memo x row (from + n) some.0 by.0 row before some.1 by.1 by.2 below
+          refl)
+
+      pub stays_taken : (to : ℕ) → from ≤ to → to ≤ length x
+          → StaysOver low samples memo.hops.items x row from to
+          → IsTrack tables samples memo x (record { row = row; at = from })
+          → IsTrack tables samples memo x (record { row = row; at = to })
+      stays_taken to le within stays track =
+          let same : from + (to - from) ≡ to = omega (arith, le) in
+          subst (λ v. IsTrack tables samples memo x (record { row = row; at = v })) same
+          (stays_more (to - from) (omega (arith, same, within))
+          (subst (λ v. StaysOver low samples memo.hops.items x row from v) (sym same) stays) track)
+
+-- symbols that lead from a row to that row
+module _ (low samples hops x : List ℕ) (row : ℕ) where
+  pub none_stay : (at : ℕ) → StaysOver low samples hops x row at at
+  none_stay at j v le lt is = absurd (omega (arith, le, lt))
+
+  pub stays_both : (from mid to : ℕ) → StaysOver low samples hops x row from mid
+      → StaysOver low samples hops x row mid to → StaysOver low samples hops x row from to
+  stays_both from mid to first second j v le lt is = by (cases_lt j mid)
+    where
+      by : (j < mid) ⊎ (mid ≤ j) → StaysBy low samples hops row v
+      by (inl less) = first j v le less is
+      by (inr more) = second j v more lt is
+
+  one_stays : (j at v a : ℕ) → j ≡ at → slice_get x at ≡ Some a → slice_get x j ≡ Some v
+      → StaysBy low samples hops row a → StaysBy low samples hops row v
+  one_stays j at v a here first is stays =
+      let both : Some a ≡ Some v = sym first ∙ subst (λ w. slice_get x w ≡ Some v) here is in
+      let same : a ≡ v = cc both in
+      subst (λ w. StaysBy low samples hops row w) same stays
+
+  pub four_stay : (at a b c d : ℕ) → slice_get x at ≡ Some a → slice_get x (at + 1) ≡ Some b
+      → slice_get x (at + 2) ≡ Some c → slice_get x (at + 3) ≡ Some d → StaysBy low samples hops row a
+      → StaysBy low samples hops row b → StaysBy low samples hops row c → StaysBy low samples hops row d
+      → StaysOver low samples hops x row at (at + 4)
+  four_stay at a b c d is_a is_b is_c is_d stays_a stays_b stays_c stays_d j v le lt is = by (cases_lt j (at + 1))
+    where
+      third : at + 2 ≤ j → (j < at + 3) ⊎ (at + 3 ≤ j) → StaysBy low samples hops row v
+      third ge (inl less) = one_stays j (at + 2) v c (omega (arith, ge, less)) is_c is stays_c
+      third ge (inr more) = one_stays j (at + 3) v d (omega (arith, more, lt)) is_d is stays_d
+
+      second : at + 1 ≤ j → (j < at + 2) ⊎ (at + 2 ≤ j) → StaysBy low samples hops row v
+      second ge (inl less) = one_stays j (at + 1) v b (omega (arith, ge, less)) is_b is stays_b
+      second ge (inr more) = third more (cases_lt j (at + 3))
+
+      by : (j < at + 1) ⊎ (at + 1 ≤ j) → StaysBy low samples hops row v
+      by (inl less) = one_stays j at v a (omega (arith, le, less)) is_a is stays_a
+      by (inr more) = second more (cases_lt j (at + 2))
+
+-- the row of a state stands for the state
+module _ (tables : code_flat.Tables) (samples : List ℕ) (memo : Memo) (x : List ℕ) where
+  pub track_of : (row state stride j : ℕ) → stride ≡ length samples + 1 → row ≡ state * stride + 0
+      → IsSettled tables memo.cache.conts.items.items memo.cache.states.items memo.parts.items state x j
+      → (0 < j → IsReached (flat_of tables) (last_of tables) x j)
+      → IsTrack tables samples memo x (record { row = row; at = j })
+  track_of row state stride j wide place runs reached = record {
+    state = state;
+    row = let e : row ≡ state * (length samples + 1) + 0 = subst (λ v. row ≡ state * v + 0) wide place in
+        omega (arith, e);
+    runs = runs;
+    reached = reached;
+  }
+
+  pub runs_by_row : (row stride j : ℕ) → stride ≡ length samples + 1
+      → IsTrack tables samples memo x (record { row = row; at = j })
+      → IsSettled tables memo.cache.conts.items.items memo.cache.states.items memo.parts.items (row / stride) x j
+  runs_by_row row stride j wide track =
+      let first : row ≡ track.state * (length samples + 1) + 0 = let r = track.row in omega (arith, r) in
+      subst (λ v. IsSettled tables memo.cache.conts.items.items memo.cache.states.items memo.parts.items v x j)
+      (sym (row_is track.state 0 (length samples + 1) row (omega arith) first) ∙ ap (λ v. row / v) (sym wide))
+      track.runs
+
+pub row_state : (s row stride n : ℕ) → stride ≡ n + 1 → row ≡ s * (n + 1) → row / stride ≡ s
+row_state s row stride n wide place =
+    ap (λ v. row / v) wide ∙ row_is s 0 (n + 1) row (omega arith) (omega (arith, place))
+
+-- the last word of a row
+module _ (tables : code_flat.Tables) (samples : List ℕ) (memo : Memo) (is_memo : IsMemo tables samples memo)
+    (row s : ℕ) (place : row ≡ s * (length samples + 1)) (got : State)
+    (there : slice_get memo.cache.states.items s ≡ Some got) where
+  end_says : (ended : Bool) → IsEndAt samples memo.cache.states.items (row + length samples) ended → ended ≡ got.ended
+  end_says ended end =
+      let wider : length samples < length samples + 1 = omega arith in
+      let at_end : row + length samples ≡ s * (length samples + 1) + length samples =
+      ap (λ v. v + length samples) place in
+      let both : Some end.state ≡ Some got =
+      sym (subst (λ v. slice_get memo.cache.states.items v ≡ Some end.state)
+      (row_is s (length samples) (length samples + 1) (row + length samples) wider at_end) end.is) ∙ there in
+      let same : end.state ≡ got = cc both in
+      sym end.ended_is ∙ ap (λ v. v.ended) same
+
+  last_class : (row + length samples) % (length samples + 1) ≡ length samples
+  last_class =
+      class_is s (length samples) (length samples + 1) (row + length samples) (omega arith)
+      (ap (λ v. v + length samples) place)
+
+  pub last_says : (ended : Bool)
+      → slice_get memo.hops.items (row + length samples) ≡ Some (last_word ended) → ended ≡ got.ended
+  last_says true word = end_says true ((is_memo.hops (row + length samples) 1 word).ends last_class refl)
+  last_says false word = end_says false ((is_memo.hops (row + length samples) 0 word).runs last_class refl)
