@@ -130,10 +130,10 @@ def test_lines_may_hold_any_byte():
 
 
 def test_findings_on_an_input():
-    err = b'line 1, letter 3: expected "-"\n  12x3\n    ^\nline 3 ends too early: expected %x30-39\n  12-\n     ^\n'
+    err = b'line 1, letter 3: expected "-"\n  12x3\n    ^\nline 3 ends too early: expected DIGIT\n  12-\n     ^\n'
     assert [it[:7] for it in read_findings(err)] == [
         ("", 1, 3, "error", "refused", 'expected "-"', "input"),
-        ("", 3, None, "error", "refused", "expected %x30-39", "input"),
+        ("", 3, None, "error", "refused", "expected DIGIT", "input"),
     ]
     err = b"no match at byte 10\n  byte 12, line 2, column 8, in the unit at byte 10\n  z=;\n    ^\n"
     (found,) = read_findings(err + b"  expected [0-9] in N\n")
@@ -180,6 +180,10 @@ def test_refusals_of_all_kinds():
 def test_further_forms_of_refusals():
     text = b'line 2 ends too early: expected "," / DIGIT in day / %s"e" of %x66.65 in f or the end of the line\n'
     assert read_refusal(3, text) == Refusal(3, ('","', "DIGIT in day", '%s"e" of %x66.65 in f'), True, "")
+    text = 'line 1, letter 1: expected DIGIT / "\xe9" (%xE9) and 2 more or the end of the line\n'.encode()
+    found = read_refusal(0, text)
+    assert found == Refusal(0, ("DIGIT", '"\xe9" (%xE9)'), True, "", 2)
+    assert str(found) == 'refused after 0 letters: expected DIGIT / "\xe9" (%xE9) and 2 more or the end'
 
 
 def test_files(tmp_path):

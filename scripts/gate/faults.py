@@ -86,7 +86,7 @@ STOP_EXPLAINED = peg("a stop explained", b"S <- 'a' ('=' [0-9]+ ';')* {x}", b"a=
 REFUSED_EXPLAINED = abnf("refused lines explained", b'd = 2DIGIT "-" 2DIGIT\n', b"12x3\n12-34\n12-\n123456\n",
                          [NO, YES, NO],
                          b'line 1, letter 3: expected "-"\n  12x3\n    ^\n'
-                         b"line 3 ends too early: expected %x30-39\n  12-\n     ^\n"
+                         b"line 3 ends too early: expected DIGIT\n  12-\n     ^\n"
                          b"line 4 longer than 5 bytes\n  -l allows at most 16777216\n", 3, words=["-x", "-l", "5"])
 HINTED = abnf("hints on a grammar", b'a = "x" b / "y"\nb = %x39-30\n', b"y\n", [YES],
               b"rule 'b' derives nothing\n  line 2: 'b' is defined\n"

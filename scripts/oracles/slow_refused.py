@@ -3,6 +3,9 @@
 A letter can follow the longest viable beginning of a line if that beginning with the letter behind it is viable. All
 letters between two that the rules name behave alike, so that one of them is tried for all.
 """
+import re
+import string
+
 import slow_abnf
 import slow_faults
 import slow_stops
@@ -49,27 +52,92 @@ class Following:
         return runs
 
 
-def letter_text(c, single):
-    """Returns how a letter is told; none where its other case tells it."""
+# The core rules that report a set of symbols, in order, and those of one symbol (RFC 5234, appendix B.1).
+SETS = {
+    "OCTET": range(0x100),
+    "CHAR": range(1, 0x80),
+    "VCHAR": range(0x21, 0x7F),
+    "ALPHA": string.ascii_letters.encode(),
+    "CTL": [*range(0x20), 0x7F],
+    "HEXDIG": string.hexdigits.encode(),
+    "DIGIT": string.digits.encode(),
+    "WSP": b" \t",
+}
+NAMES = {" ": "SP", "\t": "HTAB", "\r": "CR", "\n": "LF", '"': "DQUOTE"}
+PRINTED = re.compile("[\xa1-\xac\xae-\u02ff\u0391-\u03a1\u03a3-\u0482\u048a-\u052f\u3041-\u3096\u30a1-\u30fa"
+                     "\u4e00-\u9fff\uac00-\ud7a3]")
+GAP = 0xE000 - 0xD800
+
+
+def symbol(place):
+    """Returns the symbol at a place among all symbols: those after the surrogates follow those before."""
+    return place if place < 0xD800 else place + GAP
+
+
+def letter_text(c, single, is_utf8):
+    """Returns how a letter is reported; none where its other case reports it."""
     is_case = chr(c).isascii() and chr(c).isalpha()
     other = ord(chr(c).swapcase()) if is_case else None
     if is_case and other in single:
         return f'"{chr(c)}"' if c < other else None
     if is_case:
         return f'%s"{chr(c)}"'
-    return f'"{chr(c)}"' if 32 <= c <= 126 and c != 34 else f"%x{c:02X}"
+    if chr(c) in NAMES:
+        return NAMES[chr(c)]
+    if is_utf8 and PRINTED.match(chr(c)):
+        return f'"{chr(c)}" (%x{c:02X})'
+    return f'"{chr(c)}"' if 33 <= c <= 126 else f"%x{c:02X}"
 
 
-def letters_text(runs):
-    short = [sorted({first, last}) for first, last in runs if last <= first + 1]
-    single = {it for both in short for it in both}
+class Symbols:
+    """A set of places: those below 256 one by one, the others as runs."""
+
+    def __init__(self, low, high, is_utf8):
+        self.low, self.high, self.is_utf8 = low, high, is_utf8
+
+    def runs(self):
+        """Returns the maximal runs of places."""
+        found = []
+        for first, last in [*((it, it) for it in sorted(self.low)), *self.high]:
+            if found and found[-1][1] + 1 == first:
+                found[-1] = (found[-1][0], last)
+            else:
+                found.append((first, last))
+        return found
+
+    def terms(self):
+        """Returns the terms of ABNF for the set."""
+        runs = self.runs()
+        single = {symbol(it) for first, last in runs if last <= first + 1 for it in (first, last)}
+        told = []
+        for first, last in runs:
+            if last <= first + 1:
+                told += [letter_text(symbol(it), single, self.is_utf8) for it in sorted({first, last})]
+            else:
+                told.append(f"%x{symbol(first):02X}-{symbol(last):02X}")
+        return [it for it in told if it]
+
+    def cost(self):
+        return sum(2 if re.match("%x[0-9A-F]+-", it) else 1 for it in self.terms())
+
+    def without(self, symbols):
+        return Symbols(self.low - symbols, self.high, self.is_utf8)
+
+
+def letters_text(runs, is_utf8):
+    """Returns the text for the letters of runs: names of core rules, then terms."""
+    def place(c):
+        return c if c < 0xD800 else c - GAP
+    rest = Symbols({it for first, last in runs for it in range(first, min(last, 0xFF) + 1)},
+                   [(place(max(first, 0x100)), place(last)) for first, last in runs if last > 0xFF], is_utf8)
     told = []
-    for first, last in runs:
-        if last <= first + 1:
-            told += [letter_text(it, single) for it in sorted({first, last})]
-        else:
-            told.append(f"%x{first:02X}-{last:02X}")
-    return " / ".join(it for it in told if it)
+    for name, symbols in SETS.items():
+        less = rest.without(set(symbols))
+        if set(symbols) <= rest.low and less.cost() <= rest.cost():
+            told.append(name)
+            rest = less
+    told += rest.terms()
+    return " / ".join(told[:MOST]) + (f" and {len(told) - MOST} more" if len(told) > MOST else "")
 
 
 def refusal(following, name, line, number):
@@ -81,7 +149,7 @@ def refusal(following, name, line, number):
     ends = slow_abnf.Deriver(following.rules, front).derives(following.key)
     if not runs and not ends:
         return f"line {number}: rule '{slow_stops.cut(name)}' derives nothing\n"
-    expected = letters_text(runs)
+    expected = letters_text(runs, following.is_utf8)
     if ends:
         expected += " or the end of the line" if runs else "the end of the line"
     at = f"line {number}, letter {after + 1}: expected "
@@ -114,4 +182,4 @@ def behind_notes(grammar, given, limit, judged, is_utf8, end):
             more += 1
     if more:
         told.append(f"more refused lines: {more}\n")
-    return ("".join(told) + message).encode("latin-1")
+    return ("".join(told) + message).encode()

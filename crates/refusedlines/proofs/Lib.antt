@@ -4,3 +4,4 @@ pub mod RefusalLemmas
 pub mod OneRefusalLemmas
 pub mod LetterRunLemmas
 pub mod ToldTextLemmas
+pub mod SymbolPiecesLemmas

@@ -50,7 +50,7 @@ module _ (one_spelled : (line points others : List ℕ) → Spells points line �
       (subst (λ v. AreFollowing (has alphabet) rules judged v p.after p.runs p.ends) x p.following) in
       let f = one_following (has alphabet) rules judged q.first q.after p.runs q.runs p.ends q.ends moved q.following in
       p.is
-      ∙ (λ i. refusal_text (name_at rules judged) number line (refused_at (n i) (length (x i)) (nat_lt (s i)
+      ∙ (λ i. refusal_text alphabet (name_at rules judged) number line (refused_at (n i) (length (x i)) (nat_lt (s i)
       (length line))) (octet_count alphabet (take (n i) (x i))) (f.0 i) (f.1 i))
       ∙ sym q.is
 

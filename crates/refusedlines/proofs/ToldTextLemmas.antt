@@ -5,11 +5,14 @@ use Rattle.std.proofs.Common.{if◌then◌else◌, List, [], ◌∷◌, ◌++◌
 use Rattle.std.proofs.Common.{map, length, take, get_or, refl, sym, ap, arith, append_assoc, codes}
 use Rattle.std.specs.Fmt.{digit_glyph}
 use Rattle.std.specs.List.{flat_map}
-use Rattle.std.proofs.lemmas.List.{append-nil, length-map, length-take-le, map-append, take_more}
+use Rattle.std.proofs.Common.{◌-◌, ◌≤◌, ◌⊎◌, inl, inr, min}
+use Rattle.std.proofs.lemmas.Bool.{cases_lt}
+use Rattle.std.proofs.lemmas.List.{append-nil, length-map, length-take-le, map-append, take_all, take_more}
 use Rattle.std.proofs.lemmas.List.Concat.{flat_map-append}
 use Rattle.abnfprint.proofs.PrintedNumberLemmas.{upper-one, upper-more}
 use Rattle.abnfprint.specs.CanonicalAbnf.{upper_digits}
-use Rattle.refusedlines.specs.ToldLetters.{slashed, told_text}
+use Rattle.refusedlines.specs.RefusedText.{more_text, pieces_text, slashed}
+use Rattle.refusedlines.specs.ToldLetters.{told_text}
 use Rattle.refusedlines.specs.declared.letterruns.told.ToldLetters.{ToldLetters}
 
 pub digit_more : (v : ℕ) → 0 < v → (old mid new : List ℕ) (d : ℕ) → mid ≡ old ++ upper_digits (v / 16)
@@ -60,3 +63,20 @@ slashed_next told i d old before marked new lt is mark put =
     ∙ ap (λ v. v ++ one) (append_assoc old (slashed texts) (slash_at i))
     ∙ append_assoc old (slashed texts ++ slash_at i) one
     ∙ ap (λ v. old ++ v) (sym (slashed_push texts one i size) ∙ ap slashed (sym more))
+
+pub first_shown : (all : List ToldLetters) (n shown : ℕ) → shown ≡ min (length all) n → take shown all ≡ take n all
+first_shown all n shown is = by (cases_lt n (length all))
+  where
+    by : (n < length all) ⊎ (length all ≤ n) → take shown all ≡ take n all
+    by (inl lt) = ap (λ v. take v all) (let same : shown ≡ n = omega (arith, is, lt) in same)
+    by (inr le) = take_all shown all (omega (arith, is, le)) ∙ sym (take_all n all le)
+
+pub pieces_pushed : (all : List ToldLetters) (shown : ℕ) (count : ℕ) (old mid new : List ℕ)
+    → shown ≡ min (length all) 16 → mid ≡ old ++ slashed (map told_text (take shown all)) → count ≡ length all - 16
+    → new ≡ mid ++ more_text count → new ≡ old ++ pieces_text all
+pieces_pushed all shown count old mid new is first left put =
+    let shown_text = slashed (map told_text (take 16 all)) in
+    put
+    ∙ ap (λ v. v ++ more_text count)
+    (first ∙ ap (λ v. old ++ slashed (map told_text v)) (first_shown all 16 shown is))
+    ∙ ap (λ v. (old ++ shown_text) ++ more_text v) left ∙ append_assoc old shown_text (more_text (length all - 16))

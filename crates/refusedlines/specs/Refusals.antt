@@ -40,7 +40,7 @@ pub record IsRefusalTold (alphabet : Alphabet) (rules : List Rule) (judged : ℕ
   pub runs : List LetterRun
   pub ends : Bool
   pub following : AreFollowing (has alphabet) rules judged first after runs ends
-  pub is : text ≡ refusal_text (name_at rules judged) number line
+  pub is : text ≡ refusal_text alphabet (name_at rules judged) number line
       (refused_at after (length first) (nat_lt size (length line))) (octet_count alphabet (take after first)) runs ends
 
 -- such a text was added

@@ -1,11 +1,44 @@
 -- The lines that explain a rejected line.
 use Rattle.std.specs.Prelude.{ℕ, ◌+◌, nat_lt, Bool, true, false, if◌then◌else◌, List, [], ◌∷◌, ◌++◌, codes, decimal}
-use Rattle.refusedlines.specs.ToldLetters.{expected_text}
+use Rattle.std.specs.Prelude.{zero, suc, map, take, length, ◌-◌}
+use Rattle.std.specs.List.{flat_map}
+use Rattle.letters.specs.declared.alphabet.Alphabet.{Alphabet}
+use Rattle.refusedlines.specs.SymbolPieces.{pieces}
+use Rattle.refusedlines.specs.ToldLetters.{told_text}
+use Rattle.refusedlines.specs.declared.letterruns.told.ToldLetters.{ToldLetters}
 use Rattle.refusedlines.specs.declared.letterruns.run.LetterRun.{LetterRun}
 use Rattle.diagnostics.specs.Pictures.{picture}
 use Rattle.diagnostics.specs.ShownBytes.{cut}
 use Rattle.refusedlines.specs.declared.refusal.RefusedAt.{RefusedAt}
 use Rattle.refusedlines.specs.declared.refusal.RefusedAt.TheVariants.{Letter, NoText, End}
+
+-- texts with slashes between
+abbrev pub slashed : List (List ℕ) → List ℕ
+slashed [] = []
+slashed (t ∷ ts) = t ++ flat_map (λ v. codes " / " ++ v) ts
+
+-- how many pieces are reported in full
+abbrev pub shown_pieces : ℕ
+shown_pieces = 16
+
+-- how many pieces are left out
+abbrev pub more_text : ℕ → List ℕ
+more_text zero = []
+more_text (suc n) = codes " and " ++ (decimal (suc n) ++ codes " more")
+
+-- the first pieces, and how many more there are
+abbrev pub pieces_text : List ToldLetters → List ℕ
+pieces_text all = slashed (map told_text (take shown_pieces all)) ++ more_text (length all - shown_pieces)
+
+-- that a line may end, after the symbols that can follow
+abbrev pub end_text : List LetterRun → Bool → List ℕ
+end_text runs false = []
+end_text [] true = codes "the end of the line"
+end_text (run ∷ runs) true = codes " or the end of the line"
+
+-- what can follow: symbols, or the end
+abbrev pub expected_text : Alphabet → List LetterRun → Bool → List ℕ
+expected_text alphabet runs ends = pieces_text (pieces alphabet runs) ++ end_text runs ends
 
 -- Where a line is rejected: at the letter after its longest viable prefix; if that has all its letters, at bytes that
 -- are not UTF-8, or at its end. Letters count from 1.
@@ -30,10 +63,10 @@ nothing_text number name = codes "line " ++ (decimal number ++ (codes ": rule '"
     ++ codes "' derives nothing\n")))
 
 -- what is expected at a position of a line of bytes, and a picture of the position
-abbrev pub told_expected : ℕ → List ℕ → RefusedAt → ℕ → List LetterRun → Bool → List ℕ
-told_expected number line at place runs ends = at_text number at ++ (expected_text runs ends ++ (codes "\n"
-    ++ picture line place))
+abbrev pub told_expected : Alphabet → ℕ → List ℕ → RefusedAt → ℕ → List LetterRun → Bool → List ℕ
+told_expected alphabet number line at place runs ends = at_text number at ++ (expected_text alphabet runs ends
+    ++ (codes "\n" ++ picture line place))
 
-abbrev pub refusal_text : List ℕ → ℕ → List ℕ → RefusedAt → ℕ → List LetterRun → Bool → List ℕ
-refusal_text name number line at place runs ends = if is_none runs ends then nothing_text number name
-    else told_expected number line at place runs ends
+abbrev pub refusal_text : Alphabet → List ℕ → ℕ → List ℕ → RefusedAt → ℕ → List LetterRun → Bool → List ℕ
+refusal_text alphabet name number line at place runs ends = if is_none runs ends then nothing_text number name
+    else told_expected alphabet number line at place runs ends

@@ -103,6 +103,7 @@ fn explain_bytes(
     let place = following.after;
     let at = refused_at(place, line.bytes.len(), false);
     let refusal = Refusal {
+        alphabet: Alphabet::Bytes,
         at,
         place,
         following,
@@ -132,6 +133,7 @@ fn explain_points(
     let at = refused_at(after, points.len(), first.size < line.bytes.len());
     let place = octets_of(&points[..after]);
     let refusal = Refusal {
+        alphabet: Alphabet::Utf8,
         at,
         place,
         following,

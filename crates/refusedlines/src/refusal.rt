@@ -6,6 +6,7 @@ ghost use Rattle.refusedlines.specs.RefusedText.{refusal_text};
 use crate::following::Following;
 use crate::letterruns::push_expected;
 use diagnostics::{LineAround, push_cut, push_number, push_picture};
+use letters::Alphabet;
 use ruletable::Memory;
 use std::alloc::Global;
 
@@ -29,9 +30,11 @@ pub(crate) enum RefusedAt {
     End,
 }
 
-/// The explanation of a rejected line: where it is rejected, after how many of its bytes, and what can follow there.
+/// The explanation of a rejected line: what lines are made of, where it is rejected, after how many of its bytes, and
+/// what can follow there.
 #[derive(Drop)]
 pub(crate) struct Refusal {
+    pub(crate) alphabet: Alphabet,
     pub(crate) at: RefusedAt,
     pub(crate) place: usize,
     pub(crate) following: Following,
@@ -96,11 +99,18 @@ fn push_lines(
     out: &mut Vec<u8>,
 ) -> Result<(), Memory>
     requires { refusal.now.place ≤ length line.bytes.now }
-    ensures { OnOk result (out.new.items ≡ out.old.items ++ told_expected line.entry.number line.entry.bytes.now
-        refusal.now.at refusal.now.place refusal.now.following.runs.items refusal.now.following.ends) }
+    ensures { OnOk result (out.new.items ≡ out.old.items ++ told_expected refusal.now.alphabet line.entry.number
+        line.entry.bytes.now refusal.now.at refusal.now.place refusal.now.following.runs.items
+        refusal.now.following.ends) }
 {
     push_at(line.number, refusal.at, out)?;
-    push_expected(alloc, &refusal.following.runs, refusal.following.ends, out)?;
+    push_expected(
+        alloc,
+        refusal.alphabet,
+        &refusal.following.runs,
+        refusal.following.ends,
+        out,
+    )?;
     out.extend_from_slice(b"\n")?;
     push_picture(
         out,
@@ -121,8 +131,8 @@ pub(crate) fn push_refusal(
     out: &mut Vec<u8>,
 ) -> Result<(), Memory>
     requires { refusal.now.place ≤ length line.bytes.now }
-    ensures { OnOk result (out.new.items ≡ out.old.items ++ refusal_text name.now line.entry.number
-        line.entry.bytes.now refusal.now.at refusal.now.place refusal.now.following.runs.items
+    ensures { OnOk result (out.new.items ≡ out.old.items ++ refusal_text refusal.now.alphabet name.now
+        line.entry.number line.entry.bytes.now refusal.now.at refusal.now.place refusal.now.following.runs.items
         refusal.now.following.ends) }
 {
     if refusal.following.runs.is_empty() && !refusal.following.ends {

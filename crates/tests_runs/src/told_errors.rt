@@ -71,7 +71,7 @@ static ROWS: [Row; 4] = [
 line 3, letter 6: expected the end of the line
   12-345
        ^
-line 4 ends too early: expected %x30-39
+line 4 ends too early: expected DIGIT
   12-
      ^
 ",

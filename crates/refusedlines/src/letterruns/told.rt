@@ -1,10 +1,12 @@
 //! The terms of ABNF for runs of letters.
-ghost use Rattle.std.specs.Prelude.{◌≡◌, ◌≤◌, ◌++◌, option_to_list, IfOk, IfSome, OnOk};
-ghost use Rattle.refusedlines.specs.ToldLetters.{is_short, is_single, other_case, told_letter, told_letters};
-ghost use Rattle.refusedlines.specs.ToldLetters.{told_plain};
-ghost use Rattle.refusedlines.specs.ToldLetters.{told_run};
+ghost use Rattle.std.specs.Prelude.{◌≡◌, ◌≤◌, ◌++◌, if◌then◌else◌, option_to_list, IfOk, IfSome, OnOk};
+ghost use Rattle.refusedlines.specs.CoreSymbols.{core_of};
+ghost use Rattle.refusedlines.specs.ToldLetters.{has_letter, is_printed, is_short, is_single, other_case, told_letter};
+ghost use Rattle.refusedlines.specs.ToldLetters.{told_letters, told_other, told_plain, told_run};
 
+use crate::letterruns::core_rule::{CoreRule, core_of};
 use crate::letterruns::run::LetterRun;
+use letters::Alphabet;
 use ruletable::Memory;
 use std::alloc::Global;
 
@@ -19,13 +21,61 @@ pub enum ToldLetters {
     Numbered(u32),
     /// The letters from the first to the last, by their numbers.
     Through(LetterRun),
+    /// The symbols of a core rule, by its name.
+    Named(CoreRule),
+    /// In quotes, and by its number.
+    Printed(char),
 }
+
+// Code points that terminals show: letters of Latin, Greek, Cyrillic, the kana, ideographs and Hangul.
+static PRINTED: [LetterRun; 10] = [
+    LetterRun {
+        first: 0xA1,
+        last: 0xAC,
+    },
+    LetterRun {
+        first: 0xAE,
+        last: 0x2FF,
+    },
+    LetterRun {
+        first: 0x391,
+        last: 0x3A1,
+    },
+    LetterRun {
+        first: 0x3A3,
+        last: 0x3FF,
+    },
+    LetterRun {
+        first: 0x400,
+        last: 0x482,
+    },
+    LetterRun {
+        first: 0x48A,
+        last: 0x52F,
+    },
+    LetterRun {
+        first: 0x3041,
+        last: 0x3096,
+    },
+    LetterRun {
+        first: 0x30A1,
+        last: 0x30FA,
+    },
+    LetterRun {
+        first: 0x4E00,
+        last: 0x9FFF,
+    },
+    LetterRun {
+        first: 0xAC00,
+        last: 0xD7A3,
+    },
+];
 
 // Whether a run has one or two letters.
 fn is_short(run: LetterRun) -> bool
     ensures { result ≡ is_short run }
 {
-    run.last.saturating_sub(run.first) <= 1
+    run.last.saturating_sub(run.first) <= 1 || (run.first == 0xD7FF && run.last == 0xE000)
 }
 
 // Whether a letter is one of a run of one or two.
@@ -54,22 +104,58 @@ fn other_case(letter: u32) -> Option<u32>
     None
 }
 
-// Returns the term for a letter that has no other case.
-fn told_plain(letter: u32) -> ToldLetters
-    ensures { result ≡ told_plain letter }
+// Whether a letter is one of some run.
+fn has_letter(runs: &[LetterRun], letter: u32) -> bool
+    ensures { result ≡ has_letter runs.now letter }
 {
-    if 32 <= letter && letter <= 126 && letter != 34 {
+    runs.iter()
+        .any(|run| run.first <= letter && letter <= run.last)
+}
+
+// Returns the character for a code point that terminals show.
+fn printed(alphabet: Alphabet, letter: u32) -> Option<char>
+    ensures { result ≡ (if is_printed alphabet letter then Some letter else None) }
+{
+    match alphabet {
+        Alphabet::Bytes => None,
+        Alphabet::Utf8 => {
+            if letter >= 0xD800 || !has_letter(&PRINTED, letter) {
+                return None;
+            }
+            char::from_u32(letter)
+        }
+    }
+}
+
+// Returns the term for a letter that is no core rule.
+fn told_other(alphabet: Alphabet, letter: u32) -> ToldLetters
+    ensures { result ≡ told_other alphabet letter }
+{
+    if 33 <= letter && letter <= 126 {
         return ToldLetters::Quoted(letter as u8);
     }
-    ToldLetters::Numbered(letter)
+    match printed(alphabet, letter) {
+        Some(shown) => ToldLetters::Printed(shown),
+        None => ToldLetters::Numbered(letter),
+    }
+}
+
+// Returns the term for a letter that has no other case.
+fn told_plain(alphabet: Alphabet, letter: u32) -> ToldLetters
+    ensures { result ≡ told_plain alphabet letter (core_of letter) }
+{
+    match core_of(letter) {
+        Some(rule) => ToldLetters::Named(rule),
+        None => told_other(alphabet, letter),
+    }
 }
 
 // Returns the term for a single letter; nothing if the term for its other case has it too.
-fn told_letter(runs: &[LetterRun], letter: u32) -> Option<ToldLetters>
-    ensures { result ≡ told_letter runs.now letter }
+fn told_letter(alphabet: Alphabet, runs: &[LetterRun], letter: u32) -> Option<ToldLetters>
+    ensures { result ≡ told_letter alphabet runs.now letter }
 {
     let Some(other) = other_case(letter) else {
-        return Some(told_plain(letter));
+        return Some(told_plain(alphabet, letter));
     };
     if !is_single(runs, other) {
         return Some(ToldLetters::Exactly(letter as u8));
@@ -81,26 +167,36 @@ fn told_letter(runs: &[LetterRun], letter: u32) -> Option<ToldLetters>
 }
 
 // Adds the term for a single letter.
-fn add_letter(runs: &[LetterRun], letter: u32, told: &mut Vec<ToldLetters>) -> Result<(), Memory>
-    ensures { OnOk result (told.new.items ≡ told.old.items ++ option_to_list (told_letter runs.now letter)) }
+fn add_letter(
+    alphabet: Alphabet,
+    runs: &[LetterRun],
+    letter: u32,
+    told: &mut Vec<ToldLetters>,
+) -> Result<(), Memory>
+    ensures { OnOk result (told.new.items ≡ told.old.items ++ option_to_list (told_letter alphabet runs.now letter)) }
 {
-    if let Some(one) = told_letter(runs, letter) {
+    if let Some(one) = told_letter(alphabet, runs, letter) {
         told.push(one)?;
     }
     Ok(())
 }
 
 // Adds the terms for one of the runs.
-fn add_run(runs: &[LetterRun], run: LetterRun, told: &mut Vec<ToldLetters>) -> Result<(), Memory>
-    ensures { OnOk result (told.new.items ≡ told.old.items ++ told_run runs.now run) }
+fn add_run(
+    alphabet: Alphabet,
+    runs: &[LetterRun],
+    run: LetterRun,
+    told: &mut Vec<ToldLetters>,
+) -> Result<(), Memory>
+    ensures { OnOk result (told.new.items ≡ told.old.items ++ told_run alphabet runs.now run) }
 {
     if !is_short(run) {
         told.push(ToldLetters::Through(run))?;
         return Ok(());
     }
-    add_letter(runs, run.first, told)?;
+    add_letter(alphabet, runs, run.first, told)?;
     if run.first < run.last {
-        add_letter(runs, run.last, told)?;
+        add_letter(alphabet, runs, run.last, told)?;
     }
     Ok(())
 }
@@ -108,12 +204,16 @@ fn add_run(runs: &[LetterRun], run: LetterRun, told: &mut Vec<ToldLetters>) -> R
 /// Returns the terms for the letters of some runs, in their order. One or two letters of a run are single, and more
 /// have one term. A single letter of US-ASCII has one term with its other case, if that is single too. `Memory` if an
 /// allocation fails.
-pub fn told_letters(alloc: Global, runs: &[LetterRun]) -> Result<Vec<ToldLetters>, Memory>
-    ensures { IfOk result (λ told. told.items ≡ told_letters runs.now) }
+pub fn told_letters(
+    alloc: Global,
+    alphabet: Alphabet,
+    runs: &[LetterRun],
+) -> Result<Vec<ToldLetters>, Memory>
+    ensures { IfOk result (λ told. told.items ≡ told_letters alphabet runs.now) }
 {
     let mut told = Vec::new(alloc);
     for run in runs {
-        add_run(runs, *run, &mut told)?;
+        add_run(alphabet, runs, *run, &mut told)?;
     }
     Ok(told)
 }

@@ -1,13 +1,22 @@
 //! The text of terms for letters.
-ghost use Rattle.std.specs.Prelude.{◌≡◌, ◌<◌, ◌==◌, ◌++◌, [], true, if◌then◌else◌, codes, map, OnOk};
+ghost use Rattle.std.specs.Prelude.{◌≡◌, ◌-◌, ◌<◌, ◌==◌, ◌++◌, [], true, if◌then◌else◌, codes, length, map, OnOk};
+ghost use Rattle.std.specs.Char.{encode_utf8};
 ghost use Rattle.std.specs.Fmt.{digit_glyph};
 ghost use Rattle.abnfprint.specs.CanonicalAbnf.{hexadecimal, upper_digits};
-ghost use Rattle.refusedlines.specs.ToldLetters.{end_text, expected_text, slashed, told_text};
+ghost use Rattle.refusedlines.specs.RefusedText.{end_text, expected_text, more_text, pieces_text, slashed};
+ghost use Rattle.refusedlines.specs.ToldLetters.{told_text};
 
+use crate::letterruns::core_rule::core_name;
+use crate::letterruns::pieces::symbol_pieces;
 use crate::letterruns::run::LetterRun;
-use crate::letterruns::told::{ToldLetters, told_letters};
+use crate::letterruns::told::ToldLetters;
+use diagnostics::push_number;
+use letters::Alphabet;
 use ruletable::Memory;
 use std::alloc::Global;
+
+// How many pieces are reported in full.
+const SHOWN_PIECES: usize = 16;
 
 // Returns the digit of a number below 16.
 fn hex_digit(digit: u32) -> u8
@@ -45,6 +54,20 @@ fn push_hexadecimal(value: u32, out: &mut Vec<u8>) -> Result<(), Memory>
     push_digits(value, out)
 }
 
+// Adds a character in quotes, and its number.
+fn push_printed(shown: char, out: &mut Vec<u8>) -> Result<(), Memory>
+    ensures { OnOk result (out.new.items ≡ out.old.items ++ (codes "\"" ++ (encode_utf8 shown ++ (codes "\" (%x"
+        ++ (hexadecimal shown ++ codes ")"))))) }
+{
+    out.extend_from_slice(b"\"")?;
+    let mut bytes = [0; 4];
+    out.extend_from_slice(shown.encode_utf8(&mut bytes).as_bytes())?;
+    out.extend_from_slice(b"\" (%x")?;
+    push_hexadecimal(shown as u32, out)?;
+    out.extend_from_slice(b")")?;
+    Ok(())
+}
+
 // Adds the text of letters.
 fn push_told(told: ToldLetters, out: &mut Vec<u8>) -> Result<(), Memory>
     ensures { OnOk result (out.new.items ≡ out.old.items ++ told_text told) }
@@ -62,6 +85,8 @@ fn push_told(told: ToldLetters, out: &mut Vec<u8>) -> Result<(), Memory>
             out.extend_from_slice(b"-")?;
             push_hexadecimal(run.last, out)?;
         }
+        ToldLetters::Named(rule) => out.extend_from_slice(core_name(rule))?,
+        ToldLetters::Printed(shown) => push_printed(shown, out)?,
     }
     Ok(())
 }
@@ -87,6 +112,28 @@ fn push_all(told: &[ToldLetters], out: &mut Vec<u8>) -> Result<(), Memory>
     Ok(())
 }
 
+// Adds how many pieces are left out, if there are any.
+fn push_more(count: usize, out: &mut Vec<u8>) -> Result<(), Memory>
+    ensures { OnOk result (out.new.items ≡ out.old.items ++ more_text count) }
+{
+    if count == 0 {
+        return Ok(());
+    }
+    out.extend_from_slice(b" and ")?;
+    push_number(out, count)?;
+    out.extend_from_slice(b" more")?;
+    Ok(())
+}
+
+// Adds the first pieces, and how many more there are.
+fn push_pieces(all: &[ToldLetters], out: &mut Vec<u8>) -> Result<(), Memory>
+    ensures { OnOk result (out.new.items ≡ out.old.items ++ pieces_text all.now) }
+{
+    let shown = all.len().min(SHOWN_PIECES);
+    push_all(&all[..shown], out)?;
+    push_more(all.len().saturating_sub(SHOWN_PIECES), out)
+}
+
 // Returns the words for the end of a line, after the letters of runs.
 fn end_words(runs: &[LetterRun], ends: bool) -> &'static [u8]
     ensures { result.now ≡ end_text runs.now ends }
@@ -100,21 +147,23 @@ fn end_words(runs: &[LetterRun], ends: bool) -> &'static [u8]
     b" or the end of the line"
 }
 
-/// Adds what may stand at a place of a line: the letters of some runs as ABNF writes them (RFC 5234, section 2.3; RFC
-/// 7405, section 2.1), with slashes between, and the end, if the line may end there.
+/// Adds what can follow at a position of a line: the letters of some runs, by the names of core rules (RFC 5234,
+/// appendix B.1) and as ABNF writes them (section 2.3; RFC 7405, section 2.1), with slashes between, and the end, if
+/// the line can end there.
 ///
 /// # Errors
 /// `Memory` if an allocation fails.
 pub fn push_expected(
     alloc: Global,
+    alphabet: Alphabet,
     runs: &[LetterRun],
     ends: bool,
     out: &mut Vec<u8>,
 ) -> Result<(), Memory>
-    ensures { OnOk result (out.new.items ≡ out.old.items ++ expected_text runs.now ends) }
+    ensures { OnOk result (out.new.items ≡ out.old.items ++ expected_text alphabet runs.now ends) }
 {
-    let told = told_letters(alloc, runs)?;
-    push_all(&told, out)?;
+    let all = symbol_pieces(alloc, alphabet, runs)?;
+    push_pieces(&all, out)?;
     out.extend_from_slice(end_words(runs, ends))?;
     Ok(())
 }
