@@ -6,7 +6,7 @@ function __abnfi_rules
     set -l at 2
     while test $at -le (count $words)
         switch $words[$at]
-            case -m --mode -s --rule -l --limit -u --letters
+            case -m --mode -s --rule -l --limit -u --letters -p --print
                 set at (math $at + 1)
             case '-*'
             case '*'
@@ -24,6 +24,8 @@ complete -c abnfi -s s -l rule -x -a '(__abnfi_rules)' -d 'Judge by this rule [d
 complete -c abnfi -s l -l limit -x -d 'Take lines of at most N bytes, from 1 to 16777216'
 complete -c abnfi -s u -l letters -x -a 'bytes utf8' -d 'Take bytes or code points of UTF-8 as letters'
 complete -c abnfi -s z -l null-data -d 'Cut the input at NUL bytes in place of line feeds'
+complete -c abnfi -s p -l print -x -a 'answers derived refused count none' -d 'Choose what to print'
+complete -c abnfi -s n -l line-number -d 'Print the number of each line before it'
 complete -c abnfi -s w -l viable -d 'Write how far a refused line goes: no N'
 complete -c abnfi -s x -l explain -d 'Explain messages in more lines'
 complete -c abnfi -s h -l help -f -d 'Print this help'

@@ -1,15 +1,16 @@
 #!/usr/bin/env python3
 """Compares bin/pegi and bin/abnfi with slow answers to random grammars and inputs (slow_peg.py, slow_abnf.py).
 
-usage: random_cases.py [-n COUNT] [-s SEED] [-u] [-w] [-z] [-x] [pegi | abnfi]
+usage: random_cases.py [-n COUNT] [-s SEED] [-u] [-w] [-z] [-p] [-x] [pegi | abnfi]
 
 A case is a unit that pegi tries, a line that abnfi judges, or a grammar that is refused. COUNT cases are compared, half
 of them by each program; 20000 if it is not given. Cases and their order follow from the seed alone. Prints how many
 cases were compared; at the first disagreement it prints the case and ends with status 1. A program that is not built is
 skipped. With -u half of the runs of abnfi have its option `-u utf8`; so it is with -w and its option `-w`, and with -z
-and its option `-z`. With -x half of the runs of both have the option `-x`, half of these with what explains
-their notes, with hints (slow_notes.py, slow_hints.py), how the run of pegi stops (slow_stops.py), and refused lines
-(slow_refused.py), the others of a text with a fault (slow_faults.py): a grammar's, of which some bytes are changed.
+and its option `-z`. With -p most of them have its option `-p` or `-n`. With -x half of the runs of both have the option
+`-x`, half of these with what explains their notes, with hints (slow_notes.py, slow_hints.py), how the run of pegi stops
+(slow_stops.py), and refused lines (slow_refused.py), the others of a text with a fault (slow_faults.py): a grammar's,
+of which some bytes are changed.
 """
 import argparse
 import collections
@@ -89,7 +90,30 @@ def peg_case(r, may_be_explained=False):
     return case
 
 
-def abnf_case(r, may_be_utf8=False, may_be_viable=False, may_be_nul=False, may_be_explained=False):
+def printed(what, is_numbered, case, end):
+    """Returns what `-p` and `-n` print in place of the answers of a run."""
+    out, _, status = case.wanted
+    answers = out.splitlines(keepends=True)
+    derived = answers.count(b"yes\n")
+    if what == "count":
+        return b"%d derived, %d refused\n" % (derived, len(answers) - derived) if status in (0, 1) else b""
+    text = b""
+    for number, (line, answer) in enumerate(zip(case.given.split(end), answers), 1):
+        is_shown = what == "answers" or what == ("derived" if answer == b"yes\n" else "refused")
+        head = b"%d:" % number if is_numbered else b""
+        text += head + (answer if what == "answers" else line + end) if is_shown else b""
+    return text
+
+
+def printed_case(r, case, end):
+    """Returns the run with `-p`, `-n` or both, or as it is."""
+    what, is_numbered = r.choice(["answers", "answers", "derived", "refused", "count", "none"]), r.random() < 0.5
+    words = [*case.words, *(["-p", what] if what != "answers" or r.random() < 0.2 else []), *["-n"] * is_numbered]
+    return case._replace(words=words, wanted=(printed(what, is_numbered, case, end), *case.wanted[1:]))
+
+
+def abnf_case(r, may_be_utf8=False, may_be_viable=False, may_be_nul=False, may_be_printed=False,
+              may_be_explained=False):
     """Returns a random run of abnfi."""
     is_utf8 = may_be_utf8 and r.random() < 0.5
     is_viable = may_be_viable and r.random() < 0.5
@@ -104,8 +128,10 @@ def abnf_case(r, may_be_utf8=False, may_be_viable=False, may_be_nul=False, may_b
     text, given = random_abnf.grammar_text(r, rules), random_abnf.given(r, rules, judged, LINES, longest, is_utf8, end)
     *wanted, count = slow_abnf.answer(rules, given, limit, judged, is_utf8, is_viable, end)
     case = Case(words, text, given, tuple(wanted), count)
+    if may_be_printed and wanted[2] != 2:
+        case = printed_case(r, case, end)
     if may_be_explained and r.random() < 0.5:
-        out, message, status = wanted
+        out, message, status = case.wanted
         if status != 2:
             notes, _ = slow_abnf.notes_on(slow_abnf.Rules(rules), judged)
             message = notes + slow_refused.behind_notes(rules, given, limit, judged, is_utf8, end)
@@ -161,6 +187,7 @@ def main():
     words.add_argument("-u", action="store_true", help="half of the runs of abnfi by `-u utf8`")
     words.add_argument("-w", action="store_true", help="half of the runs of abnfi by `-w`")
     words.add_argument("-z", action="store_true", help="half of the runs of abnfi by `-z`")
+    words.add_argument("-p", action="store_true", help="most of the runs of abnfi by `-p` or `-n`")
     words.add_argument("-x", action="store_true", help="half of the runs of both by `-x`")
     words.add_argument("program", nargs="?", choices=["pegi", "abnfi"])
     given = words.parse_args()
@@ -169,7 +196,7 @@ def main():
     right = True
     with tempfile.TemporaryDirectory(prefix="random_cases-") as folder:
         for name, make in (("pegi", lambda r: peg_case(r, given.x)),
-                           ("abnfi", lambda r: abnf_case(r, given.u, given.w, given.z, given.x))):
+                           ("abnfi", lambda r: abnf_case(r, given.u, given.w, given.z, given.p, given.x))):
             program = TOP / "bin" / name
             if given.program not in (None, name):
                 continue

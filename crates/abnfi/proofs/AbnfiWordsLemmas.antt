@@ -4,7 +4,7 @@ use Rattle.std.proofs.Common.{◌≡◌, ◌∙◌, ap, refl, true, arith}
 use Rattle.std.specs.Prelude.{codes}
 use Rattle.clap.specs.Words.{App, found_of, is_simple, is_simple_and_free, rows_of}
 use Rattle.clap.specs.declared.parser.matches.ArgMatches.{ArgMatches}
-use Rattle.abnfi.specs.AbnfiCommand.{AsksAbnfi, IsAbnfiApp, ReadsAbnfi, abnfi_app, alphabet_named}
+use Rattle.abnfi.specs.AbnfiCommand.{AsksAbnfi, IsAbnfiApp, ReadsAbnfi, abnfi_app, alphabet_named, printed_named}
 use Rattle.abnfrun.specs.declared.options.AbnfOptions.{AbnfOptions}
 use Rattle.cli.proofs.AreWholeLemmas.{first_arg, flag_is, grammar_is, is_command, limit_is}
 use Rattle.cli.proofs.AskLemmas.{first_found, flag_found}
@@ -12,23 +12,23 @@ use Rattle.cli.specs.Asked.{AreWhole}
 use Rattle.cli.specs.Command.{Names}
 use Rattle.cli.specs.Parsing.{IsParsedBy}
 
-named_free : (names alphabets : Names) → is_simple_and_free (abnfi_app names alphabets) ≡ true
-named_free names alphabets = refl
+named_free : (names alphabets printed : Names) → is_simple_and_free (abnfi_app names alphabets printed) ≡ true
+named_free names alphabets printed = refl
 
-named_simple : (names alphabets : Names) → is_simple (abnfi_app names alphabets) ≡ true
-named_simple names alphabets = refl
+named_simple : (names alphabets printed : Names) → is_simple (abnfi_app names alphabets printed) ≡ true
+named_simple names alphabets printed = refl
 
 pub is_simple_app : (app : App) → IsAbnfiApp app → is_simple app ≡ true
-is_simple_app app of = ap is_simple of.4 ∙ named_simple of.0 of.2
+is_simple_app app of = ap is_simple of.6 ∙ named_simple of.0 of.2 of.4
 
 pub is_free : (app : App) → IsAbnfiApp app → is_simple_and_free app ≡ true
-is_free app of = ap is_simple_and_free of.4 ∙ named_free of.0 of.2
+is_free app of = ap is_simple_and_free of.6 ∙ named_free of.0 of.2 of.4
 
 pub is_whole : (m : ArgMatches) → IsParsedBy IsAbnfiApp m → AreWhole (found_of m)
 is_whole m by =
-    let app = abnfi_app by.1.0 by.1.2 in
+    let app = abnfi_app by.1.0 by.1.2 by.1.4 in
     let c = by.2 in
-    let is = is_command c app (by.3 ∙ by.1.4) refl refl refl in
+    let is = is_command c app (by.3 ∙ by.1.6) refl refl refl in
     let d = first_arg c app.top.rules is (omega arith) in
     record {
       limit = limit_is c app.top.rules is m by.4 d 2 (record { within = omega arith; at = λ q. refl; only = refl });
@@ -42,10 +42,10 @@ is_whole m by =
 pub options_are : (m : ArgMatches) (options : AbnfOptions) → IsParsedBy IsAbnfiApp m → ReadsAbnfi (found_of m) options
     → AsksAbnfi (rows_of (found_of m)) options
 options_are m options by read =
-    let app = abnfi_app by.1.0 by.1.2 in
+    let app = abnfi_app by.1.0 by.1.2 by.1.4 in
     let c = by.2 in
     let f = found_of m in
-    let is = is_command c app (by.3 ∙ by.1.4) refl refl refl in
+    let is = is_command c app (by.3 ∙ by.1.6) refl refl refl in
     let d = first_arg c app.top.rules is (omega arith) in
     record {
       letters = read.letters ∙ ap alphabet_named (first_found f (rows_of f) refl (codes "letters"));
@@ -57,4 +57,9 @@ options_are m options by read =
           (flag_is c app.top.rules is m by.4 d 8 (codes "null-data") 122
           (record { named = λ n. cc; help = refl; version = refl })
           (record { within = omega arith; at = λ q. refl; only = refl })) read.nul;
+      printed = read.printed ∙ ap printed_named (first_found f (rows_of f) refl (codes "print"));
+      numbered = flag_found f (rows_of f) refl (codes "line-number") options.numbered
+          (flag_is c app.top.rules is m by.4 d 10 (codes "line-number") 110
+          (record { named = λ n. cc; help = refl; version = refl })
+          (record { within = omega arith; at = λ q. refl; only = refl })) read.numbered;
     }

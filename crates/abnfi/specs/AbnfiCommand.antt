@@ -11,6 +11,8 @@ use Rattle.cli.specs.Asked.{IsFlagOf, is_flagged}
 use Rattle.cli.specs.Command.{AreModes, Names, flag_rule, long_named, tool_app}
 use Rattle.letters.specs.declared.alphabet.Alphabet.{Alphabet}
 use Rattle.letters.specs.declared.alphabet.Alphabet.TheVariants.{Bytes, Utf8}
+use Rattle.linejudge.specs.declared.printed.Printed.{Printed}
+use Rattle.linejudge.specs.declared.printed.Printed.TheVariants.{Answers, Count, Derived, Nothing, Refused}
 
 -- the names of the alphabets of a line
 abbrev pub alphabet_names : List Text
@@ -37,30 +39,62 @@ viable_rule = flag_rule (codes "viable") (code "w")
 abbrev pub nul_rule : Rule
 nul_rule = flag_rule (codes "null-data") (code "z")
 
--- `abnfi [-m MODE] [-l N] [-s RULE] [-u MODE] [-w] [-z] [-x] GRAMMAR`
-abbrev pub abnfi_app : Names → Names → App
-abnfi_app names alphabets =
-    with_rule (with_rule (with_rule (tool_app names (codes "abnfi")) (long_named (letters_rule alphabets))) viable_rule)
-    nul_rule
+-- the names of what is printed
+abbrev pub printed_names : List Text
+printed_names = codes "answers" ∷ codes "derived" ∷ codes "refused" ∷ codes "count" ∷ codes "none" ∷ []
+
+-- the texts are the names of what is printed
+abbrev pub ArePrinted : Names → Type 0
+ArePrinted names = map (λ s. s.now) names.now ≡ printed_names
+
+-- `-p WHAT`, one of the names; `answers` where it is not given
+abbrev pub print_rule : Names → Rule
+print_rule names = record (new_rule (codes "print")) {
+  short = Some (code "p");
+  value_names = 1;
+  parser = Some (vp.Names names);
+  defaults = codes "answers" ∷ [];
+}
+
+-- `-n`
+abbrev pub number_rule : Rule
+number_rule = flag_rule (codes "line-number") (code "n")
+
+-- `abnfi [-m MODE] [-l N] [-s RULE] [-u MODE] [-p WHAT] [-n] [-w] [-z] [-x] GRAMMAR`
+abbrev pub abnfi_app : Names → Names → Names → App
+abnfi_app names alphabets printed =
+    with_rule (with_rule (with_rule (with_rule (with_rule (tool_app names (codes "abnfi"))
+    (long_named (letters_rule alphabets))) viable_rule) nul_rule) (long_named (print_rule printed))) number_rule
 
 -- this is the command of the program
 abbrev pub IsAbnfiApp : App → Type 0
 IsAbnfiApp app = (names : Names) × AreModes names × (alphabets : Names) × AreAlphabets alphabets ×
-    (app ≡ abnfi_app names alphabets)
+    (printed : Names) × ArePrinted printed × (app ≡ abnfi_app names alphabets printed)
 
 -- the alphabet of a name; bytes where none is given
 abbrev pub alphabet_named : Option (List ℕ) → Alphabet
 alphabet_named None = Bytes
 alphabet_named (Some name) = if bytes_eq name (codes "utf8") then Utf8 else Bytes
 
+-- what is printed by that name; answers where none is given
+abbrev pub printed_named : Option (List ℕ) → Printed
+printed_named None = Answers
+printed_named (Some name) = if bytes_eq name (codes "derived") then Derived else
+    (if bytes_eq name (codes "refused") then Refused else (if bytes_eq name (codes "count") then Count else
+    (if bytes_eq name (codes "none") then Nothing else Answers)))
+
 -- these options are read of what is found
 pub record ReadsAbnfi (f : Found) (options : AbnfOptions) : Type 0 where
   pub letters : options.letters ≡ alphabet_named (first_value f (codes "letters"))
   pub viable : IsFlagOf (one_text f (codes "viable")) options.viable
   pub nul : IsFlagOf (one_text f (codes "null-data")) options.nul
+  pub printed : options.printed ≡ printed_named (first_value f (codes "print"))
+  pub numbered : IsFlagOf (one_text f (codes "line-number")) options.numbered
 
 -- the matches ask for these options
 pub record AsksAbnfi (rows : List Row) (options : AbnfOptions) : Type 0 where
   pub letters : options.letters ≡ alphabet_named (first_of (codes "letters") rows)
   pub viable : options.viable ≡ is_flagged (one_of (codes "viable") rows)
   pub nul : options.nul ≡ is_flagged (one_of (codes "null-data") rows)
+  pub printed : options.printed ≡ printed_named (first_of (codes "print") rows)
+  pub numbered : options.numbered ≡ is_flagged (one_of (codes "line-number") rows)

@@ -1,11 +1,11 @@
 //! The command of the program.
 ghost use Rattle.std.specs.Prelude.{◌≡◌, codes, false};
-ghost use Rattle.abnfi.specs.AbnfiCommand.{AreAlphabets, AsksAbnfi, IsAbnfiApp, ReadsAbnfi, alphabet_named};
-ghost use Rattle.abnfi.specs.AbnfiCommand.{letters_rule};
+ghost use Rattle.abnfi.specs.AbnfiCommand.{AreAlphabets, ArePrinted, AsksAbnfi, IsAbnfiApp, ReadsAbnfi};
+ghost use Rattle.abnfi.specs.AbnfiCommand.{alphabet_named, letters_rule, print_rule, printed_named};
 ghost use Rattle.abnfrun.specs.AbnfAnswers.{AbnfStates};
 ghost use Rattle.clap.specs.Words.{first_value, found_of, rule_of};
 
-use abnfrun::{AbnfOptions, AbnfSettings, Alphabet, run_abnf};
+use abnfrun::{AbnfOptions, AbnfSettings, Alphabet, Printed, run_abnf};
 use clap::{Arg, ArgMatches, Command};
 use cli::{Program, add_flag, add_option, tool_command};
 use feed::Source;
@@ -15,6 +15,9 @@ use toolrun::Status;
 
 /// The names of the alphabets of a line.
 static ALPHABETS: [&str; 2] = ["bytes", "utf8"];
+
+/// The names of what is printed.
+static PRINTED: [&str; 5] = ["answers", "derived", "refused", "count", "none"];
 
 /// The text of the help.
 const HELP: &str =
@@ -35,8 +38,10 @@ Input:
   -z, --null-data       Cut the input at NUL bytes in place of line feeds
 
 Output:
-  -w, --viable   Write how far a refused line goes: no N
-  -x, --explain  Explain messages in more lines
+  -p, --print <WHAT>  Choose what to print [default: answers] [possible values: answers, derived, refused, count, none]
+  -n, --line-number   Print the number of each line before it
+  -w, --viable        Write how far a refused line goes: no N
+  -x, --explain       Explain messages in more lines
 
 Other options:
   -h, --help     Print this help
@@ -73,7 +78,30 @@ fn letters_of(matches: &ArgMatches<'_>) -> Alphabet
     }
 }
 
-/// The program `abnfi [-m MODE] [-l N] [-s RULE] [-u MODE] [-w] [-z] [-x] GRAMMAR`.
+fn print_arg<'a>(alloc: Global) -> Arg<'a>
+    ensures rule { (names : _) × ArePrinted names × (rule_of result ≡ print_rule names) }
+    ensures local { result.global ≡ false }
+{
+    Arg::new(alloc, "print")
+        .short('p')
+        .value_name("WHAT")
+        .value_parser(PRINTED.as_slice())
+        .default_value("answers")
+}
+
+fn printed_of(matches: &ArgMatches<'_>) -> Printed
+    ensures { result ≡ printed_named (first_value (found_of matches.now) (codes "print")) }
+{
+    match matches.get_str("print") {
+        Some(name) if name == "derived" => Printed::Derived,
+        Some(name) if name == "refused" => Printed::Refused,
+        Some(name) if name == "count" => Printed::Count,
+        Some(name) if name == "none" => Printed::Nothing,
+        _ => Printed::Answers,
+    }
+}
+
+/// The program `abnfi [-m MODE] [-l N] [-s RULE] [-u MODE] [-p WHAT] [-n] [-w] [-z] [-x] GRAMMAR`.
 pub(crate) struct Abnfi;
 
 impl Program for Abnfi {
@@ -89,10 +117,13 @@ impl Program for Abnfi {
 
     fn command<'a>(alloc: Global) -> Result<Command<'a>, AllocError> {
         let letters = letters_arg(alloc);
+        let printed = print_arg(alloc);
         let command = tool_command(alloc, "abnfi", HELP)?;
         let command = add_option(command, letters)?;
         let command = add_flag(command, alloc, "viable", 'w')?;
-        add_flag(command, alloc, "null-data", 'z')
+        let command = add_flag(command, alloc, "null-data", 'z')?;
+        let command = add_option(command, printed)?;
+        add_flag(command, alloc, "line-number", 'n')
     }
 
     fn options(matches: &ArgMatches<'_>) -> AbnfOptions {
@@ -100,6 +131,8 @@ impl Program for Abnfi {
             letters: letters_of(matches),
             viable: matches.get_flag("viable"),
             nul: matches.get_flag("null-data"),
+            printed: printed_of(matches),
+            numbered: matches.get_flag("line-number"),
         }
     }
 

@@ -15,7 +15,7 @@ use Rattle.abnfrun.specs.OpenAbnf.{IsOpened, TellsAlone, answer_alone, line_alon
 use Rattle.abnfrun.specs.AbnfTextHints.{AreTextHints}
 use Rattle.abnfrun.specs.OpenJudge.{OpenJudge}
 use Rattle.linejudge.specs.InputLines.{HasNoEnd, StandsAt, with_end, none, one_more, finished, at_front, behind}
-use Rattle.linejudge.specs.InputLines.{answer_text, refused_by, status_after, place_taken}
+use Rattle.linejudge.specs.InputLines.{printed_last, printed_line, refused_by, status_after, place_taken}
 use Rattle.linejudge.specs.LineRefusals.{LinesReply, TellsLine, count_untold, none_told, one_told}
 use Rattle.linejudge.specs.declared.answers.Answer.{Answer}
 use Rattle.linejudge.specs.declared.answers.Answer.TheVariants.{Yes, No, NoAfter}
@@ -53,9 +53,15 @@ module _ (Told : List ℕ → Answer → Type 0) (asked : Bool) (Refusal : List 
   abbrev after : At
   after = behind at_front (length line + 1) said
 
+  abbrev shown : List ℕ
+  shown = printed_line form 1 line said
+
+  abbrev last : List ℕ
+  last = printed_last form.printed after
+
   abbrev reply_of : List ℕ → Reply
   reply_of told = record {
-    out = answer_text said;
+    out = shown ++ last;
     err = told;
     status = code_of (status_after (refused_by said));
     taken = length line + 1;
@@ -85,12 +91,12 @@ module _ (Told : List ℕ → Answer → Type 0) (asked : Bool) (Refusal : List 
         plain = reply_of [];
         replies = record {
           point = after;
-          before = answer_text said;
-          last = [];
+          before = shown;
+          last = last;
           stop = Quiet (status_after after.refused);
           steps = one_more at_front [] line (length line + 1) said none stands told;
           ends = finished (nothing_is_left, refl);
-          out = sym (append-nil (answer_text said));
+          out = refl;
           err = refl;
           status = ap (λ n. code_of (status_after n)) (sym one_counted);
           taken = one_line_taken;

@@ -52,9 +52,14 @@ IsAnswerTo letters viable rules judged line (NoAfter n) = (viable ≡ true) × (
 abbrev pub AnswersFor : List Rule → ℕ → AbnfSettings → List ℕ → Answer → Type 0
 AnswersFor rules judged settings = IsAnswerTo settings.options.letters settings.options.viable rules judged
 
--- how settings cut an input into lines: at LF, or at NUL if they ask for it
+-- how settings cut an input into lines, at LF, or at NUL if they ask for it, and what they print for them
 abbrev pub form_of : AbnfSettings → LineForm
-form_of settings = record { limit = settings.limit; end = cond settings.options.nul 0 (code "\n") }
+form_of settings = record {
+  limit = settings.limit;
+  end = cond settings.options.nul 0 (code "\n");
+  printed = settings.options.printed;
+  numbered = settings.options.numbered;
+}
 
 -- what explains a rejected line of that number
 abbrev pub RefusalFor : List Rule → ℕ → AbnfSettings → List ℕ → ℕ → List ℕ → Type 0

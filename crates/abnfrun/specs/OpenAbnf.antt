@@ -6,7 +6,7 @@ use Rattle.abnfread.specs.Element.{Definition}
 use Rattle.abnfrun.specs.AbnfNoted.{all_rules, judged_of, AreNotesOn, IsRefusedFor, rule_given}
 use Rattle.abnfrun.specs.AbnfReply.{IsAnswerTo, form_of}
 use Rattle.abnfrun.specs.OpenJudge.{OpenJudge}
-use Rattle.linejudge.specs.InputLines.{answer_text, at_front, refused_by, status_after}
+use Rattle.linejudge.specs.InputLines.{at_front, behind, printed_last, printed_line, refused_by, status_after}
 use Rattle.linejudge.specs.LineRefusals.{TellsLine}
 use Rattle.linejudge.specs.declared.answers.Answer.{Answer}
 use Rattle.refusedlines.specs.Refusals.{IsRefusalTold}
@@ -43,10 +43,11 @@ TellsAlone judge settings = TellsLine
     (IsAnswerTo judge.letters judge.viable (rules_of judge.grammar.rules) judge.grammar.judged) settings.explain
     (IsRefusalTold judge.letters (rules_of judge.grammar.rules) judge.grammar.judged) at_front
 
--- the reply to the input that is one line: its answer, and its explanation
+-- the reply to the input that is one line: what is printed for that answer, and its explanation
 abbrev pub answer_alone : AbnfSettings → List ℕ → Answer → List ℕ → Reply
 answer_alone settings line said told = record {
-  out = answer_text said;
+  out = printed_line (form_of settings) 1 line said
+      ++ printed_last settings.options.printed (behind at_front (length line + 1) said);
   err = told;
   status = code_of (status_after (refused_by said));
   taken = length line + 1;

@@ -33,6 +33,9 @@ use toolrun::{Status, run_tool};
 ///   derives it: the rule named in the settings, or else the first. The letters of a line are its bytes; or, if the
 ///   settings say so, its code points in UTF-8, and then a line that is not UTF-8 is not derived. The run ends after
 ///   the last line with `Done` if all answers are `yes`, else with `NoMatch`.
+/// - The settings may ask for other things than the answers: the lines that are derived, or those that are not, each
+///   with its end; how many there are of both, at the end of the input; or nothing. If they ask for numbers, the number
+///   of a line from 1 and a colon stand before what is written for it.
 /// - A line that is not derived is answered by `no`. If the settings ask for the longest viable prefix, it is answered
 ///   by `no N`, where that prefix has N letters. Of a line that is not UTF-8 these letters are those of its longest
 ///   prefix that is.

@@ -271,12 +271,14 @@ fn automaton_of(alloc: Global, flat: &Flat) -> Option<Automaton>
     }
 }
 
-/// Returns how settings cut an input into lines.
+/// Returns how settings cut an input into lines, and what they print for them.
 pub(crate) fn line_form(settings: &AbnfSettings<'_>) -> LineForm
     ensures { result ≡ form_of settings.now }
 {
     LineForm {
         limit: settings.limit,
         end: if settings.options.nul { 0 } else { b'\n' },
+        printed: settings.options.printed,
+        numbered: settings.options.numbered,
     }
 }

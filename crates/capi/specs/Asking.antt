@@ -6,6 +6,7 @@ use Rattle.abnfrun.specs.declared.options.AbnfOptions.{AbnfOptions}
 use Rattle.capi.specs.declared.asked.CSettings.{CSettings}
 use Rattle.letters.specs.declared.alphabet.Alphabet.{Alphabet}
 use Rattle.letters.specs.declared.alphabet.Alphabet.TheVariants.{Bytes, Utf8}
+use Rattle.linejudge.specs.declared.printed.Printed.TheVariants.{Answers}
 use Rattle.pegrun.specs.declared.options.PegOptions.{PegOptions}
 use Rattle.toolrun.specs.declared.settings.Mode.{Mode}
 use Rattle.toolrun.specs.declared.settings.Mode.TheVariants.{Run, Check, Print}
@@ -37,6 +38,8 @@ pub record AbnfMeant (asked : CSettings) (options : AbnfOptions) : Type 0 where
   pub letters : alphabet_by asked.letters ≡ Some options.letters
   pub viable : options.viable ≡ asked.viable
   pub nul : options.nul ≡ asked.nul
+  pub printed : options.printed ≡ Answers
+  pub numbered : options.numbered ≡ false
 
 -- C asks for these settings, by a struct of the size that this version knows. AreMeant says which options it asks for.
 pub record IsMeant {O : Type 0} (AreMeant : CSettings → O → Type 0) (asked : CSettings) (name : List ℕ)

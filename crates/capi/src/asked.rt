@@ -4,7 +4,7 @@ ghost use Rattle.std.specs.Str.{IsUtf8};
 ghost use Rattle.capi.specs.Asking.{AbnfMeant, IsMeant, IsInvalid, PegMeant, alphabet_by, mode_by, name_by};
 ghost use Rattle.capi.specs.declared.asked.CSettings.{CSettings as Asked};
 
-use abnfrun::{AbnfOptions, Alphabet};
+use abnfrun::{AbnfOptions, Alphabet, Printed};
 use pegrun::PegOptions;
 use std::mem::size_of;
 use std::str::from_utf8;
@@ -90,6 +90,8 @@ impl COptions for AbnfOptions {
             letters,
             viable: asked.viable,
             nul: asked.nul,
+            printed: Printed::Answers,
+            numbered: false,
         }
     }
 }

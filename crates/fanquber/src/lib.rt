@@ -3,8 +3,8 @@
 #![tactic(auto)]
 
 pub use abnfrun::{
-    AbnfLanguage, AbnfOptions, AbnfSettings, Alphabet, one_reply_of_abnf, one_statement_of_abnf,
-    run_abnf,
+    AbnfLanguage, AbnfOptions, AbnfSettings, Alphabet, Printed, one_reply_of_abnf,
+    one_statement_of_abnf, run_abnf,
 };
 pub use cli::{
     Asked, Job, Program, Unready, end_unready, end_without_memory, parse, read_job, read_words,

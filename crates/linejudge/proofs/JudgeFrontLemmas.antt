@@ -10,7 +10,7 @@ use Rattle.toolrun.specs.Agrees.{Agrees}
 use Rattle.toolrun.specs.Input.{Input}
 use Rattle.toolrun.proofs.AgreesLemmas.{rest_is}
 use Rattle.toolrun.proofs.ExplainedIfLemmas.{if_not_asked}
-use Rattle.linejudge.specs.InputLines.{Lines, StandsAt, answer_text, behind, one_more, with_end}
+use Rattle.linejudge.specs.InputLines.{Lines, StandsAt, behind, printed_line, one_more, with_end}
 use Rattle.linejudge.specs.LineRefusals.{Refusals, is_told, one_told}
 use Rattle.linejudge.specs.LineSteps.{AddsLines}
 use Rattle.linejudge.specs.declared.answers.Answer.{Answer}
@@ -43,10 +43,11 @@ module _ (Told : List ℕ → Answer → Type 0) (asked : Bool) (Refusal : List 
 
   pub goes_one_on : asked ≡ false → (old at : At) (added line : List ℕ) (n : ℕ) (said : Answer)
       → AddsLines Told asked Refusal form input old at added → StandsAt form input at.place line n → Told line said
-      → AddsLines Told asked Refusal form input old (behind at n said) (added ++ answer_text said)
+      → AddsLines Told asked Refusal form input old (behind at n said)
+      (added ++ printed_line form (at.count + 1) line said)
   goes_one_on not old at added line n said goes stands says = record {
     lines = λ text l. subst (λ t. Lines Told form input (behind at n said) t)
-        (append_assoc text added (answer_text said))
+        (append_assoc text added (printed_line form (at.count + 1) line said))
         (one_more at (text ++ added) line n said (goes.lines text l) stands says);
     refusals = λ told r. subst (λ t. Refusals Told asked Refusal form input (behind at n said) t) (append-nil told)
         (one_told at told line n said [] (goes.refusals told r) stands says

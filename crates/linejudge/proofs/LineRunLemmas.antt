@@ -12,10 +12,13 @@ use Rattle.ruletable.proofs.AppendsLemmas.{IsBeginning-same}
 use Rattle.feed.specs.Feed.{IsToldBy, input_limit}
 use Rattle.feed.specs.declared.held.Flow.{Flow}
 use Rattle.toolrun.specs.Agrees.{Agrees}
+use Rattle.toolrun.specs.Explained.{ExplainedIf}
 use Rattle.toolrun.specs.Input.{Input}
-use Rattle.toolrun.specs.Reply.{Reply, cut_reply}
+use Rattle.toolrun.specs.Reply.{Reply, cut_reply, explained_reply}
 use Rattle.toolrun.specs.RunEnd.{more_refused}
-use Rattle.toolrun.specs.RunSteps.{Begins, EndsTold, HasToldRun, cut_short}
+use Rattle.toolrun.specs.RunSteps.{Begins, EndsTold, HasToldRun, cut_short, replied_told}
+use Rattle.toolrun.specs.Status.{code_of}
+use Rattle.toolrun.specs.Stop.{message_of, status_of}
 use Rattle.toolrun.specs.Stopped.{Fulfils}
 use Rattle.toolrun.specs.Stream.{Stream, passed}
 use Rattle.toolrun.specs.declared.ending.Ending.{Ending}
@@ -24,11 +27,11 @@ use Rattle.toolrun.specs.declared.stop.Stop.{Stop}
 use Rattle.toolrun.specs.declared.stop.Stop.TheVariants.{NoMemory}
 use Rattle.toolrun.proofs.ExplainedIfLemmas.{if_asked, if_not_asked, not_asked_nothing}
 use Rattle.toolrun.proofs.StopsAsLemmas.{run_told, did_not_tell}
-use Rattle.linejudge.specs.InputLines.{LinesEnd, Lines, answer_text, at_front, behind, none, one_more, place_taken}
+use Rattle.linejudge.specs.InputLines.{LinesEnd, Lines, at_front, behind, printed_line, none, one_more, place_taken}
 use Rattle.linejudge.specs.InputLines.{taken_at}
 use Rattle.linejudge.specs.LineRefusals.{LinesStates, MayLack, Refusals, Tells, WhyStopped, count_untold}
 use Rattle.linejudge.specs.LineRefusals.{IsLong, is_told, none_told, one_told, stop_lines}
-use Rattle.linejudge.specs.LineSteps.{AddsLines, IsStep, IsToldEnding}
+use Rattle.linejudge.specs.LineSteps.{AddsLines, IsStep, IsToldEnding, StepText, of_end, of_line}
 use Rattle.linejudge.specs.declared.answers.Answer.{Answer}
 use Rattle.linejudge.specs.declared.line.LineForm.{LineForm}
 use Rattle.linejudge.specs.declared.line_loop.Step.TheVariants.{Answers, Stops}
@@ -56,6 +59,11 @@ module _ (Told : List ℕ → Answer → Type 0) (asked : Bool) (Refusal : List 
       text (rw not refl) tells in
       rw (nothing, none) refl
 
+  -- what explains a stop by these lines, where that is asked
+  some_lines : (b : Bool) (lines : List ℕ) → (why : List ℕ) × ExplainedIf b (λ t. t ≡ lines) why
+  some_lines true lines = (lines, refl)
+  some_lines false lines = ([], refl)
+
   no_more : asked ≡ false → (refused : ℕ) → more_refused (count_untold asked refused) ≡ []
   no_more not refused = rw not refl
 
@@ -66,11 +74,11 @@ module _ (Told : List ℕ → Answer → Type 0) (asked : Bool) (Refusal : List 
         (longer : List ℕ) × Lines Told form input (behind at n said) longer
         × Refusals Told asked Refusal form input (behind at n said) more × Appends old new longer
     one_more_line new more said n (line, stands, says, adds, writes) = (
-      text ++ answer_text said,
+      text ++ printed_line form (at.count + 1) line said,
       one_more at text line n said lines stands says,
       subst (λ t. Refusals Told asked Refusal form input (behind at n said) t) (sym adds.added)
           (one_told at told line n said adds.text refusals stands says adds.is),
-      Appends-join old mid new text (answer_text said) wrote writes,
+      Appends-join old mid new text (printed_line form (at.count + 1) line said) wrote writes,
     )
 
     -- a batch of lines
@@ -98,38 +106,39 @@ module _ (Told : List ℕ → Answer → Type 0) (asked : Bool) (Refusal : List 
     }
 
     -- how the run ends there
-    module _ (stop : Stop) (either : (stop ≡ NoMemory) ⊎ LinesEnd form input at [] stop) where
-      ends_plainly : asked ≡ false → EndsSo at [] (Plain stop)
+    module _ (stop : Stop) (last : List ℕ)
+        (either : ((stop ≡ NoMemory) × (last ≡ [])) ⊎ LinesEnd form input at last stop) where
+      ends_plainly : asked ≡ false → EndsSo at last (Plain stop)
       ends_plainly not = (
         nothing_told not,
         elim either [
-          | inl refused ↦ inl (record { refused = refused; nothing = refl; unexplained = refl })
+          | inl (refused, nothing) ↦ inl (record { refused = refused; nothing = nothing; unexplained = refl })
           | inr ends ↦ inr (ends, if_not_asked asked (λ t. t ≡ stop_lines stop) not)
         ],
       )
 
       ends_so : asked ≡ true → (ending : Ending)
-          → IsToldEnding (told ++ more_refused (count_untold true at.refused)) stop ending → EndsSo at [] ending
+          → IsToldEnding (told ++ more_refused (count_untold true at.refused)) stop ending → EndsSo at last ending
       ends_so is (Plain it) told_so = absurd told_so
       ends_so is (Explained before it why) (all, same, lines_are) = rw same (
         all_told is _ all,
         elim either [
-          | inl refused ↦ inl (record {
+          | inl (refused, nothing) ↦ inl (record {
             refused = refused;
-            nothing = refl;
+            nothing = nothing;
             unexplained = lines_are ∙ ap stop_lines refused;
           })
           | inr ends ↦ inr (ends, if_asked asked (λ t. t ≡ stop_lines stop) why.items is lines_are)
         ],
       )
       ends_so is (Unexplained before it) (all, same, long) = rw same (elim either [
-        | inl refused ↦ absurd (subst IsLong refused long)
+        | inl (refused, nothing) ↦ absurd (subst IsLong refused long)
         | inr ends ↦ (all_told is _ all, ends, (is, long))
       ])
 
       ends_by : (b : Bool) → asked ≡ b → (ending : Ending) → (asked ≡ false → ending ≡ Plain stop)
           → (asked ≡ true → IsToldEnding (told ++ more_refused (count_untold true at.refused)) stop ending)
-          → EndsSo at [] ending
+          → EndsSo at last ending
       ends_by true is ending plain told_so = ends_so is ending (told_so is)
       ends_by false is ending plain told_so = rw (plain is) (ends_plainly is)
 
@@ -138,17 +147,30 @@ module _ (Told : List ℕ → Answer → Type 0) (asked : Bool) (Refusal : List 
         → (asked ≡ false → ending ≡ Plain stop)
         → (asked ≡ true → IsToldEnding (more ++ more_refused (count_untold true at.refused)) stop ending)
         → taken ≡ taken_at form.limit input at.place → Runs taken old new (Ok ending)
-    stops_there new more taken stop ending (same, kept, either) plain told_so took = (
-      at,
-      text,
-      [],
-      lines,
-      rw append-nil (Appends-kept old mid new text wrote kept),
-      took,
-      ends_by stop either asked refl ending plain
-          (λ is. subst (λ t. IsToldEnding (t ++ more_refused (count_untold true at.refused)) stop ending) same
-          (told_so is)),
-    )
+    stops_there new more taken stop ending (same, either) plain told_so took =
+        let ends : asked ≡ true → IsToldEnding (told ++ more_refused (count_untold true at.refused)) stop ending =
+        λ is. subst (λ t. IsToldEnding (t ++ more_refused (count_untold true at.refused)) stop ending) same
+        (told_so is) in
+        elim either [
+          | inl (refused, kept) ↦ (
+            at,
+            text,
+            [],
+            lines,
+            rw append-nil (Appends-kept old mid new text wrote kept),
+            took,
+            ends_by stop [] (inl (refused, refl)) asked refl ending plain ends,
+          )
+          | inr (last, is, writes) ↦ (
+            at,
+            text,
+            last,
+            lines,
+            Appends-join old mid new text last wrote writes,
+            took,
+            ends_by stop last (inr is) asked refl ending plain ends,
+          )
+        ]
 
     -- the output fails in the text of more lines
     module _ (decided : (line : List ℕ) → (said : Answer) × Told line said) (new : Option (List ℕ)) (taken : ℕ)
@@ -170,12 +192,58 @@ module _ (Told : List ℕ → Answer → Type 0) (asked : Bool) (Refusal : List 
             AppendsPart-join old mid new text added wrote part,
           )
 
-      pub fails_there : (more : List ℕ) → IsStep Told asked Refusal form input at mid new told more (Err fault)
+      -- the output fails in what is printed last
+      fails_last : (last : List ℕ) (stop : Stop) → LinesEnd form input at last stop → AppendsPart mid new last
           → Runs taken old new (Err fault)
-      fails_there more (line, n, said, stands, says, adds, part) =
-          fails_at (behind at n said) (answer_text said) (told ++ adds.text) (omega arith)
+      fails_last last stop ends part =
+          let all : List ℕ = told ++ more_refused (count_untold asked at.refused) in
+          let why = some_lines asked (stop_lines stop) in
+          let plain : Reply = record {
+            out = text ++ last;
+            err = message_of stop;
+            status = code_of (status_of stop);
+            taken = taken_at form.limit input at.place;
+          } in (
+            text ++ last,
+            record {
+              reply = explained_reply all plain why.0;
+              states = replied_told (explained_reply all plain why.0) (record {
+                plain = plain;
+                replies = record {
+                  point = at;
+                  before = text;
+                  last = last;
+                  stop = stop;
+                  steps = lines;
+                  ends = ends;
+                  out = refl;
+                  err = refl;
+                  status = refl;
+                  taken = refl;
+                };
+                before = all;
+                tells = record { first = told; refusals = refusals; is = refl };
+                why = why.0;
+                explains = why.1;
+                told = refl;
+              });
+              front = IsBeginning-same (text ++ last);
+              taken = took;
+            },
+            AppendsPart-join old mid new text last wrote part,
+          )
+
+      fails_in : (added more : List ℕ) → StepText Told asked Refusal form input at told more added
+          → AppendsPart mid new added → Runs taken old new (Err fault)
+      fails_in added more (of_line line n said stands says adds) part =
+          fails_at (behind at n said) added (told ++ adds.text) (omega arith)
           (one_more at text line n said lines stands says)
           (one_told at told line n said adds.text refusals stands says adds.is) part
+      fails_in added more (of_end last why ends same) part = fails_last last why ends part
+
+      pub fails_there : (more : List ℕ) → IsStep Told asked Refusal form input at mid new told more (Err fault)
+          → Runs taken old new (Err fault)
+      fails_there more (added, texts, part) = fails_in added more texts part
 
       pub fails_further : (next : At) (added : List ℕ) → at.place ≤ next.place
           → AddsLines Told asked Refusal form input at next added → AppendsPart mid new added

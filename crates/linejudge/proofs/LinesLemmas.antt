@@ -13,8 +13,8 @@ use Rattle.toolrun.specs.Status.{code_of}
 use Rattle.toolrun.specs.Stop.{message_of, status_of}
 use Rattle.toolrun.specs.declared.stop.Stop.{Stop}
 use Rattle.toolrun.specs.declared.stop.Stop.TheVariants.{Quiet, LongLine, Broken}
-use Rattle.linejudge.specs.InputLines.{HasNoEnd, answer_text, refused_by, status_after, behind, place_taken, taken_at}
-use Rattle.linejudge.specs.InputLines.{with_end, without_end, Lines, one_more, LinesEnd, broken}
+use Rattle.linejudge.specs.InputLines.{HasNoEnd, printed_line, printed_last, refused_by, status_after, behind}
+use Rattle.linejudge.specs.InputLines.{place_taken, taken_at, with_end, without_end, Lines, one_more, LinesEnd, broken}
 use Rattle.linejudge.specs.InputLines.{overlong, finished}
 use Rattle.linejudge.specs.declared.answers.Answer.{Answer}
 use Rattle.linejudge.specs.declared.answers.Answer.TheVariants.{Yes, No, NoAfter}
@@ -96,8 +96,10 @@ module _ (Told : List ℕ → Answer → Type 0) (form : LineForm) (input : Inpu
     -- the input ends there
     goes_at_end : (at : At) (text : List ℕ) → Lines Told form input at text → rest at.place ≡ [] → input.fault ≡ false
         → Goes at.place text
-    goes_at_end at text lines empty fine = goes_from at.place at.place text [] (omega arith)
-        (goes_to_stop at text [] (Quiet (status_after at.refused)) lines (finished (empty, fine)))
+    goes_at_end at text lines empty fine =
+        let last = printed_last form.printed at in
+        goes_from at.place at.place text last (omega arith)
+        (goes_to_stop at text last (Quiet (status_after at.refused)) lines (finished (empty, fine)))
 
     -- after the last line it does
     goes_behind_last : (at : At) (text : List ℕ) → Lines Told form input at text → HasNoEnd form.end (rest at.place)
@@ -106,8 +108,9 @@ module _ (Told : List ℕ → Answer → Type 0) (form : LineForm) (input : Inpu
         let d = decided (rest at.place) in
         let n : ℕ = length (rest at.place) in
         let l = length-drop at.place input.bytes in
-        goes_from at.place (at.place + n) text (answer_text d.0) (omega arith)
-        (goes_at_end (behind at n d.0) (text ++ answer_text d.0)
+        let more = printed_line form (at.count + 1) (rest at.place) d.0 in
+        goes_from at.place (at.place + n) text more (omega arith)
+        (goes_at_end (behind at n d.0) (text ++ more)
         (one_more at text (rest at.place) n d.0 lines (without_end (free, some, le, fine)) d.1)
         (drop_all (at.place + n) input.bytes (omega (arith, l))) fine)
 
@@ -137,8 +140,9 @@ module _ (Told : List ℕ → Answer → Type 0) (form : LineForm) (input : Inpu
             let d = decided line in
             let n : ℕ = length line + 1 in
             let l = ap length cut in
-            goes_from at.place (at.place + n) text (answer_text d.0) (omega arith)
-            (lines_go fuel (behind at n d.0) (text ++ answer_text d.0)
+            let more = printed_line form (at.count + 1) line d.0 in
+            goes_from at.place (at.place + n) text more (omega arith)
+            (lines_go fuel (behind at n d.0) (text ++ more)
             (one_more at text line n d.0 lines
             (with_end line (record { after = after; cut = cut; one = one; within = omega arith })) d.1)
             (omega (

@@ -16,7 +16,7 @@ use Rattle.toolrun.proofs.ExplainedIfLemmas.{if-explained}
 use Rattle.toolrun.specs.Status.{code_of}
 use Rattle.toolrun.specs.Stop.{message_of, status_of}
 use Rattle.toolrun.specs.declared.stop.Stop.{Stop}
-use Rattle.linejudge.specs.InputLines.{HasNoEnd, answer_text, behind, place_taken, IsLine, IsLastAt, StandsAt}
+use Rattle.linejudge.specs.InputLines.{HasNoEnd, printed_line, behind, place_taken, IsLine, IsLastAt, StandsAt}
 use Rattle.linejudge.specs.InputLines.{with_end, without_end, Lines, none, one_more, LinesEnd, broken, overlong}
 use Rattle.linejudge.specs.InputLines.{finished}
 use Rattle.linejudge.specs.LineRefusals.{LinesReply, Refusals, count_untold, is_told, none_told, one_told, stop_lines}
@@ -132,7 +132,8 @@ module _ (Told : List ℕ → Answer → Type 0) (one_answer : (line : List ℕ)
   -- both go on by a line
   same_next : (at other : At) (text more line next : List ℕ) (n m : ℕ) (said told : Answer) → Same at other text more
       → StandsAt form input at.place line n → StandsAt form input other.place next m → Told line said → Told next told
-      → Same (behind at n said) (behind other m told) (text ++ answer_text said) (more ++ answer_text told)
+      → Same (behind at n said) (behind other m told) (text ++ printed_line form (at.count + 1) line said)
+      (more ++ printed_line form (other.count + 1) next told)
   same_next at other text more line next n m said told same h k s t =
       let place = same.places in
       let words = same.texts in
@@ -141,6 +142,10 @@ module _ (Told : List ℕ → Answer → Type 0) (one_answer : (line : List ℕ)
       let lines = one.lines in
       let sizes = one.sizes in
       let answers : said ≡ told = one_answer line said told s (subst (λ (l : List ℕ). Told l told) (sym lines) t) in
+      let numbers : at.count + 1 ≡ other.count + 1 = ap (λ (v : At). v.count + 1) place in
+      let shown : printed_line form (at.count + 1) line said ≡ printed_line form (other.count + 1) next told =
+      ap (λ k. printed_line form k line said) numbers ∙ ap (λ l. printed_line form (other.count + 1) l said) lines
+      ∙ ap (printed_line form (other.count + 1) next) answers in
       record { places = cc; texts = cc }
 
   -- as many lines lead to one place

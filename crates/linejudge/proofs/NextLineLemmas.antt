@@ -62,12 +62,9 @@ held_front before items more bytes k start is here le =
     rw (is, append_assoc before items more, ← here, drop-append_seam before (items ++ more))
     (sym (take-append-le k items more le))
 
-module _ {R : Type 0} (f : Feed R) (end limit : ℕ) (before : List ℕ) (input : Input) (room : capacity_of f ≡ limit + 1)
-    (fits : length (bytes_of f) ≤ capacity_of f)
+module _ {R : Type 0} (f : Feed R) (form : LineForm) (before : List ℕ) (input : Input)
+    (room : capacity_of f ≡ form.limit + 1) (fits : length (bytes_of f) ≤ capacity_of f)
     (agrees : Agrees (before ++ bytes_of f) (flow_of f) input) where
-  abbrev form : LineForm
-  form = record { limit = limit; end = end }
-
   abbrev items : List ℕ
   items = bytes_of f
 
@@ -75,34 +72,35 @@ module _ {R : Type 0} (f : Feed R) (end limit : ℕ) (before : List ℕ) (input 
   rest = drop (length before) input.bytes
 
   abbrev Taken : Type 0
-  Taken = length (before ++ items) ≡ taken_at limit input (length before)
+  Taken = length (before ++ items) ≡ taken_at form.limit input (length before)
 
   -- no more than that is held
-  pub held_within : length (before ++ items) ≤ taken_at limit input (length before)
+  pub held_within : length (before ++ items) ≤ taken_at form.limit input (length before)
   held_within =
       let all = ap length agrees.bytes in
       omega (arith, all, length-append (before ++ items) agrees.more, length-append before items, fits, room)
 
   taken_all : agrees.more ≡ [] → Taken
-  taken_all none = taken_end before items refl agrees limit none (omega (arith, fits, room))
+  taken_all none = taken_end before items refl agrees form.limit none (omega (arith, fits, room))
 
   pub held_taken : (held : Held) → IsHeld f held → Taken
-  held_taken held.Full full = taken_full before items refl agrees limit (omega (arith, full, room))
+  held_taken held.Full full = taken_full before items refl agrees form.limit (omega (arith, full, room))
   held_taken held.End ended = taken_all (agrees.ended ended.0).0
   held_taken held.Fault broken = taken_all (agrees.broken broken.0).0
 
   -- an end was found
-  pub line_found : (k : ℕ) → IsFirstByte (is_byte end) items (Some k) → IsNext form input (length before) (line.Whole k)
+  pub line_found : (k : ℕ) → IsFirstByte (is_byte form.end) items (Some k)
+      → IsNext form input (length before) (line.Whole k)
   line_found k (first, here) =
       let high : k < length items = omega (arith, first.high) in
-      let is = first_found end k items first here in
+      let is = first_found form.end k items first here in
       let front : take k rest ≡ take k items = rw (rest_is before items refl agrees)
       (take-append-le k items agrees.more (omega (arith, high))) in
       rw front (
         record {
           after = drop (suc k) items ++ agrees.more;
           cut = rest_is before items refl agrees ∙ ap (λ t. t ++ agrees.more) is.0
-              ∙ append_assoc (take k items) (end ∷ drop (suc k) items) agrees.more;
+              ∙ append_assoc (take k items) (form.end ∷ drop (suc k) items) agrees.more;
           one = is.1;
           within = omega (arith, is.2, high, fits, room);
         },
@@ -110,8 +108,8 @@ module _ {R : Type 0} (f : Feed R) (end limit : ℕ) (before : List ℕ) (input 
       )
 
   -- none was
-  module _ (none : IsFirstByte (is_byte end) items None) where
-    last_piece : (b : Bool) → (length items == 0) ≡ b → flow_of f ≡ Ended → length items ≤ limit →
+  module _ (none : IsFirstByte (is_byte form.end) items None) where
+    last_piece : (b : Bool) → (length items == 0) ≡ b → flow_of f ≡ Ended → length items ≤ form.limit →
         IsNext form input (length before) (if b then line.End else line.Last (length items))
     last_piece true e ended short =
         let a = agrees.ended ended in
@@ -120,21 +118,21 @@ module _ {R : Type 0} (f : Feed R) (end limit : ℕ) (before : List ℕ) (input 
         let a = agrees.ended ended in
         let same = rest_held before items refl agrees a.0 in
         let some : 0 < length items = grind (arith, common_steps, e) in
-        (rw same (none_found end items none, some, short, a.1), ap length same)
+        (rw same (none_found form.end items none, some, short, a.1), ap length same)
 
     pub not_found : (held : Held) → IsHeld f held → IsNext form input (length before)
         (line_without held (length items))
     not_found held.Full full =
-        let e : length items ≡ suc limit = omega (arith, full, room) in
-        let window : take (suc limit) rest ≡ items = window_is before items refl agrees (suc limit) e in
+        let e : length items ≡ suc form.limit = omega (arith, full, room) in
+        let window : take (suc form.limit) rest ≡ items = window_is before items refl agrees (suc form.limit) e in
         let l = ap length (rest_is before items refl agrees) in
-        (rw window (none_found end items none), omega (arith, e, l, length-append items agrees.more))
+        (rw window (none_found form.end items none), omega (arith, e, l, length-append items agrees.more))
     not_found held.End ended = last_piece (length items == 0) refl ended.0 (let lt = ended.1 in omega (arith, lt, room))
     not_found held.Fault broken =
         let a = agrees.broken broken.0 in
         let same = rest_held before items refl agrees a.0 in
         let lt = broken.1 in
-        (rw same (none_found end items none), rw same (omega (arith, lt, room)), a.1)
+        (rw same (none_found form.end items none), rw same (omega (arith, lt, room)), a.1)
 
 -- a last piece is all that is held
 last_fits : (len : ℕ) (b : Bool) → (len == 0) ≡ b → LiesWithin len (if b then line.End else line.Last len)

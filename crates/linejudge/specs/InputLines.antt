@@ -1,6 +1,6 @@
 -- The lines of an input, the answers to them, and how a run of them ends. A byte ends a line: LF, or any other.
-use Rattle.std.specs.Prelude.{◌≡◌, ◌≢◌, ℕ, suc, ◌+◌, ◌<◌, ◌≤◌, ◌==◌, ⊤, min, Bool, true, false, List, [], ◌∷◌}
-use Rattle.std.specs.Prelude.{◌++◌, length, take, drop, codes, decimal, if◌then◌else◌}
+use Rattle.std.specs.Prelude.{◌≡◌, ◌≢◌, ℕ, suc, ◌+◌, ◌-◌, ◌<◌, ◌≤◌, ◌==◌, ⊤, min, Bool, true, false, not, List, []}
+use Rattle.std.specs.Prelude.{◌∷◌, ◌++◌, length, take, drop, codes, decimal, if◌then◌else◌}
 use Rattle.std.specs.List.{All}
 use Rattle.feed.specs.declared.held.Held.{Held}
 use Rattle.feed.specs.declared.held.Held.TheVariants as held
@@ -14,6 +14,8 @@ use Rattle.linejudge.specs.declared.answers.Answer.TheVariants.{Yes, No, NoAfter
 use Rattle.linejudge.specs.declared.line.Line.{Line}
 use Rattle.linejudge.specs.declared.line.LineForm.{LineForm}
 use Rattle.linejudge.specs.declared.line.Line.TheVariants.{Whole, Last, Overlong, End, Broken}
+use Rattle.linejudge.specs.declared.printed.Printed.{Printed}
+use Rattle.linejudge.specs.declared.printed.Printed.TheVariants as printed
 use Rattle.linejudge.specs.declared.reached.At.{At}
 
 -- none of these bytes is the one that ends a line
@@ -31,6 +33,32 @@ abbrev pub says_yes : Answer → Bool
 says_yes Yes = true
 says_yes No = false
 says_yes (NoAfter n) = false
+
+-- whether something is printed for a line with that answer
+abbrev pub is_printed : Printed → Answer → Bool
+is_printed printed.Answers said = true
+is_printed printed.Derived said = says_yes said
+is_printed printed.Refused said = not (says_yes said)
+is_printed printed.Count said = false
+is_printed printed.Nothing said = false
+
+-- the number of a line and a colon, if lines are numbered
+abbrev pub number_text : Bool → ℕ → List ℕ
+number_text true number = decimal number ++ codes ":"
+number_text false number = []
+
+-- what is printed after the number: the answer, or the line and its end
+abbrev pub shown_text : Printed → ℕ → List ℕ → Answer → List ℕ
+shown_text printed.Answers end line said = answer_text said
+shown_text printed.Derived end line said = line ++ end ∷ []
+shown_text printed.Refused end line said = line ++ end ∷ []
+shown_text printed.Count end line said = []
+shown_text printed.Nothing end line said = []
+
+-- what is printed for a line of that number with that answer
+abbrev pub printed_line : LineForm → ℕ → List ℕ → Answer → List ℕ
+printed_line form number line said = if is_printed form.printed said
+    then number_text form.numbered number ++ shown_text form.printed form.end line said else []
 
 -- how many lines an answer rejects
 abbrev pub refused_by : Answer → ℕ
@@ -53,6 +81,18 @@ behind at n said = record {
   count = at.count + 1;
   refused = at.refused + refused_by said;
 }
+
+-- how many lines were derived, and how many rejected
+abbrev pub count_text : At → List ℕ
+count_text at = decimal (at.count - at.refused) ++ codes " derived, " ++ decimal at.refused ++ codes " refused\n"
+
+-- what is printed at the end of the input
+abbrev pub printed_last : Printed → At → List ℕ
+printed_last printed.Answers at = []
+printed_last printed.Derived at = []
+printed_last printed.Refused at = []
+printed_last printed.Count at = count_text at
+printed_last printed.Nothing at = []
 
 -- how many bytes are taken where the last line is looked for at s
 abbrev pub taken_at : ℕ → Input → ℕ → ℕ
@@ -121,15 +161,16 @@ line_without held.Fault len = Broken
 
 -- Told says which answer is that of a line.
 module _ (Told : List ℕ → Answer → Type 0) (form : LineForm) (input : Input) where
-  -- the lines up to a place, and their answers
+  -- the lines up to a place, and what is printed for them
   pub data Lines : At → List ℕ → Type 0 where
     none : Lines at_front []
     one_more : (at : At) (before line : List ℕ) (n : ℕ) (said : Answer) → Lines at before
         → StandsAt form input at.place line n → Told line said
-        → Lines (behind at n said) (before ++ answer_text said)
+        → Lines (behind at n said) (before ++ printed_line form (at.count + 1) line said)
 
--- how a run ends there; nothing more is written
+-- how a run ends there, and what is printed then
 pub data LinesEnd (form : LineForm) (input : Input) (at : At) : List ℕ → Stop → Type 0 where
   broken : IsBrokenAt form input at.place → LinesEnd form input at [] stop.Broken
   overlong : IsOverlongAt form input at.place → LinesEnd form input at [] (stop.LongLine (at.count + 1) form.limit)
-  finished : IsEndAt form input at.place → LinesEnd form input at [] (stop.Quiet (status_after at.refused))
+  finished : IsEndAt form input at.place
+      → LinesEnd form input at (printed_last form.printed at) (stop.Quiet (status_after at.refused))

@@ -1,7 +1,8 @@
 -- The steps of a run of lines. It serves private helpers alone.
-use Rattle.std.specs.Prelude.{◌≡◌, ℕ, ◌<◌, ◌≤◌, ◌⊎◌, ⊤, Bool, List, [], ◌++◌, Option, Some, None, Result, Ok, Err}
+use Rattle.std.specs.Prelude.{◌≡◌, ℕ, ◌+◌, ◌<◌, ◌≤◌, ◌⊎◌, ⊤, Bool, List, ◌++◌, Option, Result, Ok, Err, IfOk}
 use Rattle.std.specs.Io.KnownBytes.{Appends, Keeps}
-use Rattle.ruletable.specs.Writing.{AppendsPart}
+use Rattle.ruletable.specs.Writing.{AppendsPart, Writes}
+use Rattle.ruletable.specs.declared.memory.Memory.{Memory}
 use Rattle.ruletable.specs.declared.sink.WriteFault.{WriteFault}
 use Rattle.toolrun.specs.Input.{Input}
 use Rattle.toolrun.specs.RunEnd.{refusals_text}
@@ -9,7 +10,7 @@ use Rattle.toolrun.specs.declared.ending.Ending.{Ending}
 use Rattle.toolrun.specs.declared.ending.Ending.TheVariants.{Plain, Explained, Unexplained}
 use Rattle.toolrun.specs.declared.stop.Stop.{Stop}
 use Rattle.toolrun.specs.declared.stop.Stop.TheVariants.{NoMemory}
-use Rattle.linejudge.specs.InputLines.{Lines, LinesEnd, StandsAt, answer_text}
+use Rattle.linejudge.specs.InputLines.{Lines, LinesEnd, StandsAt, printed_line}
 use Rattle.linejudge.specs.LineRefusals.{IsLong, Refusals, TellsLine, stop_lines}
 use Rattle.linejudge.specs.declared.answers.Answer.{Answer}
 use Rattle.linejudge.specs.declared.line.LineForm.{LineForm}
@@ -23,11 +24,12 @@ pub record Adds (P : List ℕ → Type 0) (old new : List ℕ) : Type 0 where
   pub is : P text
   pub added : new ≡ old ++ text
 
--- what follows a line that takes n bytes
-abbrev pub step_behind : ℕ → Result (Option Answer) WriteFault → Result Step WriteFault
-step_behind n (Ok (Some said)) = Ok (Answers said n)
-step_behind n (Ok None) = Ok (Stops NoMemory)
-step_behind n (Err fault) = Err fault
+-- What follows a line that takes n bytes: its text was written; or a beginning of it that is not all, where the output
+-- failed; or nothing, where an allocation failed before.
+abbrev pub StepsBehind : ℕ → Option (List ℕ) → Option (List ℕ) → List ℕ → Result Answer Memory
+    → Result Step WriteFault → Type 0
+StepsBehind n old new text (Ok said) step = Writes old new text step × IfOk step (λ s. s ≡ Answers said n)
+StepsBehind n old new text (Err _) step = Keeps old new × (step ≡ Ok (Stops NoMemory))
 
 -- a line that is answered takes some bytes, and lies within so many
 abbrev pub FitsIn : ℕ → Result Step WriteFault → Type 0
@@ -42,14 +44,11 @@ IsToldEnding text stop (Explained told is why) = (refusals_text told ≡ text) �
 IsToldEnding text stop (Unexplained told is) = (refusals_text told ≡ text) × (is ≡ stop) × IsLong stop
 
 module _ (Told : List ℕ → Answer → Type 0) (asked : Bool) (Refusal : List ℕ → ℕ → List ℕ → Type 0) where
-  -- a line was answered, and its explanation was added; or an allocation failed, and nothing was written and added
-  abbrev pub Answered : At → List ℕ → Option (List ℕ) → Option (List ℕ) → List ℕ → List ℕ
-      → Result (Option Answer) WriteFault → Type 0
-  Answered at line old new told more (Ok (Some said)) = Told line said
-      × Adds (TellsLine Told asked Refusal at line said) told more × Appends old new (answer_text said)
-  Answered at line old new told more (Ok None) = (more ≡ told) × Keeps old new
-  Answered at line old new told more (Err fault) = (said : Answer) × Told line said
-      × Adds (TellsLine Told asked Refusal at line said) told more × AppendsPart old new (answer_text said)
+  -- a line was answered: its explanation was added, and this is what is printed for it
+  pub record Answered (form : LineForm) (at : At) (line told more text : List ℕ) (said : Answer) : Type 0 where
+    pub is_told : Told line said
+    pub adds : Adds (TellsLine Told asked Refusal at line said) told more
+    pub prints : text ≡ printed_line form (at.count + 1) line said
 
   -- The lines from one position to another are answered by a text, and none of them is explained.
   pub record AddsLines (form : LineForm) (input : Input) (old new : At) (added : List ℕ) : Type 0 where
@@ -57,14 +56,21 @@ module _ (Told : List ℕ → Answer → Type 0) (asked : Bool) (Refusal : List 
     pub refusals : (told : List ℕ) → Refusals Told asked Refusal form input old told
         → Refusals Told asked Refusal form input new told
 
-  -- a line was answered, or the run ends here, or an allocation failed and nothing was written
   module _ (form : LineForm) (input : Input) where
+    -- what is printed for a line, or at the end of the input, and the explanations after it
+    pub data StepText (at : At) (told more : List ℕ) : List ℕ → Type 0 where
+      of_line : (line : List ℕ) (n : ℕ) (said : Answer) → StandsAt form input at.place line n → Told line said
+          → Adds (TellsLine Told asked Refusal at line said) told more
+          → StepText at told more (printed_line form (at.count + 1) line said)
+      of_end : (text : List ℕ) (why : Stop) → LinesEnd form input at text why → more ≡ told
+          → StepText at told more text
+
+    -- a line was answered, or the run ends here, or an allocation failed and nothing was written
     abbrev pub IsStep : At → Option (List ℕ) → Option (List ℕ) → List ℕ → List ℕ → Result Step WriteFault → Type 0
     IsStep at old new told more (Ok (Answers said n)) = (line : List ℕ) × StandsAt form input at.place line n
         × Told line said × Adds (TellsLine Told asked Refusal at line said) told more
-        × Appends old new (answer_text said)
-    IsStep at old new told more (Ok (Stops why)) = (more ≡ told) × Keeps old new
-        × ((why ≡ NoMemory) ⊎ LinesEnd form input at [] why)
-    IsStep at old new told more (Err fault) = (line : List ℕ) × (n : ℕ) × (said : Answer)
-        × StandsAt form input at.place line n × Told line said
-        × Adds (TellsLine Told asked Refusal at line said) told more × AppendsPart old new (answer_text said)
+        × Appends old new (printed_line form (at.count + 1) line said)
+    IsStep at old new told more (Ok (Stops why)) = (more ≡ told)
+        × (((why ≡ NoMemory) × Keeps old new)
+        ⊎ ((last : List ℕ) × LinesEnd form input at last why × Appends old new last))
+    IsStep at old new told more (Err fault) = (text : List ℕ) × StepText at told more text × AppendsPart old new text

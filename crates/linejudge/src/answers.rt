@@ -1,17 +1,17 @@
 //! The answer to one line.
-ghost use Rattle.std.specs.Prelude.{◌≡◌, ◌≤◌, ◌<◌, ◌+◌, ◌^◌, ◌++◌, ℕ, Bool, List, codes, decimal, length, take, true};
-ghost use Rattle.std.specs.Prelude.{false, IfOk, OnOk, OnErr, IsTrue};
+ghost use Rattle.std.specs.Prelude.{◌≡◌, ◌≤◌, ◌<◌, ◌+◌, ◌^◌, ℕ, Bool, List, length, take, true};
+ghost use Rattle.std.specs.Prelude.{IfOk, OnOk, OnErr, IsTrue};
 ghost use Rattle.feed.specs.Feed.{SameFeed, bytes_of};
-ghost use Rattle.ruletable.specs.Writing.{Flags, Writes};
-ghost use Rattle.linejudge.specs.InputLines.{answer_text, says_yes};
+ghost use Rattle.linejudge.specs.InputLines.{says_yes};
 ghost use Rattle.linejudge.specs.LineRefusals.{TellsLine, is_told as may_tell};
 ghost use Rattle.linejudge.specs.LineSteps.{Adds, Answered};
 ghost use Rattle.linejudge.specs.declared.answers.Answer.{Answer};
 
+use crate::line::LineForm;
+use crate::printed::push_line;
 use crate::reached::{At, MAX_TOLD, Reached};
 use feed::{Feed, Source};
-use itoa::Buffer;
-use ruletable::{Memory, Sink, WriteFault, write_pieces, write_whole};
+use ruletable::Memory;
 
 /// A line of more bytes is not copied: the memory for a copy is bounded so.
 const MAX_COPY: usize = 1_048_576;
@@ -65,7 +65,7 @@ pub trait Judge<W> {
 }
 
 /// Returns whether an answer is yes.
-fn is_yes(said: Answer) -> bool
+pub(crate) fn is_yes(said: Answer) -> bool
     ensures { result ≡ says_yes said }
 {
     match said {
@@ -125,60 +125,36 @@ fn tell_line<W, J: Judge<W>>(
     Ok(())
 }
 
-/// Writes `no` and a number.
-fn write_no<O: Sink>(n: usize, out: &mut O) -> Result<(), WriteFault>
-    requires { O.failed out.old ≡ false }
-    ensures bytes { Writes (O.contents out.old) (O.contents out.new) (codes "no " ++ decimal n ++ codes "\n") result }
-    ensures flag { Flags (O.failed out.old) (O.failed out.new) result }
-{
-    let mut buffer = Buffer::new();
-    let digits = buffer.format(n).as_bytes();
-    let pieces: [&[u8]; 3] = [b"no ", digits, b"\n"];
-    write_pieces(out, &pieces)
+/// A line of an input, its position, and the form of the lines.
+#[derive(Clone, Copy)]
+struct FoundLine<'a> {
+    bytes: &'a [u8],
+    at: At,
+    form: LineForm,
 }
 
-/// Writes the line of an answer.
-fn write_answer<O: Sink>(said: Answer, out: &mut O) -> Result<(), WriteFault>
-    requires { O.failed out.old ≡ false }
-    ensures bytes { Writes (O.contents out.old) (O.contents out.new) (answer_text said) result }
-    ensures flag { Flags (O.failed out.old) (O.failed out.new) result }
-{
-    match said {
-        Answer::Yes => write_whole(out, b"yes\n"),
-        Answer::No => write_whole(out, b"no\n"),
-        Answer::NoAfter(n) => write_no(n, out),
-    }
-}
-
-/// Judges a line at a position, adds its explanation, if it has one, and writes the answer. `None` if an allocation
-/// fails; then nothing is added and written.
-fn answer_line<W, J: Judge<W>, O: Sink>(
+/// Judges a line, puts what is printed for it into `text`, in place of what that holds, and adds its explanation, if it
+/// has one. `Memory` if an allocation fails; then no explanation is added.
+fn answer_line<W, J: Judge<W>>(
     judge: &J,
     work: &mut W,
-    line: &[u8],
-    at: At,
+    line: FoundLine<'_>,
     told: &mut Vec<u8>,
-    out: &mut O,
-) -> Result<Option<Answer>, WriteFault>
-    requires served { length line.now ≤ J.served judge.now }
+    text: &mut Vec<u8>,
+) -> Result<Answer, Memory>
+    requires served { length line.bytes.now ≤ J.served judge.now }
     requires work { J.works_in judge.now work.old }
-    requires counted { at.count + 1 < 2 ^ 64 }
-    requires out_is_fresh { O.failed out.old ≡ false }
+    requires counted { line.at.count + 1 < 2 ^ 64 }
     ensures work { J.works_in judge.now work.new }
-    ensures answered { Answered (J.told judge.now) (J.explains judge.now) (J.refusal judge.now) at line.now
-        (O.contents out.old) (O.contents out.new) told.old.items told.new.items result }
-    ensures flag { Flags (O.failed out.old) (O.failed out.new) result }
+    ensures answered { IfOk result (Answered (J.told judge.now) (J.explains judge.now) (J.refusal judge.now)
+        line.entry.form line.entry.at line.entry.bytes.now told.old.items told.new.items text.new.items) }
+    ensures err { OnErr result (told.new.items ≡ told.old.items) }
 {
-    let Ok(said) = judge.judge(work, line) else {
-        return Ok(None);
-    };
-    if tell_line(judge, work, line, said, at, told).is_err() {
-        return Ok(None);
-    }
-    match write_answer(said, out) {
-        Ok(()) => Ok(Some(said)),
-        Err(fault) => Err(fault),
-    }
+    let said = judge.judge(work, line.bytes)?;
+    text.clear();
+    push_line(line.form, line.at.count + 1, line.bytes, said, text)?;
+    tell_line(judge, work, line.bytes, said, line.at, told)?;
+    Ok(said)
 }
 
 /// Returns whether the first `n` bytes that are held were copied, since they are few enough and no allocation failed.
@@ -189,39 +165,43 @@ fn is_copied<R: Source>(feed: &Feed<'_, R>, n: usize, line: &mut Vec<u8>) -> boo
     n <= MAX_COPY && feed.copy_front(n, line).is_ok()
 }
 
-/// Judges the first `n` bytes that are held, adds their explanation, if they have one, and writes the answer. `None` if
-/// an allocation fails; then nothing is added and written. Bytes in two pieces are copied. Where they are too many for
-/// that, or the copy gets no memory, all that is held is put in one piece.
-pub fn answer_held<W, J: Judge<W>, R: Source, O: Sink>(
+/// Judges the first `n` bytes that are held as a line, puts what is printed for it into `reached.text`, and adds its
+/// explanation, if it has one. `Memory` if an allocation fails; then no explanation is added. Bytes in two pieces are
+/// copied. Where they are too many for that, or the copy gets no memory, all that is held is put in one piece.
+pub fn answer_held<W, J: Judge<W>, R: Source>(
     judge: &J,
     work: &mut W,
+    form: LineForm,
     feed: &mut Feed<'_, R>,
     n: usize,
     reached: &mut Reached,
-    out: &mut O,
-) -> Result<Option<Answer>, WriteFault>
+) -> Result<Answer, Memory>
     requires held { n ≤ length (bytes_of feed.old) }
     requires served { n ≤ J.served judge.now }
     requires work { J.works_in judge.now work.old }
     requires counted { reached.old.at.count + 1 < 2 ^ 64 }
-    requires out_is_fresh { O.failed out.old ≡ false }
     ensures work { J.works_in judge.now work.new }
     ensures same { SameFeed feed.old feed.new }
     ensures at { reached.new.at ≡ reached.old.at }
-    ensures answered { Answered (J.told judge.now) (J.explains judge.now) (J.refusal judge.now) reached.old.at
-        (take n (bytes_of feed.old)) (O.contents out.old) (O.contents out.new) reached.old.told.items
-        reached.new.told.items result }
-    ensures flag { Flags (O.failed out.old) (O.failed out.new) result }
+    ensures answered { IfOk result (Answered (J.told judge.now) (J.explains judge.now) (J.refusal judge.now) form
+        reached.old.at (take n (bytes_of feed.old)) reached.old.told.items reached.new.told.items
+        reached.new.text.items) }
+    ensures err { OnErr result (reached.new.told.items ≡ reached.old.told.items) }
 {
     let at = reached.at;
     let front = feed.front();
     if n <= front.len() {
-        return answer_line(judge, work, &front[..n], at, &mut reached.told, out);
+        let bytes = &front[..n];
+        let line = FoundLine { bytes, at, form };
+        return answer_line(judge, work, line, &mut reached.told, &mut reached.text);
     }
     if is_copied(feed, n, &mut reached.line) {
-        let line = reached.line.as_slice();
-        return answer_line(judge, work, line, at, &mut reached.told, out);
+        let bytes = reached.line.as_slice();
+        let line = FoundLine { bytes, at, form };
+        return answer_line(judge, work, line, &mut reached.told, &mut reached.text);
     }
     let window: &[u8] = feed.window();
-    answer_line(judge, work, &window[..n], at, &mut reached.told, out)
+    let bytes = &window[..n];
+    let line = FoundLine { bytes, at, form };
+    answer_line(judge, work, line, &mut reached.told, &mut reached.text)
 }

@@ -1,47 +1,22 @@
 //! Lines that lie in one piece, judged together.
-ghost use Rattle.std.specs.Prelude.{◌≡◌, ◌≤◌, ◌+◌, ℕ, List, ◌++◌, codes, decimal, drop, length, OnOk};
+ghost use Rattle.std.specs.Prelude.{◌≡◌, ◌≤◌, ◌+◌, ℕ, List, ◌++◌, drop, length};
 ghost use Rattle.feed.specs.Feed.{input_limit};
 ghost use Rattle.toolrun.specs.Input.{Input};
-ghost use Rattle.linejudge.specs.InputLines.{answer_text};
 ghost use Rattle.linejudge.specs.LineSteps.{AddsLines};
 
-use crate::answers::{Answer, Judge};
+use crate::answers::Judge;
 use crate::line::LineForm;
+use crate::printed::push_line;
 use crate::reached::{At, BATCH};
-use itoa::Buffer;
 use memchr::memchr;
-use ruletable::Memory;
 
-/// No line of an answer is longer: `no`, a blank, a number of 20 digits and LF.
-const MAX_ANSWER: usize = 24;
-
-/// Adds `no` and a number. `Memory` if an allocation fails.
-fn push_no(n: usize, text: &mut Vec<u8>) -> Result<(), Memory>
-    ensures { OnOk result (text.new.items ≡ text.old.items ++ (codes "no " ++ decimal n ++ codes "\n")) }
-{
-    let mut buffer = Buffer::new();
-    text.extend_from_slice(b"no ")?;
-    text.extend_from_slice(buffer.format(n).as_bytes())?;
-    text.extend_from_slice(b"\n")?;
-    Ok(())
-}
-
-/// Adds the line of an answer. `Memory` if an allocation fails.
-#[inline(always)]
-fn push_answer(said: Answer, text: &mut Vec<u8>) -> Result<(), Memory>
-    ensures { OnOk result (text.new.items ≡ text.old.items ++ answer_text said) }
-{
-    match said {
-        Answer::Yes => Ok(text.extend_from_slice(b"yes\n")?),
-        Answer::No => Ok(text.extend_from_slice(b"no\n")?),
-        Answer::NoAfter(n) => push_no(n, text),
-    }
-}
+/// No line of an answer is longer: a number of 20 digits, a colon, `no`, a blank, a number and LF.
+const MAX_ANSWER: usize = 45;
 
 /// Judges the whole lines at the front of some bytes in turn, from a position on, and returns the position after them.
-/// Their answers are put into `text`, in place of what that holds. It stops before a line that is too long or has no
-/// end there, where an allocation fails, and where the answers have some `BATCH` bytes. No line is judged if rejected
-/// lines are explained.
+/// What is printed for them is put into `text`, in place of what that holds. It stops before a line that is too long or
+/// has no end there, where an allocation fails, and where the text has some `BATCH` bytes. No line is judged if
+/// rejected lines are explained.
 pub(crate) fn judge_front<W, J: Judge<W>>(
     judge: &J,
     work: &mut W,
@@ -77,10 +52,11 @@ pub(crate) fn judge_front<W, J: Judge<W>>(
         if n > form.limit {
             return next;
         }
-        let Ok(said) = judge.judge(work, &rest[..n]) else {
+        let line = &rest[..n];
+        let Ok(said) = judge.judge(work, line) else {
             return next;
         };
-        let Ok(()) = push_answer(said, text) else {
+        let Ok(()) = push_line(form, next.count + 1, line, said, text) else {
             text.clear();
             return at;
         };

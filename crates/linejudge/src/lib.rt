@@ -5,9 +5,11 @@ mod answers;
 mod batch;
 mod line;
 mod line_loop;
+mod printed;
 mod reached;
 
 pub use answers::{Answer, Judge};
 pub use line::{Line, LineForm, next_line};
 pub use line_loop::run_lines;
+pub use printed::Printed;
 pub use reached::{At, MAX_TOLD};

@@ -5,13 +5,19 @@ ghost use Rattle.toolrun.specs.Agrees.{Agrees};
 ghost use Rattle.toolrun.specs.Input.{Input};
 ghost use Rattle.linejudge.specs.InputLines.{HasNoEnd, IsNext, IsShort, LiesWithin, line_without, taken_at};
 
+use crate::printed::Printed;
 use feed::{Feed, Held, Source};
 
-/// How an input is cut into lines: the greatest length of a line, in bytes, and the byte that ends it.
+/// How an input is cut into lines, and what is printed for them.
 #[derive(Clone, Copy)]
 pub struct LineForm {
+    /// The greatest length of a line, in bytes.
     pub limit: usize,
+    /// The byte that ends a line.
     pub end: u8,
+    pub printed: Printed,
+    /// Whether the number of a line and a colon stand before what is printed for it.
+    pub numbered: bool,
 }
 
 /// What stands at the front of the rest of an input.
@@ -40,33 +46,33 @@ fn without_end(held: Held, len: usize) -> Line
     }
 }
 
-/// Returns what stands at the front, where that byte ends a line. Nothing is read if the end of a line is held; else it
-/// reads until the window is full, the input ends or a read fails. The window has room for one byte more than a line
+/// Returns what stands at the front, where the lines have that form. Nothing is read if the end of a line is held; else
+/// it reads until the window is full, the input ends or a read fails. The window has room for one byte more than a line
 /// may have; a line that is returned has fewer bytes than there is room for.
-pub fn next_line<R: Source>(feed: &mut Feed<'_, R>, end: u8) -> Line
+pub fn next_line<R: Source>(feed: &mut Feed<'_, R>, form: LineForm) -> Line
     requires { IsTrueOfReader R.remaining R.failed R.ended feed.old }
     ensures loan { SameLoan feed.old feed.new }
     ensures grows { Grows R.remaining feed.old feed.new }
     ensures told { IsTrueOfReader R.remaining R.failed R.ended feed.new }
-    ensures follows { (limit : ℕ) (before : List ℕ) (input : Input) → capacity_of feed.new ≡ limit + 1 →
+    ensures follows { (before : List ℕ) (input : Input) → capacity_of feed.new ≡ form.limit + 1 →
         Agrees (before ++ bytes_of feed.new) (flow_of feed.new) input →
-        IsNext (record { limit = limit; end = end }) input (length before) result ×
-        (length (before ++ bytes_of feed.new) ≤ taken_at limit input (length before)) }
-    ensures still { (HasNoEnd end (bytes_of feed.old) → ⊥) → SameFeed feed.old feed.new }
-    ensures filled { HasNoEnd end (bytes_of feed.old) → (limit : ℕ) (before : List ℕ) (input : Input) →
-        capacity_of feed.new ≡ limit + 1 → Agrees (before ++ bytes_of feed.new) (flow_of feed.new) input →
-        length (before ++ bytes_of feed.new) ≡ taken_at limit input (length before) }
+        IsNext form input (length before) result ×
+        (length (before ++ bytes_of feed.new) ≤ taken_at form.limit input (length before)) }
+    ensures still { (HasNoEnd form.end (bytes_of feed.old) → ⊥) → SameFeed feed.old feed.new }
+    ensures filled { HasNoEnd form.end (bytes_of feed.old) → (before : List ℕ) (input : Input) →
+        capacity_of feed.new ≡ form.limit + 1 → Agrees (before ++ bytes_of feed.new) (flow_of feed.new) input →
+        length (before ++ bytes_of feed.new) ≡ taken_at form.limit input (length before) }
     ensures fits { LiesWithin (length (bytes_of feed.new)) result }
     ensures short { IsShort (capacity_of feed.new) result }
 {
     // its contract says that no more is held than there is room for
     let _ = feed.len();
-    if let Some(k) = feed.find(end) {
+    if let Some(k) = feed.find(form.end) {
         return Line::Whole(k);
     }
     let held = feed.fill();
     let len = feed.len();
-    match feed.find(end) {
+    match feed.find(form.end) {
         Some(k) => Line::Whole(k),
         None => without_end(held, len),
     }

@@ -1,7 +1,7 @@
 //! The lines of an input that is read as far as they need it.
 ghost use Rattle.std.specs.Prelude.{◌≡◌, ◌≤◌, ◌+◌, ℕ, Bool, List, [], ◌++◌, codes, length, true, false, IfErr, IfOk};
 ghost use Rattle.std.specs.Io.KnownBytes.{Consumes};
-ghost use Rattle.ruletable.specs.Writing.{Flags};
+ghost use Rattle.ruletable.specs.Writing.{Flags, Writes};
 ghost use Rattle.feed.specs.Feed.{Grows, IsTrueOfReader, SameLoan, allowance_of, bytes_of, capacity_of, flow_of};
 ghost use Rattle.feed.specs.Feed.{input_limit, reader_of};
 ghost use Rattle.toolrun.specs.Agrees.{Agrees};
@@ -10,15 +10,17 @@ ghost use Rattle.toolrun.specs.RunEnd.{more_refused};
 ghost use Rattle.toolrun.specs.RunSteps.{HasToldRun};
 ghost use Rattle.toolrun.specs.Stopped.{Fulfils};
 ghost use Rattle.toolrun.specs.Stream.{passed};
-ghost use Rattle.linejudge.specs.InputLines.{LinesEnd, Lines, at_front, place_taken, taken_at};
+ghost use Rattle.linejudge.specs.InputLines.{LinesEnd, Lines, at_front, printed_last, place_taken, status_after};
+ghost use Rattle.linejudge.specs.InputLines.{taken_at};
 ghost use Rattle.linejudge.specs.LineRefusals.{IsLong, LinesStates, MayLack, Tells, WhyStopped, count_untold};
 ghost use Rattle.linejudge.specs.LineRefusals.{stop_lines};
-ghost use Rattle.linejudge.specs.LineSteps.{FitsIn, IsStep, IsToldEnding, step_behind};
+ghost use Rattle.linejudge.specs.LineSteps.{FitsIn, IsStep, IsToldEnding, StepsBehind};
 
 use crate::answers::{Answer, Judge, answer_held};
 use crate::batch::judge_front;
 use crate::line::{Line, LineForm, next_line};
-use crate::reached::{MAX_TOLD, Reached};
+use crate::printed::write_end;
+use crate::reached::{At, MAX_TOLD, Reached};
 use feed::{Feed, Source};
 use ruletable::{Memory, Sink, WriteFault, write_whole};
 use std::alloc::Global;
@@ -31,18 +33,41 @@ pub enum Step {
     Stops(Stop),
 }
 
-/// Returns what follows a line that takes so many bytes, of which this is the answer.
-fn step_of(answered: Result<Option<Answer>, WriteFault>, len: usize) -> Result<Step, WriteFault>
-    ensures { result ≡ step_behind len answered }
+/// Writes what is printed for a line that takes so many bytes, and returns what follows it. Nothing is written if an
+/// allocation failed in answering it.
+fn step_of<O: Sink>(
+    answered: Result<Answer, Memory>,
+    text: &[u8],
+    len: usize,
+    out: &mut O,
+) -> Result<Step, WriteFault>
+    requires { O.failed out.old ≡ false }
+    ensures step { StepsBehind len (O.contents out.old) (O.contents out.new) text.now answered result }
+    ensures flag { Flags (O.failed out.old) (O.failed out.new) result }
 {
-    match answered {
-        Ok(Some(said)) => Ok(Step::Answers { said, len }),
-        Ok(None) => Ok(Step::Stops(Stop::NoMemory)),
+    let Ok(said) = answered else {
+        return Ok(Step::Stops(Stop::NoMemory));
+    };
+    match write_whole(out, text) {
+        Ok(()) => Ok(Step::Answers { said, len }),
         Err(fault) => Err(fault),
     }
 }
 
-/// Answers the line at a position and adds its explanation, or returns how the run ends there.
+/// Writes what is printed at the end of the input, and returns how the run ends there.
+fn end_step<O: Sink>(form: LineForm, at: At, out: &mut O) -> Result<Step, WriteFault>
+    requires { O.failed out.old ≡ false }
+    ensures bytes { Writes (O.contents out.old) (O.contents out.new) (printed_last form.printed at) result }
+    ensures step { IfOk result (λ step. step ≡ Step.Stops (Stop.Quiet (status_after at.refused))) }
+    ensures flag { Flags (O.failed out.old) (O.failed out.new) result }
+{
+    match write_end(form.printed, at, out) {
+        Ok(()) => Ok(Step::Stops(Stop::Quiet(at.status()))),
+        Err(fault) => Err(fault),
+    }
+}
+
+/// Answers the line at a position and adds its explanation, or ends the run there.
 fn next_step<W, J: Judge<W>, R: Source, O: Sink>(
     judge: &J,
     work: &mut W,
@@ -72,15 +97,21 @@ fn next_step<W, J: Judge<W>, R: Source, O: Sink>(
     ensures fits { FitsIn (length (bytes_of feed.new)) result }
     ensures flag { Flags (O.failed out.old) (O.failed out.new) result }
 {
-    match next_line(feed, form.end) {
-        Line::Whole(n) => step_of(answer_held(judge, work, feed, n, reached, out), n + 1),
-        Line::Last(n) => step_of(answer_held(judge, work, feed, n, reached, out), n),
+    match next_line(feed, form) {
+        Line::Whole(n) => {
+            let answered = answer_held(judge, work, form, feed, n, reached);
+            step_of(answered, reached.text.as_slice(), n + 1, out)
+        }
+        Line::Last(n) => {
+            let answered = answer_held(judge, work, form, feed, n, reached);
+            step_of(answered, reached.text.as_slice(), n, out)
+        }
         Line::Overlong => {
             let line = reached.at.count + 1;
             let limit = form.limit;
             Ok(Step::Stops(Stop::LongLine { line, limit }))
         }
-        Line::End => Ok(Step::Stops(Stop::Quiet(reached.at.status()))),
+        Line::End => end_step(form, reached.at, out),
         Line::Broken => Ok(Step::Stops(Stop::Broken)),
     }
 }
@@ -183,10 +214,12 @@ fn answer_lines<W, J: Judge<W>, R: Source, O: Sink>(
     }
 }
 
-/// Judges the lines of what a reader gives, and writes the answer to each: `yes`, `no`, or `no` and a number. The
-/// reader may neither have failed nor have given its end before, and the judge must serve lines of `form.limit` bytes
-/// and be able to work in that memory.
+/// Judges the lines of what a reader gives, and writes what is printed for them: the answer to each, `yes`, `no`, or
+/// `no` and a number; the lines that are derived or rejected, each with its end; how many there are of both, at the end
+/// of the input; or nothing. The reader may neither have failed nor have given its end before, and the judge must serve
+/// lines of `form.limit` bytes and be able to work in that memory.
 ///
+/// - If lines are numbered, a line's number from 1 and a colon stand before its answer, or before the line.
 /// - A line ends before a byte `form.end`, and a last piece without one is a line if it is not empty. All other bytes
 ///   belong to their line, a CR too.
 /// - The first line of more than `form.limit` bytes ends the run: `LongLine` with its number from 1 and the limit. So
@@ -195,7 +228,8 @@ fn answer_lines<W, J: Judge<W>, R: Source, O: Sink>(
 /// - After the last line the run ends with `Done` if all answers are yes, else with `NoMatch`.
 /// - If the judge explains rejected lines, the ending has the explanations of the first `MAX_TOLD` of them, and how
 ///   many more there are. For a line that is too long it has the greatest length that `-l` allows.
-/// - `NoMemory` if an allocation fails; the answers before stand whole, and so do the explanations of those lines.
+/// - `NoMemory` if an allocation fails; what is printed for the lines before stands whole, and so do the explanations
+///   of those lines.
 ///   `WriteFault` if the output fails; then a prefix is written.
 pub fn run_lines<W, J: Judge<W>, R: Source, O: Sink>(
     alloc: Global,

@@ -10,7 +10,7 @@ use toolrun::Status;
 /// How many rejected lines are explained.
 pub const MAX_TOLD: usize = 16;
 
-/// How many bytes the answers of a batch may have.
+/// How many bytes the text of a batch has, or little more.
 pub(crate) const BATCH: usize = 8192;
 
 /// A position after some lines, how many they are, and how many of them were rejected.
@@ -32,7 +32,7 @@ pub struct Reached {
     pub told: Vec<u8>,
     /// The copy of a line that lies in two pieces.
     pub line: Vec<u8>,
-    /// The answers to a batch of lines.
+    /// What is printed for a line, or for a batch of lines.
     pub text: Vec<u8>,
 }
 

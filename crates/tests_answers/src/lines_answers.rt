@@ -3,7 +3,7 @@ ghost use Rattle.std.specs.Prelude.{◌≡◌, ◌-◌, codes, length, ltb, if�
 ghost use Rattle.linejudge.specs.declared.answers.Answer.TheVariants as answer;
 
 use feed::SourceOf;
-use linejudge::{Answer, Judge, LineForm, run_lines};
+use linejudge::{Answer, Judge, LineForm, Printed, run_lines};
 use ruletable::{Memory, SinkOf};
 use std::alloc::Global;
 use std::process::Abort;
@@ -101,7 +101,12 @@ fn check_lines<R: Abort + AllocGlobal>(
     let mut reader = SourceOf::new(input);
     let mut out = SinkOf::new(Vec::new(rt.alloc()));
     let mut work = 0u8;
-    let form = LineForm { limit: 4, end };
+    let form = LineForm {
+        limit: 4,
+        end,
+        printed: Printed::Answers,
+        numbered: false,
+    };
     let ended = run_lines(rt.alloc(), &judge, &mut work, form, &mut reader, &mut out);
     let ends_so = match ended {
         Ok(Ending::Plain(found)) => found == stop,
@@ -162,6 +167,8 @@ fn explains_sixteen_lines(rt: HostRuntime) {
     let form = LineForm {
         limit: 4,
         end: b'\n',
+        printed: Printed::Answers,
+        numbered: false,
     };
     match run_lines(rt.alloc(), &judge, &mut 0u8, form, &mut reader, &mut out) {
         Ok(Ending::Explained { told, stop, why }) => {

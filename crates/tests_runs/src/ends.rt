@@ -1,8 +1,8 @@
 //! Runs over a reader and writers in memory.
 
 use fanquber::{
-    AbnfOptions, Alphabet, MAX_LIMIT, Mode, PegOptions, Settings, SourceOf, Status, run_abnf,
-    run_peg,
+    AbnfOptions, Alphabet, MAX_LIMIT, Mode, PegOptions, Printed, Settings, SourceOf, Status,
+    run_abnf, run_peg,
 };
 use ruletable::SinkOf;
 use std::alloc::Global;
@@ -66,6 +66,8 @@ pub const ABNF: AbnfOptions = AbnfOptions {
     letters: Alphabet::Bytes,
     viable: false,
     nul: false,
+    printed: Printed::Answers,
+    numbered: false,
 };
 
 /// What a run is asked for: what to do with the grammar, how many bytes a unit or a line may have, and whether messages

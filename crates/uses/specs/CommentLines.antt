@@ -1,9 +1,10 @@
 -- Lines that are comments.
 use Prim.Native.Char.{code}
-use Rattle.std.specs.Prelude.{◌≡◌, ℕ, List, Some, codes, slice_get}
+use Rattle.std.specs.Prelude.{◌≡◌, ℕ, false, List, Some, codes, slice_get}
 use Rattle.linejudge.specs.declared.answers.Answer.{Answer}
 use Rattle.linejudge.specs.declared.answers.Answer.TheVariants.{Yes, No, NoAfter}
 use Rattle.linejudge.specs.declared.line.LineForm.{LineForm}
+use Rattle.linejudge.specs.declared.printed.Printed.TheVariants.{Answers}
 
 -- the line begins with `#`
 abbrev pub IsComment : List ℕ → Type 0
@@ -17,7 +18,7 @@ IsCommentAnswer line (NoAfter n) = ⊥
 
 -- lines of at most 65,536 bytes, each with an LF behind it
 abbrev pub comment_form : LineForm
-comment_form = record { limit = 65536; end = code "\n" }
+comment_form = record { limit = 65536; end = code "\n"; printed = Answers; numbered = false }
 
 -- what is told of a line that is no comment
 abbrev pub LacksSign : List ℕ → ℕ → List ℕ → Type 0

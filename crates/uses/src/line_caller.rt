@@ -6,7 +6,7 @@ ghost use Rattle.toolrun.specs.Stopped.{Fulfils};
 ghost use Rattle.toolrun.specs.Stream.{passed};
 
 use feed::Source;
-use linejudge::{Answer, Judge, LineForm, run_lines};
+use linejudge::{Answer, Judge, LineForm, Printed, run_lines};
 use ruletable::{Memory, Sink, WriteFault};
 use std::alloc::Global;
 use toolrun::Ending;
@@ -64,6 +64,8 @@ pub fn answer_comments<R: Source, O: Sink>(
     let form = LineForm {
         limit: 65_536,
         end: b'\n',
+        printed: Printed::Answers,
+        numbered: false,
     };
     run_lines(alloc, &Comments { alloc }, &mut (), form, reader, out)
 }

@@ -23,12 +23,12 @@ returns-in-Some g c = record {
   loan = refl;
   grows = grows-none c.args.feed.now;
   told = c.requires;
-  follows = λ limit before input room a.
+  follows = λ before input room a.
       let len = c.len.ensures.len in
       let most = c.len.ensures.within in
       let within : length (bytes_of c.args.feed.now) ≤ capacity_of c.args.feed.now = omega (arith, len, most) in (
-        line_found c.args.feed.now c.args.end limit before input room within a c.in-Some.k c.in-Some.ensures,
-        held_within c.args.feed.now c.args.end limit before input room within a,
+        line_found c.args.feed.now c.args.form before input room within a c.in-Some.k c.in-Some.ensures,
+        held_within c.args.feed.now c.args.form before input room within a,
       );
   still = λ some. record {
     bytes = refl;
@@ -38,8 +38,8 @@ returns-in-Some g c = record {
     reader = refl;
     loan = refl;
   };
-  filled = λ none limit before input room a.
-      absurd (found_has_end c.args.end c.in-Some.k (bytes_of c.args.feed.now) c.in-Some.ensures none);
+  filled = λ none before input room a.
+      absurd (found_has_end c.args.form.end c.in-Some.k (bytes_of c.args.feed.now) c.in-Some.ensures none);
   fits = let is = c.in-Some.ensures in let high = is.0.high in omega (arith, high);
   short =
       let is = c.in-Some.ensures in
@@ -54,15 +54,15 @@ returns-in-Some-find g c = record {
   loan = c.fill-held.ensures.loan;
   grows = c.fill-held.ensures.grows;
   told = c.fill-held.ensures.told;
-  follows = λ limit before input room a.
+  follows = λ before input room a.
       let feed = c.fill-held.new.self in (
-        line_found feed c.args.end limit before input room c.fill-held.ensures.within a c.in-Some-find.k
+        line_found feed c.args.form before input room c.fill-held.ensures.within a c.in-Some-find.k
             c.in-Some-find.ensures,
-        held_within feed c.args.end limit before input room c.fill-held.ensures.within a,
+        held_within feed c.args.form before input room c.fill-held.ensures.within a,
       );
-  still = λ some. absurd (some (none_found c.args.end (bytes_of c.args.feed.now) c.in_default.ensures));
-  filled = λ none limit before input room a.
-      held_taken c.fill-held.new.self c.args.end limit before input room c.fill-held.ensures.within a
+  still = λ some. absurd (some (none_found c.args.form.end (bytes_of c.args.feed.now) c.in_default.ensures));
+  filled = λ none before input room a.
+      held_taken c.fill-held.new.self c.args.form before input room c.fill-held.ensures.within a
       c.fill-held.result c.fill-held.ensures.held;
   fits =
       let is = c.in-Some-find.ensures in
@@ -79,16 +79,16 @@ returns-in-None g c = record {
   loan = c.fill-held.ensures.loan;
   grows = c.fill-held.ensures.grows;
   told = c.fill-held.ensures.told;
-  follows = λ limit before input room a.
+  follows = λ before input room a.
       let feed = c.fill-held.new.self in (
         rw (c.without_end.ensures, c.len-len.ensures.len)
-            (not_found feed c.args.end limit before input room c.fill-held.ensures.within a c.in-None.ensures
+            (not_found feed c.args.form before input room c.fill-held.ensures.within a c.in-None.ensures
             c.fill-held.result c.fill-held.ensures.held),
-        held_within feed c.args.end limit before input room c.fill-held.ensures.within a,
+        held_within feed c.args.form before input room c.fill-held.ensures.within a,
       );
-  still = λ some. absurd (some (none_found c.args.end (bytes_of c.args.feed.now) c.in_default.ensures));
-  filled = λ none limit before input room a.
-      held_taken c.fill-held.new.self c.args.end limit before input room c.fill-held.ensures.within a
+  still = λ some. absurd (some (none_found c.args.form.end (bytes_of c.args.feed.now) c.in_default.ensures));
+  filled = λ none before input room a.
+      held_taken c.fill-held.new.self c.args.form before input room c.fill-held.ensures.within a
       c.fill-held.result c.fill-held.ensures.held;
   fits = rw (c.without_end.ensures, c.len-len.ensures.len)
       (without_fits c.fill-held.result (length c.fill-held.new.self.ring.items));

@@ -133,7 +133,7 @@ returns-in-Err g c =
             fails_further (g.J.Judge.told c.args.judge.now) (g.J.Judge.explains c.args.judge.now)
             (g.J.Judge.refusal c.args.judge.now) c.args.form input at _ _ front.0 c.loop-feed.reached.told.items front.1
             front.2 front.3 c.decided.ensures _ (length (so_far.0 ++ items)) c.in-Err.fault
-            (rw so_far.1 at (held_within c.loop-feed.feed c.args.form.end c.args.form.limit so_far.0 input
+            (rw so_far.1 at (held_within c.loop-feed.feed c.args.form so_far.0 input
             c.loop-feed.invariant.capacity (let len = c.len.ensures in omega (arith, len.len, len.within)) a))
             c.judge_front-next.result c.judge_front-next.new.text.items on.ahead
             (batch_goes (g.J.Judge.told c.args.judge.now) (g.J.Judge.explains c.args.judge.now)
@@ -231,7 +231,7 @@ returns-in-Ok-Stops g c = record {
             (length (so_far.0 ++ bytes_of feed)) c.in-Ok-Stops.stop c.ending_at.result
             (rw c.in-Ok-Stops.field-0-is at step.0) (rw c.is_explained.ensures at c.ending_at.ensures.plain)
             (rw (c.is_explained.ensures, c.in-Ok-Stops.ensures.at) at c.ending_at.ensures.told)
-            (rw so_far.1 at (held_taken feed c.args.form.end c.args.form.limit so_far.0 input
+            (rw so_far.1 at (held_taken feed c.args.form so_far.0 input
             (more.capacity ∙ grew.capacity ∙ c.loop-feed.invariant.capacity) c.fill.ensures.within a c.fill.result
             c.fill.ensures.held)),
       );

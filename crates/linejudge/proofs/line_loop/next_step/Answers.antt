@@ -1,12 +1,15 @@
 -- What stands at the front is answered, or ends the run.
-use Rattle.std.proofs.Common.{◌∙◌, ℕ, ◌<◌, ◌≤◌, Bool, Option, None, Some, List, arith, refl}
-use Rattle.std.specs.Prelude.{Result, Ok, Err}
-use Rattle.ruletable.specs.Writing.{Flags}
+use Rattle.std.proofs.Common.{◌≡◌, ◌∙◌, ℕ, ◌<◌, ◌≤◌, Option, List, arith, refl}
+use Rattle.std.specs.Prelude.{Result, Ok, Err, IfOk}
+use Rattle.ruletable.specs.declared.memory.Memory.{Memory}
 use Rattle.ruletable.specs.declared.sink.WriteFault.{WriteFault}
 use Rattle.feed.specs.Feed.{Grows, SameFeed, bytes_of}
 use Rattle.feed.specs.declared.feed.Feed.{Feed}
-use Rattle.linejudge.specs.LineSteps.{FitsIn, step_behind}
+use Rattle.linejudge.specs.LineSteps.{FitsIn, StepsBehind}
 use Rattle.linejudge.specs.declared.answers.Answer.{Answer}
+use Rattle.linejudge.specs.declared.line_loop.Step.{Step}
+use Rattle.linejudge.specs.declared.line_loop.Step.TheVariants.{Stops}
+use Rattle.toolrun.specs.declared.stop.Stop.{Stop}
 use Rattle.linejudge.proofs.LineStepLemmas.{whole_is, last_is, long_is, end_is, broken_is}
 use Rattle.linejudge.proofs.NextLineLemmas.{held_front}
 use Rattle.linejudge.proofs.line_loop.next_step.Goals as goal
@@ -23,22 +26,23 @@ grows-same g s = record {
   stays = rw (s.flow, s.reader) g.stays;
 }
 
--- the step after an answer takes the bytes of the line, and keeps the flag of the answer
-fits-after : (n len : ℕ) (r : Result (Option Answer) WriteFault) → 0 < n → n ≤ len → FitsIn len (step_behind n r)
-fits-after n len (Ok (Some said)) some most = (some, most)
-fits-after n len (Ok None) some most = tt
-fits-after n len (Err fault) some most = tt
+-- the step after an answer takes the bytes of the line
+fits-after : (n len : ℕ) (old new : Option (List ℕ)) (text : List ℕ) (answered : Result Answer Memory)
+    (r : Result Step WriteFault) → 0 < n → n ≤ len → StepsBehind n old new text answered r → FitsIn len r
+fits-after n len old new text (Ok said) (Ok step) some most steps = let same = steps.1 in rw same (some, most)
+fits-after n len old new text (Ok said) (Err fault) some most steps = tt
+fits-after n len old new text (Err lack) r some most steps = let same = steps.1 in rw same tt
 
-flags-after : (n : ℕ) (old new : Bool) (r : Result (Option Answer) WriteFault) → Flags old new r
-    → Flags old new (step_behind n r)
-flags-after n old new (Ok (Some said)) same = same
-flags-after n old new (Ok None) same = same
-flags-after n old new (Err fault) same = same
+-- at the end no bytes are taken
+fits-end : (len : ℕ) (why : Stop) (r : Result Step WriteFault) → IfOk r (λ s. s ≡ Stops why) → FitsIn len r
+fits-end len why (Ok step) same = rw same tt
+fits-end len why (Err fault) same = tt
 
 pub returns-in-Whole : goal.returns-in-Whole
 returns-in-Whole g c =
-    let on = c.answer_held in
+    let on = c.answer_held-answered in
     let same = on.ensures.same in
+    let step = c.step_of.ensures.step in
     record {
       work = on.ensures.work;
       at = on.ensures.at;
@@ -47,26 +51,29 @@ returns-in-Whole g c =
       grows = grows-same c.next_line.ensures.grows same;
       follows = λ before input here a.
           let b = rw (same.bytes, same.flow) at a in
-          let next = rw here at (c.in-Whole.ensures.follows c.args.form.limit before input
+          let next = rw here at (c.in-Whole.ensures.follows before input
           (c.next_line.ensures.grows.capacity ∙ c.requires.capacity) b) in
           let front = held_front before (bytes_of c.next_line.new.feed) b.more input.bytes c.in-Whole.n
           c.args.reached.now.at.place b.bytes here (let fits = c.in-Whole.ensures.fits in omega (arith, fits)) in (
-            rw c.step_of.ensures (whole_is (g.J.Judge.told c.args.judge.now)
-                (g.J.Judge.explains c.args.judge.now) (g.J.Judge.refusal c.args.judge.now) c.args.form input
-                c.args.reached.now.at (g.O.Sink.contents c.args.out.now) (g.O.Sink.contents on.new.out)
-                c.args.reached.now.told.items on.new.reached.told.items c.in-Whole.n _ on.result front next.0
-                on.ensures.answered),
+            whole_is (g.J.Judge.told c.args.judge.now) (g.J.Judge.explains c.args.judge.now)
+                (g.J.Judge.refusal c.args.judge.now) c.args.form input c.args.reached.now.at
+                (g.O.Sink.contents c.args.out.now) (g.O.Sink.contents c.step_of.new.out)
+                c.args.reached.now.told.items on.new.reached.told.items c.in-Whole.n _ on.new.reached.text.items
+                on.result c.step_of.result front next.0 on.ensures.answered on.ensures.err
+                (rw c.as_slice.ensures.value at step),
             rw same.bytes next.1,
           );
-      fits = rw (c.step_of.ensures, same.bytes)
-          (fits-after _ _ on.result (omega arith) (let fits = c.in-Whole.ensures.fits in omega (arith, fits)));
-      flag = rw c.step_of.ensures (flags-after _ _ _ on.result on.ensures.flag);
+      fits = rw same.bytes
+          (fits-after _ _ _ _ _ on.result c.step_of.result (omega arith)
+          (let fits = c.in-Whole.ensures.fits in omega (arith, fits)) step);
+      flag = c.step_of.ensures.flag;
     }
 
 pub returns-in-Last : goal.returns-in-Last
 returns-in-Last g c =
-    let on = c.answer_held-in-Last in
+    let on = c.answer_held-answered-in-Last in
     let same = on.ensures.same in
+    let step = c.step_of-in-Last.ensures.step in
     record {
       work = on.ensures.work;
       at = on.ensures.at;
@@ -75,20 +82,22 @@ returns-in-Last g c =
       grows = grows-same c.next_line.ensures.grows same;
       follows = λ before input here a.
           let b = rw (same.bytes, same.flow) at a in
-          let next = rw here at (c.in-Last.ensures.follows c.args.form.limit before input
+          let next = rw here at (c.in-Last.ensures.follows before input
           (c.next_line.ensures.grows.capacity ∙ c.requires.capacity) b) in
           let front = held_front before (bytes_of c.next_line.new.feed) b.more input.bytes c.in-Last.n
           c.args.reached.now.at.place b.bytes here (let fits = c.in-Last.ensures.fits in omega (arith, fits.1)) in (
-            rw c.step_of-in-Last.ensures (last_is (g.J.Judge.told c.args.judge.now)
-                (g.J.Judge.explains c.args.judge.now) (g.J.Judge.refusal c.args.judge.now) c.args.form input
-                c.args.reached.now.at (g.O.Sink.contents c.args.out.now) (g.O.Sink.contents on.new.out)
-                c.args.reached.now.told.items on.new.reached.told.items c.in-Last.n _ on.result front next.0
-                on.ensures.answered),
+            last_is (g.J.Judge.told c.args.judge.now) (g.J.Judge.explains c.args.judge.now)
+                (g.J.Judge.refusal c.args.judge.now) c.args.form input c.args.reached.now.at
+                (g.O.Sink.contents c.args.out.now) (g.O.Sink.contents c.step_of-in-Last.new.out)
+                c.args.reached.now.told.items on.new.reached.told.items c.in-Last.n _ on.new.reached.text.items
+                on.result c.step_of-in-Last.result front next.0 on.ensures.answered on.ensures.err
+                (rw c.as_slice-in-Last.ensures.value at step),
             rw same.bytes next.1,
           );
-      fits = rw (c.step_of-in-Last.ensures, same.bytes)
-          (fits-after _ _ on.result c.in-Last.ensures.fits.0 c.in-Last.ensures.fits.1);
-      flag = rw c.step_of-in-Last.ensures (flags-after _ _ _ on.result on.ensures.flag);
+      fits = rw same.bytes
+          (fits-after _ _ _ _ _ on.result c.step_of-in-Last.result c.in-Last.ensures.fits.0 c.in-Last.ensures.fits.1
+          step);
+      flag = c.step_of-in-Last.ensures.flag;
     }
 
 pub returns-in-Overlong : goal.returns-in-Overlong
@@ -99,11 +108,11 @@ returns-in-Overlong g c = record {
   told = c.next_line.ensures.told;
   grows = c.next_line.ensures.grows;
   follows = λ before input here a.
-      let next = rw here at (c.in-Overlong.ensures.follows c.args.form.limit before input
+      let next = rw here at (c.in-Overlong.ensures.follows before input
       (c.next_line.ensures.grows.capacity ∙ c.requires.capacity) a) in (
         long_is (g.J.Judge.told c.args.judge.now) (g.J.Judge.explains c.args.judge.now)
             (g.J.Judge.refusal c.args.judge.now) c.args.form input c.args.reached.now.at
-            (g.O.Sink.contents c.args.out.now) c.args.reached.now.told.items next.0,
+            (g.O.Sink.contents c.args.out.now) (g.O.Sink.contents c.args.out.now) c.args.reached.now.told.items next.0,
         next.1,
       );
   fits = tt;
@@ -118,15 +127,16 @@ returns-in-End g c = record {
   told = c.next_line.ensures.told;
   grows = c.next_line.ensures.grows;
   follows = λ before input here a.
-      let next = rw here at (c.in-End.ensures.follows c.args.form.limit before input
+      let next = rw here at (c.in-End.ensures.follows before input
       (c.next_line.ensures.grows.capacity ∙ c.requires.capacity) a) in (
-        rw c.status.ensures (end_is (g.J.Judge.told c.args.judge.now) (g.J.Judge.explains c.args.judge.now)
+        end_is (g.J.Judge.told c.args.judge.now) (g.J.Judge.explains c.args.judge.now)
             (g.J.Judge.refusal c.args.judge.now) c.args.form input c.args.reached.now.at
-            (g.O.Sink.contents c.args.out.now) c.args.reached.now.told.items next.0),
+            (g.O.Sink.contents c.args.out.now) (g.O.Sink.contents c.end_step.new.out) c.args.reached.now.told.items
+            c.end_step.result next.0 c.end_step.ensures.bytes c.end_step.ensures.step,
         next.1,
       );
-  fits = tt;
-  flag = refl;
+  fits = fits-end _ _ c.end_step.result c.end_step.ensures.step;
+  flag = c.end_step.ensures.flag;
 }
 
 pub returns-in-Broken : goal.returns-in-Broken
@@ -137,11 +147,11 @@ returns-in-Broken g c = record {
   told = c.next_line.ensures.told;
   grows = c.next_line.ensures.grows;
   follows = λ before input here a.
-      let next = rw here at (c.in-Broken.ensures.follows c.args.form.limit before input
+      let next = rw here at (c.in-Broken.ensures.follows before input
       (c.next_line.ensures.grows.capacity ∙ c.requires.capacity) a) in (
         broken_is (g.J.Judge.told c.args.judge.now) (g.J.Judge.explains c.args.judge.now)
             (g.J.Judge.refusal c.args.judge.now) c.args.form input c.args.reached.now.at
-            (g.O.Sink.contents c.args.out.now) c.args.reached.now.told.items next.0,
+            (g.O.Sink.contents c.args.out.now) (g.O.Sink.contents c.args.out.now) c.args.reached.now.told.items next.0,
         next.1,
       );
   fits = tt;

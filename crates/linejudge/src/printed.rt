@@ -1,0 +1,155 @@
+//! What is printed for the lines of an input, and at its end.
+ghost use Rattle.std.specs.Prelude.{◌≡◌, ◌++◌, ◌∷◌, [], OnOk, codes, decimal, false};
+ghost use Rattle.ruletable.specs.Writing.{Flags, Writes};
+ghost use Rattle.linejudge.specs.InputLines.{answer_text, count_text, is_printed as may_print, printed_last};
+ghost use Rattle.linejudge.specs.InputLines.{number_text, printed_line, shown_text};
+
+use crate::answers::{Answer, is_yes};
+use crate::line::LineForm;
+use crate::reached::At;
+use itoa::Buffer;
+use ruletable::{Memory, Sink, WriteFault, write_pieces};
+
+/// What is printed for the lines of an input.
+#[derive(Clone, Copy)]
+pub enum Printed {
+    /// The answer to each line.
+    Answers,
+    /// The lines that are derived.
+    Derived,
+    /// The lines that are rejected.
+    Refused,
+    /// How many lines are derived, and how many rejected, at the end of the input.
+    Count,
+    /// Nothing.
+    Nothing,
+}
+
+/// Returns whether something is printed for a line with that answer.
+#[inline(always)]
+fn is_printed(printed: Printed, said: Answer) -> bool
+    ensures { result ≡ may_print printed said }
+{
+    match printed {
+        Printed::Answers => true,
+        Printed::Derived => is_yes(said),
+        Printed::Refused => !is_yes(said),
+        Printed::Count => false,
+        Printed::Nothing => false,
+    }
+}
+
+/// Adds some bytes, a number and some more bytes. `Memory` if an allocation fails.
+fn push_number(before: &[u8], n: usize, after: &[u8], text: &mut Vec<u8>) -> Result<(), Memory>
+    ensures { OnOk result (text.new.items ≡ text.old.items ++ (before.now ++ decimal n ++ after.now)) }
+{
+    let mut buffer = Buffer::new();
+    text.extend_from_slice(before)?;
+    text.extend_from_slice(buffer.format(n).as_bytes())?;
+    text.extend_from_slice(after)?;
+    Ok(())
+}
+
+/// Adds the line of an answer. `Memory` if an allocation fails.
+#[inline(always)]
+fn push_answer(said: Answer, text: &mut Vec<u8>) -> Result<(), Memory>
+    ensures { OnOk result (text.new.items ≡ text.old.items ++ answer_text said) }
+{
+    match said {
+        Answer::Yes => Ok(text.extend_from_slice(b"yes\n")?),
+        Answer::No => Ok(text.extend_from_slice(b"no\n")?),
+        Answer::NoAfter(n) => push_number(b"no ", n, b"\n", text),
+    }
+}
+
+/// Adds a line and its end. `Memory` if an allocation fails.
+fn push_bytes(line: &[u8], end: u8, text: &mut Vec<u8>) -> Result<(), Memory>
+    ensures { OnOk result (text.new.items ≡ text.old.items ++ (line.now ++ end ∷ [])) }
+{
+    text.extend_from_slice(line)?;
+    text.push(end)?;
+    Ok(())
+}
+
+/// Adds the number of a line and a colon, if lines are numbered. `Memory` if an allocation fails.
+#[inline(always)]
+fn push_head(numbered: bool, number: usize, text: &mut Vec<u8>) -> Result<(), Memory>
+    ensures { OnOk result (text.new.items ≡ text.old.items ++ number_text numbered number) }
+{
+    if numbered {
+        return push_number(b"", number, b":", text);
+    }
+    Ok(())
+}
+
+/// Adds what is printed after the number: the answer, or the line and its end. `Memory` if an allocation fails.
+#[inline(always)]
+fn push_shown(
+    printed: Printed,
+    end: u8,
+    line: &[u8],
+    said: Answer,
+    text: &mut Vec<u8>,
+) -> Result<(), Memory>
+    ensures { OnOk result (text.new.items ≡ text.old.items ++ shown_text printed end line.now said) }
+{
+    match printed {
+        Printed::Answers => push_answer(said, text),
+        Printed::Derived => push_bytes(line, end, text),
+        Printed::Refused => push_bytes(line, end, text),
+        Printed::Count => Ok(()),
+        Printed::Nothing => Ok(()),
+    }
+}
+
+/// Adds what is printed for a line of that number with that answer. `Memory` if an allocation fails.
+#[inline(always)]
+pub(crate) fn push_line(
+    form: LineForm,
+    number: usize,
+    line: &[u8],
+    said: Answer,
+    text: &mut Vec<u8>,
+) -> Result<(), Memory>
+    ensures { OnOk result (text.new.items ≡ text.old.items ++ printed_line form number line.now said) }
+{
+    if !is_printed(form.printed, said) {
+        return Ok(());
+    }
+    push_head(form.numbered, number, text)?;
+    push_shown(form.printed, form.end, line, said, text)
+}
+
+/// Writes how many lines before a position were derived, and how many rejected.
+fn write_count<O: Sink>(at: At, out: &mut O) -> Result<(), WriteFault>
+    requires { O.failed out.old ≡ false }
+    ensures bytes { Writes (O.contents out.old) (O.contents out.new) (count_text at) result }
+    ensures flag { Flags (O.failed out.old) (O.failed out.new) result }
+{
+    let mut derived = Buffer::new();
+    let mut refused = Buffer::new();
+    let pieces: [&[u8]; 4] = [
+        derived
+            .format(at.count.saturating_sub(at.refused))
+            .as_bytes(),
+        b" derived, ",
+        refused.format(at.refused).as_bytes(),
+        b" refused\n",
+    ];
+    write_pieces(out, &pieces)
+}
+
+/// Writes what is printed at the end of an input, after the lines before a position.
+pub(crate) fn write_end<O: Sink>(printed: Printed, at: At, out: &mut O) -> Result<(), WriteFault>
+    requires { O.failed out.old ≡ false }
+    ensures bytes { Writes (O.contents out.old) (O.contents out.new) (printed_last printed at) result }
+    ensures flag { Flags (O.failed out.old) (O.failed out.new) result }
+{
+    match printed {
+        Printed::Answers => Ok(()),
+        Printed::Derived => Ok(()),
+        Printed::Refused => Ok(()),
+        Printed::Count => write_count(at, out),
+        Printed::Nothing => Ok(()),
+    }
+}
