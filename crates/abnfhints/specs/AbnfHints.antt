@@ -19,13 +19,10 @@ use Rattle.abnfread.specs.declared.kind.AbnfKind.{AbnfKind}
 use Rattle.lexer.specs.TokenLists.{Tok, AreTokens}
 use Rattle.diagnostics.specs.BodyMentions.{MentionedAt, mentions_in}
 use Rattle.diagnostics.specs.DefinitionHeads.{DefinedAt, definitions_in, sign_at}
-use Rattle.diagnostics.specs.NoteLines.{more_told}
-use Rattle.diagnostics.specs.UseLines.{lines_behind}
+use Rattle.diagnostics.specs.NoteLines.{defined_line, more_told}
 use Rattle.diagnostics.specs.declared.noteplaces.mentions.MentionKind.TheVariants.{Number}
 use Rattle.diagnostics.specs.ShownBytes.{cut}
-use Rattle.ruletable.specs.Notes.{said}
 use Rattle.ruletable.specs.declared.lines.LineRule.TheVariants.{Lf}
-use Rattle.ruletable.specs.declared.note.NoteKind.TheVariants.{Unused}
 use Rattle.ruletable.specs.declared.table.NameCase.TheVariants.{Fold}
 
 -- `has` tests for the letters of the alphabet
@@ -68,11 +65,11 @@ abbrev pub name_of_head : Option DefinedAt → List ℕ
 name_of_head None = []
 name_of_head (Some d) = d.name
 
-module _ (definitions : List DefinedAt) (mentions : List MentionedAt) where
+module _ (definitions : List DefinedAt) where
   -- a rule that derives nothing, and where it is first defined
   abbrev pub barren_told : List ℕ → List ℕ
   barren_told name = codes "rule '" ++ (cut name ++ (codes "' derives nothing\n"
-      ++ lines_behind Fold definitions mentions None (said Unused name)))
+      ++ defined_line Fold definitions name))
 
   -- a reversed range, in the rule of the definition in whose body it stands
   abbrev pub reversed_told : MentionedAt → List ℕ
@@ -108,8 +105,8 @@ module _ (has : ℕ → Bool) (rules : List Rule) (count : ℕ) (judged : Option
     pub are_barren : Those (DerivesNothing has rules) 0 (take count rules) barren
     pub are_reversed : AreReversed mentions reversed
     pub is_last : IsToldOfJudged has rules end judged last
-    pub all : hints ≡ told_first (barren_told definitions mentions) barren
-        ++ (told_first (reversed_told definitions mentions) reversed ++ last)
+    pub all : hints ≡ told_first (barren_told definitions) barren
+        ++ (told_first (reversed_told definitions) reversed ++ last)
 
   -- the hints on the grammar of a text
   pub record AreAbnfHints (text hints : List ℕ) : Type 0 where

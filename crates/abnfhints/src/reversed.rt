@@ -62,7 +62,7 @@ fn name_at(heads: &[Head], place: usize) -> &[u8]
 // Adds what is reported of a reversed range.
 fn push_reversed(out: &mut Vec<u8>, places: &Places, mention: &Mention) -> Result<(), Memory>
     ensures { OnOk result (out.new.items ≡ out.old.items ++ reversed_told (map defined_at places.now.heads.items)
-        (map mentioned_at places.now.mentions.items) (mentioned_at mention.now)) }
+        (mentioned_at mention.now)) }
 {
     out.extend_from_slice(b"reversed numbers in rule '")?;
     push_cut(out, name_at(&places.heads, mention.within))?;
@@ -81,8 +81,7 @@ fn push_each_reversed(
     mentions: &[&Mention],
 ) -> Result<(), Memory>
     ensures { OnOk result (out.new.items ≡ out.old.items ++ flat_map (reversed_told (map defined_at
-        places.now.heads.items) (map mentioned_at places.now.mentions.items)) (map (λ m. mentioned_at m.now)
-        mentions.now)) }
+        places.now.heads.items)) (map (λ m. mentioned_at m.now) mentions.now)) }
 {
     for mention in mentions {
         push_reversed(out, places, mention)?;
@@ -99,8 +98,7 @@ pub(crate) fn push_all_reversed(
     mentions: &[&Mention],
 ) -> Result<(), Memory>
     ensures { OnOk result (out.new.items ≡ out.old.items ++ told_first (reversed_told (map defined_at
-        places.now.heads.items) (map mentioned_at places.now.mentions.items)) (map (λ m. mentioned_at m.now)
-        mentions.now)) }
+        places.now.heads.items)) (map (λ m. mentioned_at m.now) mentions.now)) }
 {
     let shown = mentions.len().min(MAX_HINTS);
     push_each_reversed(out, places, &mentions[..shown])?;
