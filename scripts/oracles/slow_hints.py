@@ -31,7 +31,7 @@ class Reader:
         return self.kind() == "Name" and self.kind(1) in ("Is", "Adds")
 
     def definitions(self):
-        """Returns the definitions, each with the reversed ranges of its body and their lines."""
+        """Returns the definitions, each with the reversed numbers of its body and their lines."""
         found = []
         while self.kind() != "End":
             name, adds, begin = self.take().text.decode(), self.take().kind == "Adds", self.at
@@ -40,10 +40,8 @@ class Reader:
         return found
 
     def reversed_from(self, begin):
-        numbers = [it for it in self.tokens[begin:self.at] if it.kind == "Num"]
-        ranges = [(it, re.fullmatch(rb"%(.)(\w+)-(\w+)", it.text)) for it in numbers]
-        return [(it.text, self.text[:it.start].count(b"\n") + 1) for it, ends in ranges
-                if ends and number(ends[1], ends[2]) > number(ends[1], ends[3])]
+        tokens = [it for it in self.tokens[begin:self.at] if it.kind in ("Num", "Repeat")]
+        return [(it.text, self.text[:it.start].count(b"\n") + 1) for it in tokens if is_reversed(it.text)]
 
     def either(self):
         parts = [self.sequence()]
@@ -80,6 +78,11 @@ class Reader:
                 return "range", number(text[1], low), number(text[1], high)
             return "values", [number(text[1], it) for it in text[2:].split(".")]
         return ("name", text) if token.kind == "Name" else ("prose", text)
+
+
+def is_reversed(token):
+    ends = re.fullmatch(rb"(?:%(.))?(\w+)[-*](\w+)", token)
+    return bool(ends) and number(ends[1] or b"d", ends[2]) > number(ends[1] or b"d", ends[3])
 
 
 def number(letter, digits):

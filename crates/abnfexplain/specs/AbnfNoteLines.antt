@@ -3,7 +3,7 @@ use Rattle.std.specs.Prelude.{ℕ, List, Option}
 use Rattle.abnfread.specs.AbnfKinds.{ends_list}
 use Rattle.abnfread.specs.AbnfSlices.{White, First}
 use Rattle.abnfread.specs.declared.kind.AbnfKind.{AbnfKind}
-use Rattle.abnfread.specs.declared.kind.AbnfKind.TheVariants.{Name, Is, Adds, Prose, Num}
+use Rattle.abnfread.specs.declared.kind.AbnfKind.TheVariants.{Name, Is, Adds, Prose, Num, Repeat}
 use Rattle.diagnostics.specs.ExplainedNotes.{ArePlaces, IsNoteExplained}
 use Rattle.diagnostics.specs.declared.noteplaces.places.Places.{Places}
 use Rattle.diagnostics.specs.declared.noteplaces.sign.Sign.{Sign}
@@ -19,6 +19,7 @@ sign_of Is = signs.Defines
 sign_of Adds = signs.Adds
 sign_of Prose = signs.Prose
 sign_of Num = signs.Number
+sign_of Repeat = signs.Repeats
 sign_of _ = signs.Other
 
 -- the places of a text's definitions

@@ -22,6 +22,7 @@ impl Signs<AbnfKind> for AbnfSigns {
             AbnfKind::Adds => Sign::Adds,
             AbnfKind::Prose => Sign::Prose,
             AbnfKind::Num => Sign::Number,
+            AbnfKind::Repeat => Sign::Repeats,
             _ => Sign::Other,
         }
     }

@@ -33,9 +33,9 @@ module _ (has : ℕ → Bool) (rules : List Rule) (count : ℕ) (judged : Option
       let reversed = one_reversed_list h.are_reversed g.are_reversed in
       let last = one_last h.is_last g.is_last in
       h.all
-      ∙ ap (λ l. told_first (barren_told ds ms) l ++ (told_first (reversed_told ds ms) h.reversed ++ h.last)) barren
-      ∙ ap (λ l. told_first (barren_told ds ms) g.barren ++ (told_first (reversed_told ds ms) l ++ h.last)) reversed
-      ∙ ap (λ l. told_first (barren_told ds ms) g.barren ++ (told_first (reversed_told ds ms) g.reversed ++ l)) last
+      ∙ ap (λ l. told_first (barren_told ds) l ++ (told_first (reversed_told ds) h.reversed ++ h.last)) barren
+      ∙ ap (λ l. told_first (barren_told ds) g.barren ++ (told_first (reversed_told ds) l ++ h.last)) reversed
+      ∙ ap (λ l. told_first (barren_told ds) g.barren ++ (told_first (reversed_told ds) g.reversed ++ l)) last
       ∙ sym g.all
 
   pub one_text : (text a b : List ℕ)

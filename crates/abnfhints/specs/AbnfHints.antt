@@ -14,18 +14,15 @@ use Rattle.abnfread.specs.AbnfKinds.{ends_list}
 use Rattle.abnfread.specs.AbnfSlices.{White, First}
 use Rattle.abnfread.specs.AbnfWords as words
 use Rattle.abnfread.specs.Element.{Rule}
-use Rattle.abnfread.specs.Numerals.{SaysNum}
+use Rattle.abnfread.specs.Numerals.{SaysNum, SaysRepeat}
 use Rattle.abnfread.specs.declared.kind.AbnfKind.{AbnfKind}
 use Rattle.lexer.specs.TokenLists.{Tok, AreTokens}
 use Rattle.diagnostics.specs.BodyMentions.{MentionedAt, mentions_in}
 use Rattle.diagnostics.specs.DefinitionHeads.{DefinedAt, definitions_in, sign_at}
-use Rattle.diagnostics.specs.NoteLines.{more_told}
-use Rattle.diagnostics.specs.UseLines.{lines_behind}
-use Rattle.diagnostics.specs.declared.noteplaces.mentions.MentionKind.TheVariants.{Number}
+use Rattle.diagnostics.specs.NoteLines.{defined_line, more_told}
+use Rattle.diagnostics.specs.declared.noteplaces.mentions.MentionKind.TheVariants.{Number, Repeat}
 use Rattle.diagnostics.specs.ShownBytes.{cut}
-use Rattle.ruletable.specs.Notes.{said}
 use Rattle.ruletable.specs.declared.lines.LineRule.TheVariants.{Lf}
-use Rattle.ruletable.specs.declared.note.NoteKind.TheVariants.{Unused}
 use Rattle.ruletable.specs.declared.table.NameCase.TheVariants.{Fold}
 
 -- `has` tests for the letters of the alphabet
@@ -51,13 +48,25 @@ pub record IsReversed (slice : List ℕ) : Type 0 where
   pub says : SaysNum slice (words.Range low high)
   pub less : high < low
 
--- the reversed ranges of what bodies mention, in order
+-- the token of a repetition gives a number before `*` and a smaller one after it (RFC 5234, section 3.6)
+pub record IsReversedRepeat (slice : List ℕ) : Type 0 where
+  pub least : ℕ
+  pub most : ℕ
+  pub says : SaysRepeat slice least (Some most)
+  pub less : most < least
+
+-- a mention is a range or a repetition whose numbers are reversed
+pub data IsReversedMention (m : MentionedAt) : Type 0 where
+  is_range : m.kind ≡ Number → IsReversed m.text → IsReversedMention m
+  is_repeat : m.kind ≡ Repeat → IsReversedRepeat m.text → IsReversedMention m
+
+-- those of what bodies mention, in order
 pub data AreReversed : List MentionedAt → List MentionedAt → Type 0 where
   none_reversed : AreReversed [] []
-  one_reversed : {m : MentionedAt} {ms rs : List MentionedAt} → m.kind ≡ Number → IsReversed m.text → AreReversed ms rs
+  one_reversed : {m : MentionedAt} {ms rs : List MentionedAt} → IsReversedMention m → AreReversed ms rs
       → AreReversed (m ∷ ms) (m ∷ rs)
-  other_mention : {m : MentionedAt} {ms rs : List MentionedAt} → (m.kind ≡ Number → IsReversed m.text → ⊥)
-      → AreReversed ms rs → AreReversed (m ∷ ms) rs
+  other_mention : {m : MentionedAt} {ms rs : List MentionedAt} → (IsReversedMention m → ⊥) → AreReversed ms rs
+      → AreReversed (m ∷ ms) rs
 
 -- the first 16 as they are reported, and how many more there are
 abbrev pub told_first : {A : Type 0} → (A → List ℕ) → List A → List ℕ
@@ -68,13 +77,13 @@ abbrev pub name_of_head : Option DefinedAt → List ℕ
 name_of_head None = []
 name_of_head (Some d) = d.name
 
-module _ (definitions : List DefinedAt) (mentions : List MentionedAt) where
+module _ (definitions : List DefinedAt) where
   -- a rule that derives nothing, and where it is first defined
   abbrev pub barren_told : List ℕ → List ℕ
   barren_told name = codes "rule '" ++ (cut name ++ (codes "' derives nothing\n"
-      ++ lines_behind Fold definitions mentions None (said Unused name)))
+      ++ defined_line Fold definitions name))
 
-  -- a reversed range, in the rule of the definition in whose body it stands
+  -- reversed numbers, in the rule of the definition in whose body they stand
   abbrev pub reversed_told : MentionedAt → List ℕ
   reversed_told m = codes "reversed numbers in rule '"
       ++ (cut (name_of_head (find (λ d. d.start == m.within) definitions)) ++ (codes "'\n  line "
@@ -99,7 +108,7 @@ pub data IsToldOfJudged (has : ℕ → Bool) (rules : List Rule) (end : LineEnd)
 
 module _ (has : ℕ → Bool) (rules : List Rule) (count : ℕ) (judged : Option ℕ) (end : LineEnd) where
   -- The hints, given all rules, of which those of the file are the first ones, their count, and the judged rule: on
-  -- rules of the file that derive nothing, by their order; on reversed ranges, by the order of the text; and on the
+  -- rules of the file that derive nothing, by their order; on reversed numbers, by the order of the text; and on the
   -- judged rule.
   pub record AreHintsBy (definitions : List DefinedAt) (mentions : List MentionedAt) (hints : List ℕ) : Type 0 where
     pub barren : List (List ℕ)
@@ -108,8 +117,8 @@ module _ (has : ℕ → Bool) (rules : List Rule) (count : ℕ) (judged : Option
     pub are_barren : Those (DerivesNothing has rules) 0 (take count rules) barren
     pub are_reversed : AreReversed mentions reversed
     pub is_last : IsToldOfJudged has rules end judged last
-    pub all : hints ≡ told_first (barren_told definitions mentions) barren
-        ++ (told_first (reversed_told definitions mentions) reversed ++ last)
+    pub all : hints ≡ told_first (barren_told definitions) barren
+        ++ (told_first (reversed_told definitions) reversed ++ last)
 
   -- the hints on the grammar of a text
   pub record AreAbnfHints (text hints : List ℕ) : Type 0 where

@@ -1,15 +1,13 @@
 //! Rules that derive nothing.
-ghost use Rattle.std.specs.Prelude.{◌≡◌, ◌↔◌, ◌++◌, flat_map, map, length, take, None, IsTrue, IfOk, OnOk};
+ghost use Rattle.std.specs.Prelude.{◌≡◌, ◌↔◌, ◌++◌, flat_map, map, length, take, IsTrue, IfOk, OnOk};
 ghost use Rattle.abnfread.specs.AbnfViews.{rules_of};
 ghost use Rattle.abnfcheck.specs.AbnfGrammar.{IsSound};
 ghost use Rattle.abnfcheck.specs.AbnfNotes.{Those};
 ghost use Rattle.abnfcheck.specs.RuleMarks.{AreProductive};
 ghost use Rattle.abnfhints.specs.AbnfHints.{DerivesNothing, barren_told, told_first};
 ghost use Rattle.letters.specs.Letters.{has};
-ghost use Rattle.diagnostics.specs.BodyMentions.{mentioned_at};
 ghost use Rattle.diagnostics.specs.DefinitionHeads.{defined_at};
-ghost use Rattle.diagnostics.specs.UseLines.{lines_behind};
-ghost use Rattle.ruletable.specs.Notes.{said};
+ghost use Rattle.diagnostics.specs.NoteLines.{defined_line};
 ghost use Rattle.rulenames.specs.IdMarks.{AreMarks};
 
 use crate::hinted::Hinted;
@@ -55,8 +53,8 @@ pub(crate) fn barren_names<'a>(
 // Returns the line that reports where a rule is first defined.
 fn first_definition(alloc: Global, places: &Places, name: &[u8]) -> Result<Vec<u8>, Memory>
     requires { places.now.names ≡ NameCase.Fold }
-    ensures { IfOk result (λ why. why.items ≡ lines_behind NameCase.Fold (map defined_at places.now.heads.items)
-        (map mentioned_at places.now.mentions.items) None (said NoteKind.Unused name.now)) }
+    ensures { IfOk result (λ why. why.items ≡ defined_line NameCase.Fold (map defined_at places.now.heads.items)
+        name.now) }
 {
     let note = Note {
         kind: NoteKind::Unused,
@@ -69,7 +67,7 @@ fn first_definition(alloc: Global, places: &Places, name: &[u8]) -> Result<Vec<u
 fn push_barren(alloc: Global, out: &mut Vec<u8>, places: &Places, name: &[u8]) -> Result<(), Memory>
     requires { places.now.names ≡ NameCase.Fold }
     ensures { OnOk result (out.new.items ≡ out.old.items ++ barren_told (map defined_at places.now.heads.items)
-        (map mentioned_at places.now.mentions.items) name.now) }
+        name.now) }
 {
     out.extend_from_slice(b"rule '")?;
     push_cut(out, name)?;
@@ -88,7 +86,7 @@ fn push_each_barren(
 ) -> Result<(), Memory>
     requires { places.now.names ≡ NameCase.Fold }
     ensures { OnOk result (out.new.items ≡ out.old.items ++ flat_map (barren_told (map defined_at
-        places.now.heads.items) (map mentioned_at places.now.mentions.items)) (map (λ name. name.now) names.now)) }
+        places.now.heads.items)) (map (λ name. name.now) names.now)) }
 {
     for name in names {
         push_barren(alloc, out, places, name)?;
@@ -107,7 +105,7 @@ pub(crate) fn push_all_barren(
 ) -> Result<(), Memory>
     requires { places.now.names ≡ NameCase.Fold }
     ensures { OnOk result (out.new.items ≡ out.old.items ++ told_first (barren_told (map defined_at
-        places.now.heads.items) (map mentioned_at places.now.mentions.items)) (map (λ name. name.now) names.now)) }
+        places.now.heads.items)) (map (λ name. name.now) names.now)) }
 {
     let shown = names.len().min(MAX_HINTS);
     push_each_barren(alloc, out, places, &names[..shown])?;

@@ -21,10 +21,10 @@ use std::alloc::Global;
 pub const MAX_HINTS: usize = 16;
 
 /// Returns the hints on a grammar, as they are reported: on rules of the file that derive nothing, by their order; on
-/// reversed ranges, by the order of the text; and on the judged rule, if it derives something, but no line. A rule from
-/// which a name without a rule can be reached, or prose, derives what nobody knows: there is no hint on it of the first
-/// and the last kind. Of each kind the first 16 are reported, and how many more there are. Hints never reject a
-/// grammar.
+/// ranges and repetitions whose numbers are reversed, by the order of the text; and on the judged rule, if it derives
+/// something, but no line. A rule from which a name without a rule can be reached, or prose, derives what nobody knows:
+/// there is no hint on it of the first and the last kind. Of each kind the first 16 are reported, and how many more
+/// there are. Hints never reject a grammar.
 ///
 /// # Errors
 /// `Memory` if an allocation fails.

@@ -1,8 +1,8 @@
-//! The numbers of a range.
-ghost use Rattle.std.specs.Prelude.{◌≡◌, ◌↔◌, ℕ, ◌<◌, ◌≤◌, ◌∷◌, ◌++◌, [], List, length, IsTrue, MatchOption};
+//! The numbers of ranges and repetitions.
+ghost use Rattle.std.specs.Prelude.{◌≡◌, ◌↔◌, ℕ, ◌<◌, ◌≤◌, ◌∷◌, ◌++◌, [], List, length, false, IsTrue, MatchOption};
 ghost use Rattle.std.specs.Char.{digit_value};
 ghost use Rattle.std.specs.Str.Parse.{AllDigits, digits_value};
-ghost use Rattle.abnfhints.specs.AbnfHints.{IsReversed};
+ghost use Rattle.abnfhints.specs.AbnfHints.{IsReversed, IsReversedRepeat};
 ghost use Rattle.abnfread.specs.AbnfSlices.{Run, Stops, Digits};
 ghost use Rattle.abnfread.specs.BaseDigits.{is_digit as is_digit_in, Tells};
 ghost use Rattle.lexer.specs.SliceEnds.{Lacks};
@@ -70,15 +70,15 @@ fn are_digits(base: u8, text: &[u8]) -> bool
     !text.is_empty() && after_digits(base, text).is_empty()
 }
 
-// Returns the digits before `-` and those after it.
-fn ends_of(base: u8, digits: &[u8]) -> Option<(&[u8], &[u8])>
-    requires { base ≤ 36 }
-    ensures { MatchOption result ((ds es : List ℕ) → digits.now ≡ ds ++ 45 ∷ es → Digits base ds []
+// Returns the digits before a mark and those after it.
+fn ends_of(base: u8, mark: u8, digits: &[u8]) -> Option<(&[u8], &[u8])>
+    requires { is_digit_in base mark ≡ false }
+    ensures { MatchOption result ((ds es : List ℕ) → digits.now ≡ ds ++ mark ∷ es → Digits base ds []
         → Digits base es [] → ⊥)
-        (λ r. (digits.now ≡ r.0.now ++ 45 ∷ r.1.now) × Digits base r.0.now [] × Digits base r.1.now []) }
+        (λ r. (digits.now ≡ r.0.now ++ mark ∷ r.1.now) × Digits base r.0.now [] × Digits base r.1.now []) }
 {
     let rest = after_digits(base, digits);
-    let Some(high) = after_byte(rest, b'-') else {
+    let Some(high) = after_byte(rest, mark) else {
         return None;
     };
     let low = &digits[..digits.len() - rest.len()];
@@ -132,6 +132,16 @@ fn is_above(low: &[u8], high: &[u8]) -> bool
     }
 }
 
+/// Returns whether the token of a repetition gives a number and a smaller one after it.
+pub(crate) fn is_reversed_repeat(text: &[u8]) -> bool
+    ensures { IsTrue result ↔ IsReversedRepeat text.now }
+{
+    match ends_of(10, b'*', text) {
+        Some((least, most)) => is_above(least, most),
+        None => false,
+    }
+}
+
 /// Returns whether the token of a number gives a reversed range.
 pub(crate) fn is_reversed(text: &[u8]) -> bool
     ensures { IsTrue result ↔ IsReversed text.now }
@@ -139,7 +149,7 @@ pub(crate) fn is_reversed(text: &[u8]) -> bool
     let Some((base, digits)) = after_base(text) else {
         return false;
     };
-    match ends_of(base, digits) {
+    match ends_of(base, b'-', digits) {
         Some((low, high)) => is_above(low, high),
         None => false,
     }

@@ -1,27 +1,28 @@
-//! Ranges with reversed numbers.
+//! Ranges and repetitions whose numbers are reversed.
 ghost use Rattle.std.specs.Prelude.{◌≡◌, ◌↔◌, ◌++◌, ◌==◌, flat_map, map, option_map, IsTrue, IfOk, OnOk};
 ghost use Rattle.std.specs.List.{find};
-ghost use Rattle.abnfhints.specs.AbnfHints.{AreReversed, IsReversed, name_of_head, reversed_told, told_first};
+ghost use Rattle.abnfhints.specs.AbnfHints.{AreReversed, IsReversedMention, name_of_head, reversed_told, told_first};
 ghost use Rattle.diagnostics.specs.BodyMentions.{mentioned_at};
 ghost use Rattle.diagnostics.specs.DefinitionHeads.{defined_at};
 
 use crate::hints::MAX_HINTS;
-use crate::numbers::is_reversed;
+use crate::numbers::{is_reversed, is_reversed_repeat};
 use diagnostics::{Head, Mention, MentionKind, Places, push_cut, push_more, push_number};
 use ruletable::Memory;
 use std::alloc::Global;
 
-// Returns whether a mention is a reversed range.
-fn is_reversed_range(mention: &Mention) -> bool
-    ensures { IsTrue result ↔ ((mention.now.kind ≡ MentionKind.Number) × IsReversed mention.now.text.items) }
+// Returns whether a mention is a range or a repetition whose numbers are reversed.
+fn is_reversed_mention(mention: &Mention) -> bool
+    ensures { IsTrue result ↔ IsReversedMention (mentioned_at mention.now) }
 {
     match mention.kind {
         MentionKind::Number => is_reversed(&mention.text),
-        MentionKind::Use | MentionKind::Prose | MentionKind::Repeat | MentionKind::Literal => false,
+        MentionKind::Repeat => is_reversed_repeat(&mention.text),
+        _ => false,
     }
 }
 
-/// Returns the reversed ranges of what bodies mention, in order.
+/// Returns the ranges and repetitions among what bodies mention whose numbers are reversed, in order.
 ///
 /// `Memory` if an allocation fails.
 pub(crate) fn reversed_among(alloc: Global, mentions: &[Mention]) -> Result<Vec<&Mention>, Memory>
@@ -30,7 +31,7 @@ pub(crate) fn reversed_among(alloc: Global, mentions: &[Mention]) -> Result<Vec<
 {
     let mut found = Vec::new(alloc);
     for mention in mentions {
-        if is_reversed_range(mention) {
+        if is_reversed_mention(mention) {
             found.push(mention)?;
         }
     }
@@ -59,10 +60,10 @@ fn name_at(heads: &[Head], place: usize) -> &[u8]
     }
 }
 
-// Adds what is reported of a reversed range.
+// Adds what is reported of reversed numbers.
 fn push_reversed(out: &mut Vec<u8>, places: &Places, mention: &Mention) -> Result<(), Memory>
     ensures { OnOk result (out.new.items ≡ out.old.items ++ reversed_told (map defined_at places.now.heads.items)
-        (map mentioned_at places.now.mentions.items) (mentioned_at mention.now)) }
+        (mentioned_at mention.now)) }
 {
     out.extend_from_slice(b"reversed numbers in rule '")?;
     push_cut(out, name_at(&places.heads, mention.within))?;
@@ -81,8 +82,7 @@ fn push_each_reversed(
     mentions: &[&Mention],
 ) -> Result<(), Memory>
     ensures { OnOk result (out.new.items ≡ out.old.items ++ flat_map (reversed_told (map defined_at
-        places.now.heads.items) (map mentioned_at places.now.mentions.items)) (map (λ m. mentioned_at m.now)
-        mentions.now)) }
+        places.now.heads.items)) (map (λ m. mentioned_at m.now) mentions.now)) }
 {
     for mention in mentions {
         push_reversed(out, places, mention)?;
@@ -90,7 +90,7 @@ fn push_each_reversed(
     Ok(())
 }
 
-/// Adds what is reported of reversed ranges: of the first ones, and how many more there are.
+/// Adds what is reported of reversed numbers: of the first ones, and how many more there are.
 ///
 /// `Memory` if an allocation fails.
 pub(crate) fn push_all_reversed(
@@ -99,8 +99,7 @@ pub(crate) fn push_all_reversed(
     mentions: &[&Mention],
 ) -> Result<(), Memory>
     ensures { OnOk result (out.new.items ≡ out.old.items ++ told_first (reversed_told (map defined_at
-        places.now.heads.items) (map mentioned_at places.now.mentions.items)) (map (λ m. mentioned_at m.now)
-        mentions.now)) }
+        places.now.heads.items)) (map (λ m. mentioned_at m.now) mentions.now)) }
 {
     let shown = mentions.len().min(MAX_HINTS);
     push_each_reversed(out, places, &mentions[..shown])?;

@@ -1,33 +1,43 @@
 -- What the positions of a text report explains a note, and only that.
 -- Serves: explain_peg_note, explain_abnf_note, one_note_explanation, one_note_explanation_of_abnf
-use Rattle.std.proofs.Common.{◌≡◌, ℕ, Bool, List, Option, None, length, map, sym, ap, ◌∙◌}
-use Rattle.diagnostics.specs.BodyMentions.{mentioned_at, mentions_in}
+use Rattle.std.proofs.Common.{◌≡◌, ℕ, Bool, List, Option, None, length, map, sym, ap, ◌∙◌, subst}
+use Rattle.diagnostics.specs.BodyMentions.{MentionedAt, mentioned_at, mentions_in}
 use Rattle.lexer.specs.TokenLists.{Tok, AreTokens}
 use Rattle.ruletable.specs.Notes.{Said}
 use Rattle.ruletable.specs.declared.lines.LineRule.{LineRule}
 use Rattle.ruletable.specs.declared.table.NameCase.{NameCase}
-use Rattle.diagnostics.specs.DefinitionHeads.{definitions_in, sign_at}
-use Rattle.diagnostics.specs.ExplainedNotes.{ArePlaces, IsNoteExplained, note_lines, told_by}
-use Rattle.diagnostics.specs.FirstMentions.{rule_named}
+use Rattle.diagnostics.specs.DefinitionHeads.{DefinedAt, definitions_in, sign_at}
+use Rattle.diagnostics.specs.ExplainedNotes.{ArePlaces, IsNoteExplained, AreNoteLines, AreToldBy}
+use Rattle.diagnostics.specs.FirstMentions.{rule_named, uses_of}
 use Rattle.diagnostics.specs.MentionLines.{lines_mentioned, mention_lines_by, mention_lines_of}
-use Rattle.diagnostics.specs.UseLines.{lines_behind}
+use Rattle.diagnostics.specs.UseLines.{AreLinesBehind, lines_by}
 use Rattle.diagnostics.specs.declared.noteplaces.mentions.MentionKind.{MentionKind}
 use Rattle.diagnostics.specs.declared.noteplaces.places.Places.{Places}
 use Rattle.diagnostics.specs.declared.noteplaces.sign.Sign.{Sign}
+use Rattle.diagnostics.proofs.FirstMentionLemmas.{first-one}
+
+-- one text follows a note
+behind-one : (names : NameCase) (definitions : List DefinedAt) (mentions : List MentionedAt) (start : Option (List ℕ))
+    (note : Said) (a b : List ℕ) → AreLinesBehind names definitions mentions start note a
+    → AreLinesBehind names definitions mentions start note b → a ≡ b
+behind-one names definitions mentions start note a b g h =
+    g.is ∙ ap (λ first. lines_by names definitions mentions start first note.kind note.name)
+    (first-one names definitions (uses_of names note.name mentions) g.first h.first g.is_first h.is_first) ∙ sym h.is
 
 module _ {K : Type 0} (White : List ℕ → List ℕ → Type 0) (First : K → List ℕ → List ℕ → Type 0) (is_end : K → Bool)
     (sign_of : K → Sign) (rule : LineRule) (names : NameCase) (text : List ℕ) where
   pub places-explain : (places : Places) (start : Option (List ℕ)) (note : Said) (why : List ℕ)
-      → ArePlaces White First is_end sign_of rule names text places → why ≡ told_by places start note
+      → ArePlaces White First is_end sign_of rule names text places → AreToldBy places start note why
       → IsNoteExplained White First is_end sign_of rule names text start note why
-  places-explain places start note why are e = record {
+  places-explain places start note why are by = record {
     tokens = are.tokens;
     are_tokens = are.are_tokens;
-    is = e ∙ ap (λ ds. lines_behind places.names ds (map mentioned_at places.mentions.items) start note) are.heads_are
-        ∙ ap (λ ms. lines_behind places.names (definitions_in rule text (map (sign_at sign_of) are.tokens)) ms start
-        note) are.mentions_are
-        ∙ ap (λ (c : NameCase). lines_behind c (definitions_in rule text (map (sign_at sign_of) are.tokens))
-        (mentions_in rule text None (map (sign_at sign_of) are.tokens)) start note) are.names_are;
+    are = subst (λ (c : NameCase). AreLinesBehind c (definitions_in rule text (map (sign_at sign_of) are.tokens))
+        (mentions_in rule text None (map (sign_at sign_of) are.tokens)) start note why) are.names_are
+        (subst (λ ms. AreLinesBehind places.names (definitions_in rule text (map (sign_at sign_of) are.tokens)) ms start
+        note why) are.mentions_are
+        (subst (λ ds. AreLinesBehind places.names ds (map mentioned_at places.mentions.items) start note why)
+        are.heads_are by));
   }
 
   -- one text explains, where the tokens are one list
@@ -37,8 +47,10 @@ module _ {K : Type 0} (White : List ℕ → List ℕ → Type 0) (First : K → 
       → IsNoteExplained White First is_end sign_of rule names text start note a
       → IsNoteExplained White First is_end sign_of rule names text start note b → a ≡ b
   explained-one one start note a b g h =
-      g.is ∙ ap (λ ts. note_lines rule names text (map (sign_at sign_of) ts) start note)
-      (one g.tokens h.tokens g.are_tokens h.are_tokens) ∙ sym h.is
+      behind-one names (definitions_in rule text (map (sign_at sign_of) h.tokens))
+      (mentions_in rule text None (map (sign_at sign_of) h.tokens)) start note a b
+      (subst (λ ts. AreNoteLines rule names text (map (sign_at sign_of) ts) start note a)
+      (one g.tokens h.tokens g.are_tokens h.are_tokens) g.are) h.are
 
   -- the lines of mentions that the positions report are those of the tokens
   pub places-mention : (places : Places) (kind : MentionKind) (name : List ℕ)

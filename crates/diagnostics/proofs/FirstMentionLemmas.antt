@@ -1,21 +1,13 @@
 -- The first of some mentions, one before the others.
--- Serves: first_mention
-use Rattle.std.proofs.Common.{◌≡◌, ℕ, zero, suc, ◌<◌, ◌≤◌, Bool, true, false, Option, Some, None, List, [], ◌∷◌, refl}
-use Rattle.std.proofs.Common.{sym, ap, ◌∙◌, arith, if◌then◌else◌, nat_lt, ◌⊎◌, inl, inr, ⊎_elim}
-use Rattle.std.proofs.lemmas.Bool.{cases_order}
-use Rattle.std.proofs.lemmas.Bool.Decides.{nat_tests}
-use Rattle.std.specs.Prelude.{slice_get}
+-- Serves: first_mention, explain_note
+use Rattle.std.proofs.Common.{◌≡◌, ℕ, zero, suc, ◌<◌, ◌≤◌, Option, Some, None, List, [], ◌∷◌, refl}
+use Rattle.std.proofs.Common.{sym, ap, ◌∙◌, arith, ◌⊎◌, inl, inr, ⊎_elim}
+use Rattle.std.proofs.lemmas.Bool.{cases_lt, cases_order}
+use Rattle.std.specs.Prelude.{MatchOption, slice_get}
 use Rattle.ruletable.specs.declared.table.NameCase.{NameCase}
 use Rattle.diagnostics.specs.BodyMentions.{MentionedAt}
 use Rattle.diagnostics.specs.DefinitionHeads.{DefinedAt}
-use Rattle.diagnostics.specs.FirstMentions.{IsFirstIfAny, IsFirstMention, NoneStands, RuleMention, earlier, earliest}
-use Rattle.diagnostics.specs.FirstMentions.{rule_standing_at}
-
-is-less : (a b : ℕ) → nat_lt a b ≡ true → a < b
-is-less a b h = grind (arith, nat_tests, h)
-
-is-not-less : (a b : ℕ) → nat_lt a b ≡ false → b ≤ a
-is-not-less a b h = grind (arith, nat_tests, h)
+use Rattle.diagnostics.specs.FirstMentions.{IsFirstIfAny, IsFirstMention, NoneStands, RuleMention, rule_standing_at}
 
 module _ (names : NameCase) (definitions : List DefinedAt) where
   abbrev stands-in : MentionedAt → Option DefinedAt
@@ -78,32 +70,70 @@ module _ (names : NameCase) (definitions : List DefinedAt) where
         ⊎_elim (λ lt. omega (arith, le, lt)) (λ e. (let same = e.0 in omega (arith, le, same)))
         (h.first k n r at stands)
 
-    less-than : (own : DefinedAt) (o : RuleMention) (r : DefinedAt) → nat_lt o.rule.start own.start ≡ true
-        → Some own ≡ Some r → o.rule.start < r.start
-    less-than own o r less both =
+    -- that one is in no rule
+    pub pass-other : stands-in m ≡ None → (o : Option RuleMention) → IsFirstIfAny names definitions ms o
+        → IsFirstIfAny names definitions (m ∷ ms) o
+    pass-other is None h = none-more is h
+    pass-other is (Some o) h = first-behind o h (λ r stands. absurd (let both = sym stands ∙ is in cc both))
+
+    -- it is in a rule after that of the first of the others
+    pub pass-later : (own : DefinedAt) (o : RuleMention) → stands-in m ≡ Some own → o.rule.start < own.start
+        → IsFirstMention names definitions ms o → IsFirstMention names definitions (m ∷ ms) o
+    pass-later own o is lt h = first-behind o h (λ r stands.
+        let both : Some own ≡ Some r = sym is ∙ stands in
         let one : own ≡ r = cc both in
-        let lt = is-less o.rule.start own.start less in
         let start : own.start ≡ r.start = ap (λ (d : DefinedAt). d.start) one in
-        omega (arith, lt, start)
+        omega (arith, lt, start))
 
-    test-first : (own : DefinedAt) → stands-in m ≡ Some own → (o : RuleMention) → IsFirstMention names definitions ms o
-        → (v : Bool) → nat_lt o.rule.start own.start ≡ v
-        → IsFirstIfAny names definitions (m ∷ ms) (if v then Some o else Some (record { rule = own; mention = m }))
-    test-first own is o h true less = first-behind o h (λ r stands. less-than own o r less (sym is ∙ stands))
-    test-first own is o h false less =
-        first-here own is (not-before own o (is-not-less o.rule.start own.start less) h)
+    -- it is in no rule after it
+    pub take-this : (own : DefinedAt) (o : Option RuleMention) → stands-in m ≡ Some own
+        → MatchOption o (Unit {0}) (λ f. own.start ≤ f.rule.start) → IsFirstIfAny names definitions ms o
+        → IsFirstMention names definitions (m ∷ ms) (record { rule = own; mention = m })
+    take-this own None is le h = first-here own is (λ k n r at stands. absurd (h k n r at stands))
+    take-this own (Some o) is le h = first-here own is (not-before own o le h)
 
-    no-rule : {P : Type 0} (r : DefinedAt) → Some r ≡ None → P
-    no-rule r both = absurd (cc both)
+    first-step : (own : Option DefinedAt) → stands-in m ≡ own → (rest : Option RuleMention)
+        → IsFirstIfAny names definitions ms rest
+        → (first : Option RuleMention) × IsFirstIfAny names definitions (m ∷ ms) first
+    first-step None is rest h = (rest, pass-other is rest h)
+    first-step (Some own) is None h = (Some (record { rule = own; mention = m }), take-this own None is tt h)
+    first-step (Some own) is (Some o) h = ⊎_elim (λ lt. (Some o, pass-later own o is lt h))
+        (λ le. (Some (record { rule = own; mention = m }), take-this own (Some o) is le h))
+        (cases_lt o.rule.start own.start)
 
-    step-first : (own : Option DefinedAt) → stands-in m ≡ own → (rest : Option RuleMention)
-        → IsFirstIfAny names definitions ms rest → IsFirstIfAny names definitions (m ∷ ms) (earlier own m rest)
-    step-first None is None h = none-more is h
-    step-first None is (Some o) h = first-behind o h (λ r stands. no-rule r (sym stands ∙ is))
-    step-first (Some own) is None h = first-here own is (λ k n r at stands. absurd (h k n r at stands))
-    step-first (Some own) is (Some o) h = test-first own is o h (nat_lt o.rule.start own.start) refl
+  -- there is one
+  pub first-some : (ms : List MentionedAt) → (first : Option RuleMention) × IsFirstIfAny names definitions ms first
+  first-some [] = (None, λ k n r at stands. absurd (cc at))
+  first-some (m ∷ ms) = let rest = first-some ms in first-step m ms (stands-in m) refl rest.0 rest.1
 
-  pub earliest-first : (ms : List MentionedAt)
-      → IsFirstIfAny names definitions ms (earliest names definitions ms None)
-  earliest-first [] = λ k n r at stands. absurd (cc at)
-  earliest-first (m ∷ ms) = step-first m ms (stands-in m) refl (earliest names definitions ms None) (earliest-first ms)
+  -- and no other
+  module _ (ms : List MentionedAt) where
+    same-place : (a b : RuleMention) (h : IsFirstMention names definitions ms a)
+        (g : IsFirstMention names definitions ms b) → h.place ≡ g.place
+    same-place a b h g =
+        let one = h.first g.place b.mention b.rule g.there g.stands in
+        let two = g.first h.place a.mention a.rule h.there h.stands in
+        ⊎_elim (λ lt. ⊎_elim (λ gt. absurd (omega (arith, lt, gt)))
+        (λ e. absurd (let same = e.0 in omega (arith, lt, same))) two)
+        (λ d. ⊎_elim (λ gt. absurd (let same = d.0 in omega (arith, gt, same)))
+        (λ e. let le = d.1 in let ge = e.1 in omega (arith, le, ge)) two) one
+
+    both-same : (a b : RuleMention) → a.rule ≡ b.rule → a.mention ≡ b.mention → a ≡ b
+    both-same a b e f = ap (λ (r : DefinedAt). record { rule = r; mention = a.mention }) e
+        ∙ ap (λ (m : MentionedAt). record { rule = b.rule; mention = m }) f
+
+    mention-one : (a b : RuleMention) → IsFirstMention names definitions ms a
+        → IsFirstMention names definitions ms b → a ≡ b
+    mention-one a b h g =
+        let found : Some a.mention ≡ Some b.mention = sym h.there ∙ ap (slice_get ms) (same-place a b h g) ∙ g.there in
+        let mention : a.mention ≡ b.mention = cc found in
+        let rules : Some a.rule ≡ Some b.rule = sym h.stands ∙ ap stands-in mention ∙ g.stands in
+        let rule : a.rule ≡ b.rule = cc rules in
+        both-same a b rule mention
+
+    pub first-one : (a b : Option RuleMention) → IsFirstIfAny names definitions ms a
+        → IsFirstIfAny names definitions ms b → a ≡ b
+    first-one None None h g = refl
+    first-one None (Some b) h g = absurd (h g.place b.mention b.rule g.there g.stands)
+    first-one (Some a) None h g = absurd (g h.place a.mention a.rule h.there h.stands)
+    first-one (Some a) (Some b) h g = ap Some (mention-one a b h g)

@@ -11,7 +11,6 @@ mod HeadsTakenLemmas
 mod MentionsTakenLemmas
 pub mod AgainLinesLemmas
 pub mod ExplainedNoteLemmas
-mod MentionOrderLemmas
 mod FirstMentionLemmas
 pub mod NumberListsLemmas
 mod RisingStartsLemmas

@@ -1,5 +1,5 @@
 -- Which mention a note is reported of.
-use Rattle.std.specs.Prelude.{◌≡◌, ◌⊎◌, ℕ, ◌<◌, ◌≤◌, ◌==◌, ◌||◌, nat_lt, List, [], ◌∷◌, Option, Some, None}
+use Rattle.std.specs.Prelude.{◌≡◌, ◌⊎◌, ℕ, ◌<◌, ◌≤◌, ◌==◌, ◌||◌, List, [], ◌∷◌, Option, Some, None}
 use Rattle.std.specs.Prelude.{◌&&◌, if◌then◌else◌, slice_get, MatchOption}
 use Rattle.std.specs.List.{filter, find, list_any}
 use Rattle.ruletable.specs.Rules.{same_name}
@@ -30,20 +30,6 @@ rule_standing_at names definitions place = rule_standing names definitions (find
 pub record RuleMention : Type 0 where
   pub rule : DefinedAt
   pub mention : MentionedAt
-
--- the one whose rule comes first, or else the first one
-abbrev pub earlier : Option DefinedAt → MentionedAt → Option RuleMention → Option RuleMention
-earlier None m other = other
-earlier (Some r) m None = Some (record { rule = r; mention = m })
-earlier (Some r) m (Some o) =
-    if nat_lt o.rule.start r.start then Some o else Some (record { rule = r; mention = m })
-
--- the first mention in the order of the rules, and in each in the order of its bodies, of those that stand in one,
--- before another one that stands after them
-abbrev pub earliest : NameCase → List DefinedAt → List MentionedAt → Option RuleMention → Option RuleMention
-earliest names definitions [] other = other
-earliest names definitions (m ∷ ms) other =
-    earlier (rule_standing_at names definitions m.within) m (earliest names definitions ms other)
 
 -- None of the mentions stands in a rule.
 abbrev pub NoneStands : NameCase → List DefinedAt → List MentionedAt → Type 0

@@ -47,3 +47,7 @@ lines_of Redefined definitions = redefined_lines definitions
 lines_of ExtendedEarly definitions = first_line (codes "begins with \"=/\"") definitions
 lines_of Unused definitions = first_line (codes "is defined") definitions
 lines_of _ definitions = []
+
+-- where a rule is first defined, as after a note that nothing uses it
+abbrev pub defined_line : NameCase → List DefinedAt → List ℕ → List ℕ
+defined_line names definitions name = lines_of Unused (named names name definitions)

@@ -1,5 +1,5 @@
 -- The lines after a note, by the definitions of a text and what their bodies mention.
-use Rattle.std.specs.Prelude.{ℕ, Bool, false, List, [], ◌++◌, Option, Some, None, codes, decimal, if◌then◌else◌}
+use Rattle.std.specs.Prelude.{◌≡◌, ℕ, Bool, false, List, [], ◌++◌, Option, Some, None, codes, decimal, if◌then◌else◌}
 use Rattle.diagnostics.specs.ShownBytes.{cut}
 use Rattle.ruletable.specs.Notes.{Said}
 use Rattle.ruletable.specs.Rules.{same_name}
@@ -8,7 +8,7 @@ use Rattle.ruletable.specs.declared.note.NoteKind.TheVariants.{Undefined, Prose}
 use Rattle.ruletable.specs.declared.table.NameCase.{NameCase}
 use Rattle.diagnostics.specs.BodyMentions.{MentionedAt}
 use Rattle.diagnostics.specs.DefinitionHeads.{DefinedAt}
-use Rattle.diagnostics.specs.FirstMentions.{RuleMention, earliest, first_prose, standing_definitions, uses_of}
+use Rattle.diagnostics.specs.FirstMentions.{IsFirstIfAny, RuleMention, first_prose, standing_definitions, uses_of}
 use Rattle.diagnostics.specs.NoteLines.{lines_of, named}
 
 -- where a name is used
@@ -27,21 +27,23 @@ abbrev pub is_given : NameCase → Option (List ℕ) → List ℕ → Bool
 is_given names None name = false
 is_given names (Some start) name = same_name names name start
 
-module _ (names : NameCase) (definitions : List DefinedAt) (mentions : List MentionedAt) (start : Option (List ℕ)) where
-  -- the use by which a name is noted that no rule has: that for the start rule stands before those in bodies
-  abbrev pub used_lines : List ℕ → List ℕ
-  used_lines name = if is_given names start name then codes "  given by -s\n"
-      else use_line (earliest names definitions (uses_of names name mentions) None)
+-- the use by which a name is noted that no rule has, given its first one in bodies: that for the start rule stands
+-- before it
+abbrev pub used_line : NameCase → Option (List ℕ) → Option RuleMention → List ℕ → List ℕ
+used_line names start first name = if is_given names start name then codes "  given by -s\n" else use_line first
 
+module _ (names : NameCase) (definitions : List DefinedAt) (mentions : List MentionedAt) (start : Option (List ℕ)) where
   -- the first prose of a rule
   abbrev pub prose_lines : List ℕ → List ℕ
   prose_lines name = prose_line (first_prose (standing_definitions (named names name definitions)) mentions)
 
-  abbrev pub lines_by : NoteKind → List ℕ → List ℕ
-  lines_by Undefined name = used_lines name
-  lines_by Prose name = prose_lines name
-  lines_by kind name = lines_of kind (named names name definitions)
+  abbrev pub lines_by : Option RuleMention → NoteKind → List ℕ → List ℕ
+  lines_by first Undefined name = used_line names start first name
+  lines_by first Prose name = prose_lines name
+  lines_by first kind name = lines_of kind (named names name definitions)
 
-  -- what they report after a note
-  abbrev pub lines_behind : Said → List ℕ
-  lines_behind note = lines_by note.kind note.name
+  -- what they report after a note, by the first use of its name
+  pub record AreLinesBehind (note : Said) (why : List ℕ) : Type 0 where
+    pub first : Option RuleMention
+    pub is_first : IsFirstIfAny names definitions (uses_of names note.name mentions) first
+    pub is : why ≡ lines_by first note.kind note.name

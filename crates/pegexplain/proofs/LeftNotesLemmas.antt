@@ -7,18 +7,15 @@ use Rattle.std.proofs.lemmas.Bool.{le-ltb, lt-ltb}
 use Rattle.std.proofs.lemmas.List.{length-map}
 use Rattle.fixpoint.specs.NumberMarks.{IsMarked}
 use Rattle.fixpoint.proofs.IsMarkedLemmas.{marked_lt}
-use Rattle.diagnostics.specs.BodyMentions.{mentioned_at, mentions_in}
-use Rattle.diagnostics.specs.DefinitionHeads.{definitions_in, sign_at}
-use Rattle.diagnostics.specs.ExplainedNotes.{told_by}
+use Rattle.diagnostics.specs.DefinitionHeads.{defined_at, definitions_in, sign_at}
 use Rattle.diagnostics.specs.MentionLines.{mention_lines_by}
+use Rattle.diagnostics.specs.NoteLines.{defined_line}
 use Rattle.diagnostics.specs.declared.noteplaces.mentions.MentionKind.TheVariants as kinds
-use Rattle.diagnostics.specs.UseLines.{lines_behind}
 use Rattle.diagnostics.proofs.ExplainedNoteLemmas.{places-mention}
-use Rattle.ruletable.specs.Notes.{said}
 use Rattle.ruletable.specs.Rules.{find_in}
 use Rattle.ruletable.specs.declared.lines.LineRule.TheVariants.{Any}
 use Rattle.ruletable.specs.declared.note.NoteKind.{NoteKind}
-use Rattle.ruletable.specs.declared.note.NoteKind.TheVariants.{LeftRecursion, Unused}
+use Rattle.ruletable.specs.declared.note.NoteKind.TheVariants.{LeftRecursion}
 use Rattle.ruletable.specs.declared.table.NameCase.{NameCase}
 use Rattle.ruletable.specs.declared.table.NameCase.TheVariants.{Exact}
 use Rattle.ruletable.proofs.TableLemmas.{position-map}
@@ -172,19 +169,17 @@ module _ (text : List ℕ) (found : PegPlaces) (are : ArePegPlaces text found) w
           (defined_lines text are.places.tokens name) found.recursive.items id told) (sym is ∙ ids-agree name) lines);
     }
 
-    places-defined : told_by found.places None (said Unused name) ≡ defined_lines text are.places.tokens name
+    places-defined : defined_line found.places.names (map defined_at found.places.heads.items) name
+        ≡ defined_lines text are.places.tokens name
     places-defined =
-        ap (λ ds. lines_behind found.places.names ds (map mentioned_at found.places.mentions.items) None
-        (said Unused name)) are.places.heads_are
-        ∙ ap (λ ms. lines_behind found.places.names (definitions_in Any text (map (sign_at sign_of) are.places.tokens))
-        ms None (said Unused name)) are.places.mentions_are
-        ∙ ap (λ (c : NameCase). lines_behind c (definitions_in Any text (map (sign_at sign_of) are.places.tokens))
-        (mentions_in Any text None (map (sign_at sign_of) are.places.tokens)) None (said Unused name))
+        ap (λ ds. defined_line found.places.names ds name) are.places.heads_are
+        ∙ ap (λ (c : NameCase). defined_line c (definitions_in Any text (map (sign_at sign_of) are.places.tokens)) name)
         are.places.names_are
 
     -- where it is defined
     pub told-defined : (id : ℕ) → find_in found.rules name ≡ Some id → is_early found.recursive.items id ≡ false
-        → told ≡ told_by found.places None (said Unused name) → IsLeftTold text name told
+        → told ≡ defined_line found.places.names (map defined_at found.places.heads.items) name
+        → IsLeftTold text name told
     told-defined id is late e =
         left-told (Some id) is
         (subst (λ (early : Bool). IsWayOr (rules_of found.rules) null_by (named_lines text are.places.tokens)

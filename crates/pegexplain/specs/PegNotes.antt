@@ -1,8 +1,9 @@
 -- What explains a note on the grammar of a text.
-use Rattle.std.specs.Prelude.{◌≡◌, ℕ, Bool, false, List, [], ◌++◌, Option, None, length, map}
-use Rattle.diagnostics.specs.DefinitionHeads.{sign_at}
-use Rattle.diagnostics.specs.ExplainedNotes.{ArePlaces, IsNoteExplained, note_lines}
+use Rattle.std.specs.Prelude.{◌≡◌, ℕ, Bool, false, List, [], ◌++◌, Option, length, map}
+use Rattle.diagnostics.specs.DefinitionHeads.{definitions_in, sign_at}
+use Rattle.diagnostics.specs.ExplainedNotes.{ArePlaces, IsNoteExplained}
 use Rattle.diagnostics.specs.MentionLines.{lines_mentioned}
+use Rattle.diagnostics.specs.NoteLines.{defined_line}
 use Rattle.diagnostics.specs.ReportedTrees.{TreeRule}
 use Rattle.diagnostics.specs.declared.noteplaces.mentions.MentionKind.TheVariants.{Repeat, Use}
 use Rattle.diagnostics.specs.declared.noteplaces.sign.Sign.{Sign}
@@ -18,11 +19,11 @@ use Rattle.pegread.specs.Tokens.{Tok, AreTokens}
 use Rattle.pegread.specs.declared.expr.Expr.{Expr}
 use Rattle.pegread.specs.declared.kind.Kind.{Kind}
 use Rattle.pegread.specs.declared.kind.Kind.TheVariants.{Ident, Arrow, Star, Plus, Literal}
-use Rattle.ruletable.specs.Notes.{Said, said}
+use Rattle.ruletable.specs.Notes.{Said}
 use Rattle.ruletable.specs.Rules as table
 use Rattle.ruletable.specs.declared.lines.LineRule.TheVariants.{Any}
 use Rattle.ruletable.specs.declared.note.NoteKind.{NoteKind}
-use Rattle.ruletable.specs.declared.note.NoteKind.TheVariants.{LeftRecursion, Loop, Unused}
+use Rattle.ruletable.specs.declared.note.NoteKind.TheVariants.{LeftRecursion, Loop}
 use Rattle.ruletable.specs.declared.table.NameCase.TheVariants.{Exact}
 use Rattle.gramcheck.specs.GrammarNotes.{AreMarks}
 use Rattle.gramcheck.specs.Left.{IsLeftRecursive, Nullable}
@@ -66,7 +67,7 @@ named_lines text tokens name = lines_mentioned Any Exact text (map (sign_at sign
 
 -- where the rule of a name is defined, as after a note on a rule that is not used
 abbrev pub defined_lines : List ℕ → List Tok → List ℕ → List ℕ
-defined_lines text tokens name = note_lines Any Exact text (map (sign_at sign_of) tokens) None (said Unused name)
+defined_lines text tokens name = defined_line Exact (definitions_in Any text (map (sign_at sign_of) tokens)) name
 
 -- the steps of the way from the left-recursive rule of that name back to itself, if it is among the first ones
 pub record IsLeftTold (text : List ℕ) (name line : List ℕ) : Type 0 where

@@ -1,12 +1,11 @@
 //! What follows a note on a left-recursive rule.
 ghost use Rattle.std.specs.Prelude.{◌≡◌, ◌<◌, ◌++◌, ℕ, List, Option, None, map, length, OnOk, option_map};
-ghost use Rattle.diagnostics.specs.ExplainedNotes.{told_by};
+ghost use Rattle.diagnostics.specs.DefinitionHeads.{defined_at};
 ghost use Rattle.diagnostics.specs.MentionLines.{mention_lines_by};
+ghost use Rattle.diagnostics.specs.NoteLines.{defined_line};
 ghost use Rattle.diagnostics.specs.declared.noteplaces.mentions.MentionKind.TheVariants.{Use};
 ghost use Rattle.pegread.specs.PegViews.{pattern_of, rules_of};
-ghost use Rattle.ruletable.specs.Notes.{said};
 ghost use Rattle.ruletable.specs.Rules.{find_in};
-ghost use Rattle.ruletable.specs.declared.note.NoteKind.TheVariants.{Unused};
 ghost use Rattle.fixpoint.specs.ShortChains.{IsRoundIfAny};
 ghost use Rattle.pegexplain.specs.LeftLines.{way_told};
 ghost use Rattle.pegexplain.specs.LeftNotes.{EndsEarly};
@@ -48,7 +47,8 @@ fn push_definition(
     places: &PegPlaces,
     name: &[u8],
 ) -> Result<(), Memory>
-    ensures { OnOk result (out.new.items ≡ out.old.items ++ told_by places.now.places None (said Unused name.now)) }
+    ensures { OnOk result (out.new.items ≡ out.old.items ++ defined_line places.now.places.names
+        (map defined_at places.now.places.heads.items) name.now) }
 {
     let name = Vec::from_slice(alloc, name)?;
     let note = Note {

@@ -1,11 +1,8 @@
 //! What a grammar's text explains of notes.
-ghost use Rattle.std.specs.Prelude.{◌≡◌, ◌++◌, length, map, IfOk, OnOk, option_copied};
+ghost use Rattle.std.specs.Prelude.{◌≡◌, ◌++◌, ℕ, List, length, map, IfOk, OnOk, option_copied};
 ghost use Rattle.lexer.specs.TokenLists.{AreTokens, tok_of};
-ghost use Rattle.ruletable.specs.Notes.{said_of};
-ghost use Rattle.diagnostics.specs.BodyMentions.{mentioned_at};
-ghost use Rattle.diagnostics.specs.DefinitionHeads.{defined_at};
-ghost use Rattle.diagnostics.specs.ExplainedNotes.{ArePlaces, told_by};
-ghost use Rattle.diagnostics.specs.UseLines.{lines_by};
+ghost use Rattle.ruletable.specs.Notes.{said, said_of};
+ghost use Rattle.diagnostics.specs.ExplainedNotes.{ArePlaces, AreToldBy};
 
 use crate::noteplaces::heads::heads_of;
 use crate::noteplaces::kept::kept_tokens;
@@ -70,9 +67,8 @@ fn push_lines(
     kind: NoteKind,
     name: &[u8],
 ) -> Result<(), Memory>
-    ensures { OnOk result (out.new.items ≡ out.old.items ++ lines_by places.now.names
-        (map defined_at places.now.heads.items) (map mentioned_at places.now.mentions.items)
-        (option_copied start.entry) kind name.now) }
+    ensures { OnOk result ((why : List ℕ) × AreToldBy places.now (option_copied start.entry) (said kind name.now) why
+        × (out.new.items ≡ out.old.items ++ why)) }
 {
     match kind {
         NoteKind::Undefined => push_used(alloc, out, places, start, name),
@@ -96,7 +92,7 @@ pub fn explain_note(
     start: Option<&str>,
     note: &Note,
 ) -> Result<Vec<u8>, Memory>
-    ensures { IfOk result (λ why. why.items ≡ told_by places.now (option_copied start.entry) (said_of note.now)) }
+    ensures { IfOk result (λ why. AreToldBy places.now (option_copied start.entry) (said_of note.now) why.items) }
 {
     let mut out = Vec::new(alloc);
     push_lines(

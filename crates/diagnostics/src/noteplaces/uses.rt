@@ -1,13 +1,14 @@
 //! The use by which a name is noted.
-ghost use Rattle.std.specs.Prelude.{◌≡◌, ◌++◌, ◌==◌, None, map, option_map, IfOk, OnOk, option_copied};
+ghost use Rattle.std.specs.Prelude.{◌≡◌, ◌++◌, ◌∷◌, ◌==◌, List, Option, map, option_map, IfOk, OnOk, option_copied};
 ghost use Rattle.std.specs.List.{filter, list_any};
-ghost use Rattle.diagnostics.specs.BodyMentions.{mentioned_at};
-ghost use Rattle.diagnostics.specs.DefinitionHeads.{defined_at};
-ghost use Rattle.diagnostics.specs.FirstMentions.{earlier, earliest, rule_named};
+ghost use Rattle.diagnostics.specs.BodyMentions.{MentionedAt, mentioned_at};
+ghost use Rattle.diagnostics.specs.DefinitionHeads.{DefinedAt, defined_at};
+ghost use Rattle.diagnostics.specs.FirstMentions.{IsFirstIfAny, RuleMention, rule_named};
 ghost use Rattle.diagnostics.specs.FirstMentions.{rule_standing_at, stands_in, uses_of};
 ghost use Rattle.diagnostics.specs.FoundMentions.{mention_found};
 ghost use Rattle.diagnostics.specs.NoteLines.{named};
-ghost use Rattle.diagnostics.specs.UseLines.{is_given, use_line, used_lines};
+ghost use Rattle.ruletable.specs.declared.table.NameCase.{NameCase};
+ghost use Rattle.diagnostics.specs.UseLines.{is_given, use_line, used_line};
 
 use crate::noteplaces::heads::Head;
 use crate::noteplaces::lines::is_same_name;
@@ -64,14 +65,16 @@ fn rule_around(places: &Places, start: usize) -> Result<Option<&Head>, Memory>
     Ok(standing_in(head, rule))
 }
 
-// Returns the mention whose rule comes first, of one and another after it.
+// Returns the first mention, of one that stands in that rule and others after it, given the first of these.
 fn earlier_of<'a>(
     rule: Option<&'a Head>,
     mention: &'a Mention,
     other: Option<Found<'a>>,
 ) -> Option<Found<'a>>
-    ensures { option_map mention_found result ≡ earlier (option_map (λ h. defined_at h.now) rule.entry)
-        (mentioned_at mention.now) (option_map mention_found other.entry) }
+    ensures { (names : NameCase) (definitions : List DefinedAt) (mentions : List MentionedAt)
+        → option_map (λ h. defined_at h.now) rule.entry ≡ rule_standing_at names definitions mention.now.within
+        → IsFirstIfAny names definitions mentions (option_map mention_found other.entry)
+        → IsFirstIfAny names definitions (mentioned_at mention.now ∷ mentions) (option_map mention_found result) }
 {
     let Some(rule) = rule else {
         return other;
@@ -89,8 +92,8 @@ fn earliest_of<'a>(
     places: &'a Places,
     mentions: &[&'a Mention],
 ) -> Result<Option<Found<'a>>, Memory>
-    ensures { IfOk result (λ found. option_map mention_found found ≡ earliest places.now.names
-        (map defined_at places.now.heads.items) (map (λ m. mentioned_at m.now) mentions.now) None) }
+    ensures { IfOk result (λ found. IsFirstIfAny places.now.names (map defined_at places.now.heads.items)
+        (map (λ m. mentioned_at m.now) mentions.now) (option_map mention_found found)) }
 {
     let mut found = None;
     let mut left = mentions.len();
@@ -165,9 +168,10 @@ pub(crate) fn push_used(
     start: Option<&str>,
     name: &[u8],
 ) -> Result<(), Memory>
-    ensures { OnOk result (out.new.items ≡ out.old.items ++ used_lines places.now.names
-        (map defined_at places.now.heads.items) (map mentioned_at places.now.mentions.items)
-        (option_copied start.entry) name.now) }
+    ensures { OnOk result ((first : Option RuleMention)
+        × IsFirstIfAny places.now.names (map defined_at places.now.heads.items)
+        (uses_of places.now.names name.now (map mentioned_at places.now.mentions.items)) first
+        × (out.new.items ≡ out.old.items ++ used_line places.now.names (option_copied start.entry) first name.now)) }
 {
     if is_given_name(places.names, start, name) {
         out.extend_from_slice(b"  given by -s\n")?;

@@ -1,6 +1,5 @@
 -- The first ones, and how many more there are.
 use Rattle.std.proofs.Common.{map}
-use Rattle.diagnostics.specs.BodyMentions.{mentioned_at}
 use Rattle.diagnostics.specs.DefinitionHeads.{defined_at}
 use Rattle.abnfhints.specs.AbnfHints.{barren_told}
 use Rattle.abnfhints.proofs.ToldFirstLemmas.{first_join}
@@ -8,6 +7,6 @@ use Rattle.abnfhints.proofs.barren.push_all_barren.Goals as goal
 
 pub returns : goal.returns
 returns c = first_join (λ name. name.now)
-    (barren_told (map defined_at c.args.places.now.heads.items) (map mentioned_at c.args.places.now.mentions.items))
+    (barren_told (map defined_at c.args.places.now.heads.items))
     c.args.names.now c.min-shown.result _ _ _ c.min-shown.ensures c.in_ok-push_each_barren.ensures
     c.in_ok-push_more.ensures

@@ -1,7 +1,11 @@
 -- By the digits of both ends.
-use Rattle.std.proofs.Common.{arith}
+use Rattle.std.proofs.Common.{arith, refl}
+use Rattle.abnfread.proofs.ByteRunLemmas.{no-digit}
 use Rattle.abnfhints.proofs.IsReversedLemmas.{all_digits, no_reversed, reversed_as}
 use Rattle.abnfhints.proofs.numbers.is_reversed.Goals as goal
+
+pub ends_of-requires : goal.ends_of-requires
+ends_of-requires c = let b = c.in-Some.ensures in no-digit c.in-Some.base 45 36 refl b.4
 
 pub returns-in-Some-ends_of : goal.returns-in-Some-ends_of
 returns-in-Some-ends_of c =

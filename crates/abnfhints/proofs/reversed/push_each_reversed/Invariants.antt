@@ -8,5 +8,5 @@ use Rattle.abnfhints.proofs.reversed.push_each_reversed.Given as goal
 
 abbrev pub invariant-loop-mention : goal.invariant-loop-mention
 invariant-loop-mention l = l.out.items ≡ l.fn.out.items ++ flat_map
-    (reversed_told (map defined_at l.places.heads.items) (map mentioned_at l.places.mentions.items))
+    (reversed_told (map defined_at l.places.heads.items))
     (map (λ m. mentioned_at m.now) (take l.mention-index l.mentions))

@@ -1,10 +1,9 @@
-use Rattle.std.proofs.Common.{None, [], sym, ◌∙◌, append-nil, refl}
-use Rattle.diagnostics.specs.ExplainedNotes.{told_by}
+use Rattle.std.proofs.Common.{None, [], map, sym, ◌∙◌, append-nil, refl}
+use Rattle.diagnostics.specs.DefinitionHeads.{defined_at}
 use Rattle.diagnostics.specs.MentionLines.{mention_lines_by}
+use Rattle.diagnostics.specs.NoteLines.{defined_line}
 use Rattle.diagnostics.specs.declared.noteplaces.mentions.MentionKind.TheVariants as kinds
 use Rattle.pegread.specs.PegViews.{rules_of}
-use Rattle.ruletable.specs.Notes.{said}
-use Rattle.ruletable.specs.declared.note.NoteKind.TheVariants.{Unused}
 use Rattle.pegexplain.specs.LeftLines.{way_told}
 use Rattle.pegexplain.specs.NullTests.{null_mark_of, nullable_by}
 use Rattle.pegexplain.proofs.LeftNotesLemmas.{early-by, late-by, left-told, told-defined, told-way}
@@ -32,7 +31,7 @@ returns-in_ok-push_way c = λ text are.
 
 pub returns-in_ok-push_definition : goal.returns-in_ok-push_definition
 returns-in_ok-push_definition c = λ text are. (
-  told_by c.args.places.now.places None (said Unused c.args.name.now),
+  defined_line c.args.places.now.places.names (map defined_at c.args.places.now.places.heads.items) c.args.name.now,
   told-defined text c.args.places.now are c.args.name.now _ c.in-Some.id
       (sym c.in_ok-id.ensures.found ∙ c.in-Some.is)
       (late-by text c.args.places.now are c.args.name.now c.in-Some.id

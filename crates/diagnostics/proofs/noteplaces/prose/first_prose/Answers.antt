@@ -6,8 +6,18 @@ use Rattle.diagnostics.specs.BodyMentions.{MentionedAt, is_kind, mentioned_at}
 use Rattle.diagnostics.specs.DefinitionHeads.{defined_at}
 use Rattle.diagnostics.specs.declared.noteplaces.mentions.Mention.{Mention}
 use Rattle.diagnostics.specs.declared.noteplaces.mentions.MentionKind.TheVariants.{Prose}
-use Rattle.diagnostics.proofs.MentionOrderLemmas.{find-passed, find-there}
 use Rattle.diagnostics.proofs.noteplaces.prose.first_prose.Goals as goal
+use Rattle.std.proofs.Common.{◌≡◌, ℕ, ◌<◌, Bool, true, false, List, length, get_or, drop, map, refl, Some, ◌+◌, add-one}
+use Rattle.std.proofs.Math.Seq.{drop-cons}
+use Rattle.std.specs.List.{find}
+
+-- the first that passes, among those from a place on
+module _ {A B : Type 0} (f : A → B) (p : B → Bool) (xs : List A) (i : ℕ) (d : A) (lt : i < length xs) where
+  find-passed : p (f (get_or xs i d)) ≡ false → find p (map f (drop i xs)) ≡ find p (map f (drop (i + 1) xs))
+  find-passed e = rw (add-one, drop-cons xs i d lt, e) refl
+
+  find-there : p (f (get_or xs i d)) ≡ true → find p (map f (drop i xs)) ≡ Some (f (get_or xs i d))
+  find-there e = rw (drop-cons xs i d lt, e) refl
 
 pub returns-then-is_prose_within : goal.returns-then-is_prose_within
 returns-then-is_prose_within c =

@@ -1,0 +1,18 @@
+-- The name that is given, or else the first use.
+use Rattle.std.proofs.Common.{map, ap, ◌∙◌, sym}
+use Rattle.diagnostics.specs.BodyMentions.{mentioned_at}
+use Rattle.diagnostics.specs.DefinitionHeads.{defined_at}
+use Rattle.diagnostics.specs.FirstMentions.{uses_of}
+use Rattle.diagnostics.proofs.FirstMentionLemmas.{first-some}
+use Rattle.diagnostics.proofs.noteplaces.uses.push_used.Goals as goal
+
+pub returns-then-is_given_name : goal.returns-then-is_given_name
+returns-then-is_given_name c =
+    let places = c.args.places.now in
+    let first = first-some places.names (map defined_at places.heads.items)
+    (uses_of places.names c.args.name.now (map mentioned_at places.mentions.items)) in (
+      first.0,
+      first.1,
+      rw (sym c.is_given_name.ensures ∙ c.if-is_given_name.true)
+          c.in_ok-extend_from_slice.ensures.items,
+    )
