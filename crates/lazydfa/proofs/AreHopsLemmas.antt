@@ -9,7 +9,8 @@ use Rattle.lazydfa.specs.declared.cache.State.{State}
 use Rattle.lazydfa.specs.declared.cache.Cell.TheVariants.{To}
 use Rattle.lazydfa.specs.Conts.{AreKept}
 use Rattle.lazydfa.specs.Cached.{AreGrown, Grows, IsCache, IsCell}
-use Rattle.lazydfa.specs.Hops.{AreHops, AreHopsNoted, IsEndAt, IsEndMade, IsHop, IsHopMade, IsHopPut, IsHopTo, last_word}
+use Rattle.lazydfa.specs.Hops.{AreHops, AreHopsNoted, IsEndAt, IsEndMade, IsHop, IsHopMade, IsHopPut, IsHopTo}
+use Rattle.lazydfa.specs.Hops.{last_word}
 use Rattle.lazydfa.specs.Memos.{AreUnfolds, IsMemo}
 use Rattle.lazydfa.specs.declared.memo.Memo.{Memo}
 use Rattle.lazydfa.proofs.AreCachedLemmas.{cached_none, cell_kept, grown_at, row_is, class_is}
@@ -126,8 +127,7 @@ module _ (tables : code_flat.Tables) (samples : List ℕ) (conts : List Cont) (s
       let there = subst (λ v. slice_get states v ≡ Some made.state)
       (sym (row_is t (length samples) (length samples + 1) i wide made.place)) made.there in
       record {
-        leads = λ lt below. absurd (let l : length samples < length samples = subst (λ v. v < length samples) class lt in
-            omega (arith, l));
+        leads = λ lt below. absurd (nothing_below (subst (λ v. v < length samples) class lt));
         runs = λ last zero. record {
           state = made.state;
           is = there;
@@ -140,6 +140,9 @@ module _ (tables : code_flat.Tables) (samples : List ℕ) (conts : List Cont) (s
         };
       }
     where
+      nothing_below : length samples < length samples → ⊥
+      nothing_below lt = omega (arith, lt)
+
       zero_runs : (ended : Bool) → last_word ended ≡ 0 → ended ≡ false
       zero_runs true is = absurd (omega (arith, is))
       zero_runs false is = refl

@@ -73,64 +73,64 @@ module _ (tables : code_flat.Tables) (roots : GiveRoots (flat_of tables) tables.
   class_within : k < length samples
   class_within = slice_get_within samples k class.sample class.is
 
-  wide : k < length samples + 1
-  wide = let w = class_within in omega (arith, w)
+  class_fits : k < length samples + 1
+  class_fits = let w = class_within in omega (arith, w)
 
   word_place : row + k ≡ before.state * (length samples + 1) + k
   word_place = ap (λ v. v + k) before.row
 
   word_class : (row + k) % (length samples + 1) ≡ k
-  word_class = class_is before.state k (length samples + 1) (row + k) wide word_place
+  word_class = class_is before.state k (length samples + 1) (row + k) class_fits word_place
 
-  hop : IsHopTo tables samples memo.cache.conts.items.items memo.cache.states.items (row + k) next
-  hop =
+  hop_is : IsHopTo tables samples memo.cache.conts.items.items memo.cache.states.items (row + k) next
+  hop_is =
       (is_memo.hops (row + k) next word).leads (subst (λ v. v < length samples) (sym word_class) class_within) below
 
   cell_known : (d : ℕ) → slice_get samples k ≡ Some d
-      → IsCell tables d memo.cache.conts.items.items memo.cache.states.items before.state (To hop.to)
+      → IsCell tables d memo.cache.conts.items.items memo.cache.states.items before.state (To hop_is.to)
   cell_known d sample =
-      subst (λ v. IsCell tables d memo.cache.conts.items.items memo.cache.states.items v (To hop.to))
-      (row_is before.state k (length samples + 1) (row + k) wide word_place)
-      (hop.leads d (subst (λ v. slice_get samples v ≡ Some d) (sym word_class) sample))
+      subst (λ v. IsCell tables d memo.cache.conts.items.items memo.cache.states.items v (To hop_is.to))
+      (row_is before.state k (length samples + 1) (row + k) class_fits word_place)
+      (hop_is.leads d (subst (λ v. slice_get samples v ≡ Some d) (sym word_class) sample))
 
-  track_to : IsSettled tables memo.cache.conts.items.items memo.cache.states.items memo.parts.items hop.to x (j + 1)
+  track_to : IsSettled tables memo.cache.conts.items.items memo.cache.states.items memo.parts.items hop_is.to x (j + 1)
       → IsTrack tables samples memo x (record { row = next; at = j + 1 })
   track_to settled = record {
-    state = hop.to;
-    row = hop.row;
+    state = hop_is.to;
+    row = hop_is.row;
     runs = settled;
     reached = λ _. next_reached tables roots samples memo.cache.conts.items.items memo.cache.states.items
-        memo.cache.cells.items is_memo.cached memo.parts.items x before.state j c k hop.to before.runs letter class
+        memo.cache.cells.items is_memo.cached memo.parts.items x before.state j c k hop_is.to before.runs letter class
         cell_known;
   }
 
   track_bare : memo.parts.items ≡ [] → IsTrack tables samples memo x (record { row = next; at = j + 1 })
   track_bare none =
       track_to (next_bare tables roots samples memo.cache.conts.items.items memo.cache.states.items
-      memo.cache.cells.items is_memo.cached memo.parts.items x before.state j c k hop.to before.runs letter class
+      memo.cache.cells.items is_memo.cached memo.parts.items x before.state j c k hop_is.to before.runs letter class
       cell_known none)
 
   track_running : slice_get memo.hops.items (next + length samples) ≡ Some 0
       → IsTrack tables samples memo x (record { row = next; at = j + 1 })
   track_running last =
-      let place : next + length samples ≡ hop.to * (length samples + 1) + length samples =
-      ap (λ v. v + length samples) hop.row in
+      let place : next + length samples ≡ hop_is.to * (length samples + 1) + length samples =
+      ap (λ v. v + length samples) hop_is.row in
       let wider : length samples < length samples + 1 = omega arith in
       let end = (is_memo.hops (next + length samples) 0 last).runs
-      (class_is hop.to (length samples) (length samples + 1) (next + length samples) wider place) refl in
+      (class_is hop_is.to (length samples) (length samples + 1) (next + length samples) wider place) refl in
       track_to (next_running tables roots samples memo.cache.conts.items.items memo.cache.states.items
-      memo.cache.cells.items is_memo.cached memo.parts.items x before.state j c k hop.to before.runs letter class
+      memo.cache.cells.items is_memo.cached memo.parts.items x before.state j c k hop_is.to before.runs letter class
       cell_known end.state (subst (λ v. slice_get memo.cache.states.items v ≡ Some end.state)
-      (row_is hop.to (length samples) (length samples + 1) (next + length samples) wider place) end.is) end.ended_is)
+      (row_is hop_is.to (length samples) (length samples + 1) (next + length samples) wider place) end.is) end.ended_is)
 
   track_same : next ≡ row → IsTrack tables samples memo x (record { row = next; at = j + 1 })
   track_same back =
       let wider : 0 < length samples + 1 = omega arith in
-      let there : next ≡ hop.to * (length samples + 1) + 0 = let r = hop.row in omega (arith, r) in
+      let there : next ≡ hop_is.to * (length samples + 1) + 0 = let r = hop_is.row in omega (arith, r) in
       let here : next ≡ before.state * (length samples + 1) + 0 = let r = before.row in omega (arith, r, back) in
       track_to (next_same tables roots samples memo.cache.conts.items.items memo.cache.states.items
-      memo.cache.cells.items is_memo.cached memo.parts.items x before.state j c k hop.to before.runs letter class
-      cell_known (sym (row_is hop.to 0 (length samples + 1) next wider there)
+      memo.cache.cells.items is_memo.cached memo.parts.items x before.state j c k hop_is.to before.runs letter class
+      cell_known (sym (row_is hop_is.to 0 (length samples + 1) next wider there)
       ∙ row_is before.state 0 (length samples + 1) next wider here))
 
 module _ (tables : code_flat.Tables) (roots : GiveRoots (flat_of tables) tables.roots.items) (samples : List ℕ)

@@ -110,36 +110,27 @@ fn empty_memo(alloc: Global, nodes: usize, room: usize) -> Memo
     ensures hops { result.hops.items ≡ [] }
     ensures unfolds { result.unfolds.items ≡ [] }
 {
+    let most = nodes.saturating_mul(4).saturating_add(16_384);
     Memo {
-        cache: empty_cache(alloc, nodes, room),
+        cache: Cache {
+            conts: Conts {
+                items: Vec::new(alloc),
+                chains: Chains::new(alloc),
+            },
+            ids: Ids {
+                items: Vec::new(alloc),
+                spots: Vec::new(alloc),
+                most,
+            },
+            states: Vec::new(alloc),
+            chains: Chains::new(alloc),
+            cells: Vec::new(alloc),
+            budget: Budget::of(nodes, room),
+        },
         hops: Vec::new(alloc),
         unfolds: Vec::new(alloc),
         chains: Chains::new(alloc),
         parts: Vec::new(alloc),
-    }
-}
-
-// Returns a cache of a grammar of so many nodes, with no state, in such a room. It takes no memory.
-fn empty_cache(alloc: Global, nodes: usize, room: usize) -> Cache
-    ensures conts { result.conts.items.items ≡ [] }
-    ensures states { result.states.items ≡ [] }
-    ensures cells { result.cells.items ≡ [] }
-{
-    let most = nodes.saturating_mul(4).saturating_add(16_384);
-    Cache {
-        conts: Conts {
-            items: Vec::new(alloc),
-            chains: Chains::new(alloc),
-        },
-        ids: Ids {
-            items: Vec::new(alloc),
-            spots: Vec::new(alloc),
-            most,
-        },
-        states: Vec::new(alloc),
-        chains: Chains::new(alloc),
-        cells: Vec::new(alloc),
-        budget: Budget::of(nodes, room),
     }
 }
 

@@ -17,7 +17,8 @@ pub(crate) struct Budget {
     gift: usize,
     tops: usize,
     room: usize,
-    is_shut: bool,
+    /// No state is made any more.
+    pub(crate) is_shut: bool,
 }
 
 impl Budget {
@@ -47,11 +48,6 @@ impl Budget {
     /// Notes a new state with so many tops, or an unfold, which has none.
     pub(crate) fn note(&mut self, tops: usize) {
         self.tops = self.tops.saturating_add(tops).saturating_add(4);
-    }
-
-    /// Notes that no state is made any more.
-    pub(crate) fn shut(&mut self) {
-        self.is_shut = true;
     }
 
     /// Returns whether so many turns may be spent while there are so many continuations and cells.

@@ -142,19 +142,14 @@ fn find(states: &[State], chains: &Chains, tops: &[usize], ended: bool) -> Optio
     None
 }
 
-// Adds all states to chains.
-fn chain_all(states: &[State], chains: &mut Chains) -> Result<(), Memory> {
-    for state in states {
-        chains.add(hash_of_tops(&state.tops))?;
-    }
-    Ok(())
-}
-
 // Adds the last state to chains. Where there are fewer chains than states, more of them are made.
 fn chain_last(states: &[State], chains: &mut Chains) -> Result<(), Memory> {
     if chains.is_crowded() {
         chains.restart(states.len().saturating_mul(2).max(256))?;
-        return chain_all(states, chains);
+        for state in states {
+            chains.add(hash_of_tops(&state.tops))?;
+        }
+        return Ok(());
     }
     match states.last() {
         Some(state) => chains.add(hash_of_tops(&state.tops)),

@@ -51,19 +51,14 @@ pub(crate) struct Conts {
     pub(crate) chains: Chains,
 }
 
-// Adds all continuations to chains.
-fn chain_all(conts: &[Cont], chains: &mut Chains) -> Result<(), Memory> {
-    for cont in conts {
-        chains.add(hash_of_cont(*cont))?;
-    }
-    Ok(())
-}
-
 // Adds the last continuation to chains. Where there are fewer chains than continuations, more of them are made.
 fn chain_last(conts: &[Cont], chains: &mut Chains) -> Result<(), Memory> {
     if chains.is_crowded() {
         chains.restart(conts.len().saturating_mul(2).max(1024))?;
-        return chain_all(conts, chains);
+        for cont in conts {
+            chains.add(hash_of_cont(*cont))?;
+        }
+        return Ok(());
     }
     match conts.last() {
         Some(cont) => chains.add(hash_of_cont(*cont)),

@@ -68,19 +68,14 @@ fn find(unfolds: &[Unfold], chains: &Chains, state: usize, part: usize) -> Optio
     None
 }
 
-// Adds all unfolds to chains.
-fn chain_all(unfolds: &[Unfold], chains: &mut Chains) -> Result<(), Memory> {
-    for known in unfolds {
-        chains.add(hash_of_pair(known.state, known.part))?;
-    }
-    Ok(())
-}
-
 // Adds the last unfold to chains. Where there are fewer chains than unfolds, more of them are made.
 fn chain_last(unfolds: &[Unfold], chains: &mut Chains) -> Result<(), Memory> {
     if chains.is_crowded() {
         chains.restart(unfolds.len().saturating_mul(2).max(64))?;
-        return chain_all(unfolds, chains);
+        for known in unfolds {
+            chains.add(hash_of_pair(known.state, known.part))?;
+        }
+        return Ok(());
     }
     match unfolds.last() {
         Some(known) => chains.add(hash_of_pair(known.state, known.part)),

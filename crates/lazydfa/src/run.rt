@@ -70,7 +70,7 @@ fn begin(
     }
     let told = first_front(alloc, tables, &mut cache.conts, &mut cache.ids)?;
     let Some(front) = told else {
-        cache.budget.shut();
+        cache.budget.is_shut = true;
         return Ok(None);
     };
     let t = state_of(cache, samples.len(), front)?;

@@ -16,7 +16,8 @@ loop-track-preserved g c = record {
       let taken = subst (λ v. IsTaken v (length c.args.samples.now) (nat_eq c.len-is_bare.result 0)
       (c.loop-track.track.row + c.class_of-class.result) c.in-Some.row) c.as_slice-hops.ensures.value
       (subst (λ v. IfSome v (IsTaken c.as_slice-hops.result.now (length c.args.samples.now)
-      (nat_eq c.len-is_bare.result 0) (c.loop-track.track.row + c.class_of-class.result))) c.in-Some.is c.next_row.ensures) in
+      (nat_eq c.len-is_bare.result 0) (c.loop-track.track.row + c.class_of-class.result))) c.in-Some.is
+      c.next_row.ensures) in
       stays_taken tables roots c.args.samples.now c.args.memo.now memo x c.args.low.now classes c.in-Some.row
       (c.loop-track.track.at + 1) taken.1 c.stay_on.result c.stay_on.ensures.further
       (let size = length-map c.args.line.now g.L.Letter.number in let w = c.stay_on.ensures.within in
