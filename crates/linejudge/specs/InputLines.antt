@@ -35,12 +35,12 @@ says_yes No = false
 says_yes (NoAfter n) = false
 
 -- whether something is printed for a line with that answer
-abbrev pub is_printed : Printed → Answer → Bool
-is_printed printed.Answers said = true
-is_printed printed.Derived said = says_yes said
-is_printed printed.Refused said = not (says_yes said)
-is_printed printed.Count said = false
-is_printed printed.Nothing said = false
+abbrev pub is_line_printed : Printed → Answer → Bool
+is_line_printed printed.Answers said = true
+is_line_printed printed.Derived said = says_yes said
+is_line_printed printed.Refused said = not (says_yes said)
+is_line_printed printed.Count said = false
+is_line_printed printed.Nothing said = false
 
 -- the number of a line and a colon, if lines are numbered
 abbrev pub number_text : Bool → ℕ → List ℕ
@@ -57,7 +57,7 @@ shown_text printed.Nothing end line said = []
 
 -- what is printed for a line of that number with that answer
 abbrev pub printed_line : LineForm → ℕ → List ℕ → Answer → List ℕ
-printed_line form number line said = if is_printed form.printed said
+printed_line form number line said = if is_line_printed form.printed said
     then number_text form.numbered number ++ shown_text form.printed form.end line said else []
 
 -- how many lines an answer rejects

@@ -1,7 +1,7 @@
 //! What is printed for the lines of an input, and at its end.
 ghost use Rattle.std.specs.Prelude.{◌≡◌, ◌++◌, ◌∷◌, [], OnOk, codes, decimal, false};
 ghost use Rattle.ruletable.specs.Writing.{Flags, Writes};
-ghost use Rattle.linejudge.specs.InputLines.{answer_text, count_text, is_printed as may_print, printed_last};
+ghost use Rattle.linejudge.specs.InputLines.{answer_text, count_text, is_line_printed, printed_last};
 ghost use Rattle.linejudge.specs.InputLines.{number_text, printed_line, shown_text};
 
 use crate::answers::{Answer, is_yes};
@@ -28,7 +28,7 @@ pub enum Printed {
 /// Returns whether something is printed for a line with that answer.
 #[inline(always)]
 fn is_printed(printed: Printed, said: Answer) -> bool
-    ensures { result ≡ may_print printed said }
+    ensures { result ≡ is_line_printed printed said }
 {
     match printed {
         Printed::Answers => true,
