@@ -100,7 +100,7 @@ CODES = re.compile(r"Status::(\w+) => (\d)")
 FENCED = re.compile(r"^```.*?^```", re.S | re.M)
 MARKED = re.compile(r"`[^`]*`")
 # Examples of a manual page, and words that it shows as they are typed or printed.
-EXAMPLE = re.compile(r"^\.nf\n.*?^\.fi$", re.S | re.M)
+EXAMPLE = re.compile(r"^\.(?:nf\n.*?^\.fi|TS\n.*?^\.TE)$", re.S | re.M)
 TYPED = re.compile(r"^\.(?:B|BR|BI|RB) .*$|\\fB.*?\\fR", re.M)
 DOC = re.compile(r"^ *//[/!]")
 # A crate in code marks: by a path, or in the first cell of a row of the table of crates.

@@ -1,7 +1,8 @@
 #!/usr/bin/env python3
-"""Makes random texts in the manner of RFCs, of rules, prose and pages, and compares what abnfx writes of them with what
-slow_abnfx.py works out, and its canonical text with what `abnfi -m print` prints of the grammar, unless abnfi refuses
-that. A grammar that is too long is tried too, and so are words and files that it refuses.
+"""Makes random texts in the manner of RFCs, of rules, prose, pages, fenced blocks and tags, and compares what abnfx
+writes of them with what slow_abnfx.py works out, and its canonical text with what `abnfi -m print` prints of the
+grammar, unless abnfi refuses that. A grammar that is too long is tried too, and so are words and files that it
+refuses.
 
 usage: random_texts.py [-n TEXTS] [-s SEED]
 
@@ -29,6 +30,13 @@ PARTS = ("a", "b", "DIGIT", "2*3date", '"x"', '"Y z"', "%x41-5A", "%d13.10", "*c
 PROSE = (
     "Prose of a text.", "Where a = b, c it is so:", "2.  Rules", "a = ", "The date May 2001", "x = ( y", "; a comment",
     "/ c-1", "    / c-1", "| b", ") / a", "       Deeper prose, of two.", "a = b | c", "date =/ 1*\"x\" ]"
+)
+
+
+FENCES = ("```", "````", "~~~", "~~~~", "  ~~~", "    ~~~")
+TAGS = ("<t", " <t a", "<?x", "<t>", "< t", "b>", "c = <d>", "<1", "<", "<t b = c")
+INFORMATION = (
+    "", "", " abnf", "ABNF", " text", " c", " python x", " {.abnf #f}", " {#f .c}", "{a.b}", " `c`", " c{.x}"
 )
 
 
@@ -61,10 +69,18 @@ def text(made):
                 found.append(" " * made.choice((0, size)) + made.choice(PROSE))
         if made.random() < 0.6:
             found += [""] * made.choice((0, 1)) + [" " * made.choice((0, 3)) + made.choice(PROSE)] + [""]
+        if made.random() < 0.4:
+            found.insert(made.randrange(len(found)), made.choice(FENCES) + made.choice(INFORMATION))
+            found.append(made.choice(FENCES) + made.choice(("", "", " ", " c")))
         if made.random() < 0.3:
             found += ["", f"Author            Standards Track            [Page {page}]"]
             found += made.choice(([], [""], ["\f"])) + ["Rules of notes                      May 2001", "", ""]
             page += 1
+    for _ in range(made.choice((0, 0, 0, 1, 2))):
+        found.insert(made.randrange(len(found)), made.choice(TAGS))
+    if made.random() < 0.15:
+        found = [""] * made.choice((0, 1)) + ["%%%" + made.choice(("", " "))] + found
+        found.insert(made.randrange(1, len(found)), "%%%")
     end = made.choice(("\n", "\n", "\r\n"))
     mark = made.choice((b"", b"", b"", b"\xEF\xBB\xBF"))
     return mark + (end.join(found) + made.choice(("", end))).encode()

@@ -1,6 +1,7 @@
 #!/usr/bin/env python3
-"""What stands in the text of an RFC, worked out slowly and plainly: its lines without page furniture, and the blocks of
-ABNF among them; and the grammar that several texts make up. It shares nothing with the crates.
+"""What stands in the text of an RFC, worked out slowly and plainly: its lines without page furniture, with title
+blocks, blocks in other languages and long tags masked, and the rules of ABNF among them; and the grammar that several
+texts make up. It shares nothing with the crates.
 
 usage: slow_abnfx.py [TEXT ..]
 
@@ -73,6 +74,48 @@ def kept(all_lines):
         return is_mark(up) or is_head(up) or is_mark(down)
 
     return [it for place, it in enumerate(all_lines) if not is_furniture(place)]
+
+
+# A title block in front of a text in Markdown, and a fenced block: the next fence of its character that is not shorter,
+# and has nothing after it, closes it.
+TITLE = re.compile(rb"\A(?:[ \t\f]*\n)*(%%%[ \t\f]*\n(?:.*\n)*?%%%[ \t\f]*)$", re.M)
+FENCED = re.compile(rb"^ {0,3}(?:(`{3,}+)(?=[^`\n]*$)|(~{3,}+))(.*)\n(?:.*\n)*? {0,3}(?:\1`*|\2~*)[ \t]*$", re.M)
+# A tag that one line opens and a later one closes. A blank or a masked line ends the search.
+TAG = re.compile(rb"^[ \t]*<[A-Za-z?][^>\n]*\n(?:(?!<$|[ \t\f]*$)[^>\n]*\n)*[^>\n]*>.*$", re.M)
+READ_LANGUAGES = (b"", b"abnf", b"bnf", b"text", b"txt")
+
+
+def language(information):
+    """Returns the language that the information of a fence names, in small letters."""
+    bare = information.strip(MARGINS).lower()
+    if not bare.startswith(b"{"):
+        return re.split(rb"[ \t{]", bare, maxsplit=1)[0]
+    words = re.split(rb"[ \t]", bare[1:].partition(b"}")[0])
+    return next((it[1:] for it in words if it.startswith(b".")), b"")
+
+
+def text_of(rows):
+    return b"".join(row[1] + b"\n" for row in rows)
+
+
+def without(rows, spans):
+    """Returns the lines with those masked that have these bytes of their text."""
+    text, hidden = text_of(rows), set()
+    for start, end in spans:
+        hidden.update(range(text.count(b"\n", 0, start), text.count(b"\n", 0, end) + 1))
+    return [(row[0], b"<", "other") if place in hidden else row for place, row in enumerate(rows)]
+
+
+def masked(rows):
+    """Returns the lines with those masked in which no rule is looked for."""
+    text = text_of(rows)
+    title = TITLE.match(text)
+    spans = [title.span(1)] if title else []
+    for it in FENCED.finditer(text, title.end() + 1 if title else 0):
+        if language(it[3]) not in READ_LANGUAGES:
+            spans.append(it.span())
+    shown = without(rows, spans)
+    return without(shown, [it.span() for it in TAG.finditer(text_of(shown))])
 
 
 def margin(line):
@@ -172,7 +215,7 @@ def in_text(why, some):
 
 def found(name, text):
     """Returns for each line of a text that begins a rule the rule, or its number and the fault."""
-    rest, told = kept(lines(text)), []
+    rest, told = masked(kept(lines(text))), []
     for place, (number, line, _) in enumerate(rest):
         if opens(line):
             some = rest[place:place + size_of(rest[place:])]

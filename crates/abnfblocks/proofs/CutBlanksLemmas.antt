@@ -1,5 +1,5 @@
 -- Blank lines that end a list.
--- Serves: kept_lines
+-- Serves: read_lines
 use Rattle.std.proofs.Common.{◌≡◌, ℕ, ◌-◌, true, false, Bool, List, [], ◌∷◌, ◌++◌, length, take, reverse, refl}
 use Rattle.std.proofs.Common.{ap, ◌∙◌, ◌+◌, subst, arith, length-append, inl, inr}
 use Rattle.std.proofs.lemmas.Bool.{cases_Bool}

@@ -1,5 +1,5 @@
 -- A text is cut at the end of its first line.
--- Serves: kept_lines
+-- Serves: read_lines
 use Rattle.std.proofs.Common.{◌≡◌, ℕ, suc, ◌+◌, ◌-◌, ◌<◌, ◌≤◌, ◌==◌, ◌&&◌, not, Bool, true, false, List, [], ◌∷◌}
 use Rattle.std.proofs.Common.{length, take, drop, refl, ap, bytes_eq, codes, inl, inr, arith, ◌∙◌, sym, if◌then◌else◌}
 use Rattle.std.proofs.lemmas.Bool.{cases_Bool}

@@ -1,5 +1,5 @@
 -- Which lines are furniture, by what stands nearest to them.
--- Serves: kept_lines, one_keeping
+-- Serves: read_lines, one_masking
 use Rattle.std.proofs.Common.{◌≡◌, true, false, List, [], ◌∷◌, refl, sym, ap, ◌∙◌, inl, inr}
 use Rattle.std.proofs.lemmas.Bool.{cases_Bool}
 use Rattle.abnfblocks.specs.Furniture.{Nearest, first, over_blank, IsMark, feed, foot, IsDated, IsAtMark, IsAtHead}

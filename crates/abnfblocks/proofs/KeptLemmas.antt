@@ -1,5 +1,5 @@
 -- What the lines so far leave, and the lines that stay of those to come.
--- Serves: kept_lines
+-- Serves: read_lines
 use Rattle.std.proofs.Common.{◌≡◌, ℕ, Bool, true, false, ◌||◌, ◌&&◌, List, [], ◌∷◌, ◌++◌, refl, sym, ap, ◌∙◌}
 use Rattle.std.proofs.Common.{append_assoc, cond}
 use Rattle.abnfblocks.specs.Furniture.{kinds_of}

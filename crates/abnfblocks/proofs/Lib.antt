@@ -6,3 +6,5 @@ pub mod CutBlanksLemmas
 pub mod FurnitureLemmas
 pub mod KeptLemmas
 pub mod CutPartLemmas
+pub mod MaskedLinesLemmas
+pub mod OpenTagLemmas

@@ -1,4 +1,8 @@
+pub mod Fences
 pub mod FoundRules
+pub mod MaskSteps
+pub mod MaskedLines
+pub mod OpenTags
 pub mod RuleLines
 pub mod RuleCuts
 pub mod Furniture

@@ -7,7 +7,7 @@ ghost use Rattle.abnfblocks.specs.RuleLines.{begins_inner, begins_slash};
 ghost use Rattle.abnfblocks.specs.RuleLines.{begins_by as begins, begins_letter as letter_begins, behind_name};
 
 // Whether the byte belongs to a margin: a space or a tab.
-fn is_space(b: u8) -> bool
+pub(crate) fn is_space(b: u8) -> bool
     ensures { result ≡ is_margin b }
 {
     b == b' ' || b == b'\t'
@@ -55,7 +55,7 @@ fn name_size(text: &[u8]) -> usize
 }
 
 // Returns what follows the margin.
-fn after_margin(line: &[u8]) -> &[u8]
+pub(crate) fn after_margin(line: &[u8]) -> &[u8]
     ensures { result.now ≡ behind_margin line.now }
 {
     &line[margin(line)..]
@@ -69,7 +69,7 @@ fn after_name(text: &[u8]) -> &[u8]
 }
 
 // Whether the byte begins the text.
-fn begins_by(text: &[u8], byte: u8) -> bool
+pub(crate) fn begins_by(text: &[u8], byte: u8) -> bool
     ensures { result ≡ begins byte text.now }
 {
     match text.first() {
@@ -79,7 +79,7 @@ fn begins_by(text: &[u8], byte: u8) -> bool
 }
 
 // Whether a letter begins the text.
-fn begins_letter(text: &[u8]) -> bool
+pub(crate) fn begins_letter(text: &[u8]) -> bool
     ensures { result ≡ letter_begins text.now }
 {
     match text.first() {

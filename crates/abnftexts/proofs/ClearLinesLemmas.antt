@@ -1,13 +1,18 @@
 -- The lines that are kept of a text hold no LF, and those that look blank hold blanks alone.
 -- Serves: joined_reading
-use Rattle.std.proofs.Common.{◌≡◌, ℕ, ◌+◌, ◌==◌, ◌&&◌, Bool, true, false, nat_lt, List, [], ◌∷◌, drop, refl, inl, inr}
+use Rattle.std.proofs.Common.{◌≡◌, ℕ, zero, suc, ◌+◌, ◌==◌, ◌&&◌, Bool, true, false, nat_lt, List, [], ◌∷◌, ◌++◌}
+use Rattle.std.proofs.Common.{map, take, drop, refl, inl, inr, sym, subst}
 use Rattle.std.proofs.lemmas.Bool.{cases_Bool}
 use Rattle.std.specs.List.{list_all, prefix_len}
-use Rattle.abnfblocks.specs.Furniture.{KeepsLines, none_left, stays, goes}
+use Rattle.abnfblocks.specs.Fences.{title_size}
+use Rattle.abnfblocks.specs.Furniture.{KeepsLines, none_left as none_kept, stays, goes}
 use Rattle.abnfblocks.specs.KeptSteps.{is_blank_kind}
 use Rattle.abnfblocks.specs.LineKinds.{is_blank, is_blank_line, is_dated, is_feed, is_foot, kind_of}
+use Rattle.abnfblocks.specs.MaskedLines.{AreRead, MasksBlocks, MasksMarkdown, behind_blanks, hidden, masked_line}
+use Rattle.abnfblocks.specs.MaskedLines.{none_left, no_block, stays as stays_there}
+use Rattle.abnfblocks.specs.RuleCuts.{blanks_first}
 use Rattle.abnfblocks.specs.RuleLines.{begins_by}
-use Rattle.abnfblocks.specs.TextLines.{NumberedLine, line_in, line_parts, lines_from, text_lines, with_byte}
+use Rattle.abnfblocks.specs.TextLines.{NumberedLine, line_in, line_parts, lines_from, with_byte}
 use Rattle.abnfblocks.specs.declared.rfctext.line_kind.LineKind.{LineKind}
 use Rattle.abnfread.specs.AbnfSlices.{is_inside}
 use Rattle.abnftexts.proofs.EachLemmas.{Each, each_none, each_next, each-drop}
@@ -81,10 +86,44 @@ lines-clear number (part ∷ parts) (each_next h k) =
 
 keeps-clear : {before : List LineKind} {lines kept : List NumberedLine} → KeepsLines before lines kept
     → Each IsClear lines → Each IsClear kept
-keeps-clear none_left h = h
+keeps-clear none_kept h = h
 keeps-clear (stays n k) (each_next p h) = each_next p (keeps-clear k h)
 keeps-clear (goes f k) (each_next p h) = keeps-clear k h
 
-pub kept-clear : (bytes : List ℕ) {kept : List NumberedLine} → KeepsLines [] (text_lines bytes) kept
-    → Each IsClear kept
-kept-clear bytes k = keeps-clear k (lines-clear 1 (line_parts bytes) (parts-inside bytes))
+masked-clear : (line : NumberedLine) → IsClear (masked_line line)
+masked-clear line = record { inside = each_next refl each_none; blank = λ e. cc }
+
+all-masked : (lines : List NumberedLine) → Each IsClear (map masked_line lines)
+all-masked [] = each_none
+all-masked (line ∷ lines) = each_next (masked-clear line) (all-masked lines)
+
+both-clear : {a b : List NumberedLine} → Each IsClear a → Each IsClear b → Each IsClear (a ++ b)
+both-clear each_none k = k
+both-clear (each_next p h) k = each_next p (both-clear h k)
+
+first-clear : (n : ℕ) {lines : List NumberedLine} → Each IsClear lines → Each IsClear (take n lines)
+first-clear zero h = each_none
+first-clear (suc n) each_none = each_none
+first-clear (suc n) (each_next p h) = each_next p (first-clear n h)
+
+blocks-clear : {size : List NumberedLine → ℕ} {hides : NumberedLine → Bool} {lines masked : List NumberedLine}
+    → MasksBlocks size hides lines masked → Each IsClear lines → Each IsClear masked
+blocks-clear none_left h = h
+blocks-clear (no_block e k) (each_next p h) = each_next p (blocks-clear k h)
+blocks-clear (stays_there {n} e f k) (each_next p h) =
+    both-clear (each_next p (first-clear n h)) (blocks-clear k (each-drop n h))
+blocks-clear (hidden {n} {line} {lines} e f k) (each_next p h) =
+    both-clear (each_next (masked-clear line) (all-masked (take n lines))) (blocks-clear k (each-drop n h))
+
+markdown-clear : {lines masked : List NumberedLine} → MasksMarkdown lines masked → Each IsClear lines
+    → Each IsClear masked
+markdown-clear {lines} m h =
+    let n = blanks_first lines in
+    let bare = behind_blanks lines in
+    subst (Each IsClear) (sym m.is) (both-clear (first-clear n h) (both-clear
+    (all-masked (take (title_size bare) bare)) (blocks-clear m.blocks (each-drop (title_size bare) (each-drop n h)))))
+
+pub kept-clear : (bytes : List ℕ) {lines : List NumberedLine} → AreRead bytes lines → Each IsClear lines
+kept-clear bytes r =
+    blocks-clear r.tags (markdown-clear r.masks
+    (keeps-clear r.keeps (lines-clear 1 (line_parts bytes) (parts-inside bytes))))

@@ -14,7 +14,7 @@ use Rattle.ruletable.specs.declared.fault.ReadFault.TheVariants as faults
 use Rattle.abnfread.specs.AbnfReading.{IsFaultOf, Reads}
 use Rattle.abnfread.specs.Element.{Definition}
 use Rattle.abnftexts.specs.GivenRules.{RuleGiven}
-use Rattle.abnfblocks.specs.Furniture.{KeepsLines}
+use Rattle.abnfblocks.specs.MaskedLines.{AreRead}
 use Rattle.abnfblocks.specs.TextLines.{NumberedLine}
 use Rattle.abnfblocks.specs.FoundRules.{AreFound}
 use Rattle.abnfblocks.specs.RuleCuts.{lines_text}
@@ -28,14 +28,14 @@ use Rattle.abnftexts.specs.UsedNames.{AreRuleUses, AreNameUses, UsedName, next_u
 both-same : (a b c d : RulesGathered) → a ≡ b → c ≡ d → both_given a c ≡ both_given b d
 both-same a b c d e f = rw (e, f) refl
 
--- what is known of readings, of lines that are kept, of what is found, and of tokens
+-- what is known of readings, of lines that are read, of what is found, and of tokens
 pub record OneReading : Type 0 where
   pub definitions : (text : List ℕ) (a b : List Definition) → Reads text a → Reads text b → a ≡ b
   pub no_fault : (text : List ℕ) (definitions : List Definition) (fault : ReadFault) → IsFaultOf text fault
       → fault ≢ faults.Memory → Reads text definitions → ⊥
   pub one_fault : (text : List ℕ) (a b : ReadFault) → IsFaultOf text a → IsFaultOf text b → a ≢ faults.Memory
       → b ≢ faults.Memory → a ≡ b
-  pub kept : (lines a b : List NumberedLine) → KeepsLines [] lines a → KeepsLines [] lines b → a ≡ b
+  pub kept : (text : List ℕ) (a b : List NumberedLine) → AreRead text a → AreRead text b → a ≡ b
   pub found : (i : ℕ) (lines : List NumberedLine) (a b : List Found) → AreFound i lines a → AreFound i lines b → a ≡ b
   pub tokens : (text : List ℕ) (a b : List (Tok AbnfKind)) → AreTokens text a → AreTokens text b → a ≡ b
 

@@ -2,9 +2,9 @@
 use Rattle.std.specs.Prelude.{◌≡◌, ℕ, List, [], ◌∷◌, take}
 use Rattle.abnfread.specs.AbnfReading.{Reads}
 use Rattle.abnfread.specs.Element.{Definition}
-use Rattle.abnfblocks.specs.Furniture.{KeepsLines}
+use Rattle.abnfblocks.specs.MaskedLines.{AreRead}
 use Rattle.abnfblocks.specs.FoundRules.{AreFound}
-use Rattle.abnfblocks.specs.TextLines.{NumberedLine, text_lines}
+use Rattle.abnfblocks.specs.TextLines.{NumberedLine}
 use Rattle.abnfblocks.specs.RuleCuts.{lines_text, margin_at}
 use Rattle.abnfblocks.specs.declared.found.Found.{Found}
 use Rattle.abnftexts.specs.RulesGathered.{RulesGathered, both_given, one_rule}
@@ -20,8 +20,8 @@ TakesRule name rest count old new = (d : Definition)
     → Reads (lines_text (margin_at (take count rest)) (take count rest)) (d ∷ [])
     → new ≡ both_given old (one_rule (place_in name rest count) (given_by d))
 
--- where the lines are kept of a text and that is found, what these give stands there
+-- where the lines are read of a text and that is found, what these give stands there
 abbrev pub TakesFound : List ℕ → List NumberedLine → List Found → RulesGathered → RulesGathered → Type 0
 TakesFound name kept found old new =
-    (text : List ℕ) → KeepsLines [] (text_lines text) kept → AreFound 0 kept found
+    (text : List ℕ) → AreRead text kept → AreFound 0 kept found
     → TakesMore (GivesFound name kept found) old new

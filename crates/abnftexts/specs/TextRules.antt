@@ -6,8 +6,8 @@ use Rattle.abnfread.specs.AbnfTable.{first_body}
 use Rattle.abnfread.specs.CoreRules.{core_list}
 use Rattle.abnfread.specs.Element.{Definition, body_of}
 use Rattle.abnftexts.specs.GivenRules.{RuleGiven}
-use Rattle.abnfblocks.specs.Furniture.{KeepsLines}
-use Rattle.abnfblocks.specs.TextLines.{NumberedLine, behind_mark, text_lines}
+use Rattle.abnfblocks.specs.MaskedLines.{AreRead}
+use Rattle.abnfblocks.specs.TextLines.{NumberedLine, behind_mark}
 use Rattle.abnfblocks.specs.FoundRules.{AreFound}
 use Rattle.abnfblocks.specs.RuleCuts.{blanks_first, lines_text, margin_at}
 use Rattle.abnfblocks.specs.declared.found.Found.{Found}
@@ -36,7 +36,7 @@ place_in name rest count = record {
   blanks = blanks_first (drop count rest);
 }
 
--- What is found in a text of which these lines are kept gives that: each rule what its lines alone spell, and each line
+-- What is found in a text of which these lines are read gives that: each rule what its lines alone spell, and each line
 -- that begins no ABNF a report.
 pub data GivesFound (name : List ℕ) (kept : List NumberedLine) : List Found → RulesGathered → Type 0 where
   none_found : GivesFound name kept [] none_given
@@ -53,7 +53,7 @@ pub data GivesFound (name : List ℕ) (kept : List NumberedLine) : List Found �
 -- what a text gives
 pub record GivesText (text : NamedText) (given : RulesGathered) : Type 0 where
   pub kept : List NumberedLine
-  pub keeps : KeepsLines [] (text_lines (behind_mark text.bytes)) kept
+  pub keeps : AreRead (behind_mark text.bytes) kept
   pub all_found : List Found
   pub are_found : AreFound 0 kept all_found
   pub gives : GivesFound text.name kept all_found given

@@ -12,7 +12,7 @@ ghost use Rattle.toolrun.specs.Input.{Input};
 ghost use Rattle.toolrun.specs.Reply.{Reply};
 
 use crate::run::JoinForm;
-use abnfblocks::{one_finding, one_keeping};
+use abnfblocks::{one_finding, one_masking};
 use abnfread::{AbnfKind, one_reading};
 use lexer::one_list;
 use ruletable::ReadFault;
@@ -27,7 +27,7 @@ pub fn one_joining()
         → (notes ≡ others) × (a ≡ b) }
 {
     one_reading();
-    one_keeping();
+    one_masking();
     one_finding();
     one_list::<AbnfKind>();
 }

@@ -11,7 +11,7 @@ use crate::gathered::{Gathered, RulePlace, SourceText};
 use crate::join::GivenRule;
 use crate::own::own_rule;
 use crate::told::push_not_abnf;
-use abnfblocks::{Found, TextLine, blank_count, find_rules, kept_lines, margin, without_mark};
+use abnfblocks::{Found, TextLine, blank_count, find_rules, margin, read_lines, without_mark};
 use ruletable::Memory;
 use std::alloc::Global;
 
@@ -127,7 +127,7 @@ fn take_text<'a>(
     ensures { OnOk result (TakesMore (GivesText (named_text text.entry))
         (rules_gathered gathered.old) (rules_gathered gathered.new)) }
 {
-    let kept = kept_lines(alloc, without_mark(text.bytes))?;
+    let kept = read_lines(alloc, without_mark(text.bytes))?;
     let found = find_rules(alloc, &kept)?;
     take_found(alloc, gathered, text.name, &kept, &found)
 }

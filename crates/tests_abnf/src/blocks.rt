@@ -1,13 +1,13 @@
 //! Lines and rules of RFCs.
 
-use abnfblocks::{Found, LineKind, blank_count, find_rules, is_blank, kept_lines, without_mark};
+use abnfblocks::{Found, LineKind, blank_count, find_rules, is_blank, read_lines, without_mark};
 use ruletable::{SinkOf, write_fault};
 use std::alloc::Global;
 use testio::{Fields, Text};
 
-/// `kept_lines TEXT`: the numbers of the lines that are no page furniture.
-pub(crate) fn kept_lines_of(alloc: Global, fields: &Fields, out: &mut Text) -> Option<()> {
-    for line in &kept_lines(alloc, fields.text(0)).ok()? {
+/// `read_lines TEXT`: the numbers of the lines that are no page furniture.
+pub(crate) fn read_lines_of(alloc: Global, fields: &Fields, out: &mut Text) -> Option<()> {
+    for line in &read_lines(alloc, fields.text(0)).ok()? {
         out.add_number(line.number as u128);
         out.add(b";");
     }
@@ -42,7 +42,7 @@ fn add_found(alloc: Global, found: &Found, out: &mut Text) -> Option<()> {
 
 /// `rules TEXT`: what is found among the lines of a text.
 pub(crate) fn rules_of(alloc: Global, fields: &Fields, out: &mut Text) -> Option<()> {
-    let lines = kept_lines(alloc, fields.text(0)).ok()?;
+    let lines = read_lines(alloc, fields.text(0)).ok()?;
     for found in &find_rules(alloc, &lines).ok()? {
         add_found(alloc, found, out)?;
     }
@@ -54,7 +54,7 @@ pub(crate) fn front_of(alloc: Global, fields: &Fields, out: &mut Text) -> Option
     let text = without_mark(fields.text(0));
     out.add_number(text.len() as u128);
     out.add(b";");
-    out.add_number(blank_count(&kept_lines(alloc, text).ok()?) as u128);
+    out.add_number(blank_count(&read_lines(alloc, text).ok()?) as u128);
     Some(())
 }
 

@@ -34,7 +34,7 @@ impl Calls for AbnfCalls {
             }
             "lines" => lines::lines_of(alloc, fields, out),
             "rooms" => rooms::agree(alloc, fields, out),
-            "kept_lines" => blocks::kept_lines_of(alloc, fields, out),
+            "read_lines" => blocks::read_lines_of(alloc, fields, out),
             "rules" => blocks::rules_of(alloc, fields, out),
             "front" => blocks::front_of(alloc, fields, out),
             "blank" => Some(blocks::are_blank(out)),

@@ -1,9 +1,9 @@
 //! The lines that are no furniture.
-ghost use Rattle.std.specs.Prelude.{◌≡◌, ◌+◌, ◌<◌, [], ◌∷◌, List, map, IfOk, OnOk, length};
+ghost use Rattle.std.specs.Prelude.{◌≡◌, ◌+◌, ◌<◌, [], ◌∷◌, map, IfOk, OnOk, length};
 ghost use Rattle.std.specs.List.{suffix_len};
 ghost use Rattle.abnfblocks.specs.Furniture.{KeepsLines};
 ghost use Rattle.abnfblocks.specs.KeptSteps.{is_blank_kind, cut_blanks, after_line};
-ghost use Rattle.abnfblocks.specs.TextLines.{NumberedLine, behind_mark, numbered, text_lines, line_parts};
+ghost use Rattle.abnfblocks.specs.TextLines.{behind_mark, numbered, text_lines, line_parts};
 
 use crate::rfctext::before::Before;
 use crate::rfctext::text_line::{TextLine, before_cr, part_size};
@@ -85,15 +85,8 @@ pub fn without_mark(text: &[u8]) -> &[u8]
     }
 }
 
-/// Returns the lines of a text without page furniture, in order. LF or CR LF ends a line; the last line may lack it.
-/// A CR that no LF follows belongs to its line. Form feeds that begin a line belong to none.
-///
-/// Furniture are form feeds, the feet of pages, which end with `[Page N]`, the heads after a form feed or a foot,
-/// which are not indented and end with a year, and the blank lines round them. A text without pages keeps all lines.
-///
-/// # Errors
-/// `Memory` if an allocation fails.
-pub fn kept_lines(alloc: Global, text: &[u8]) -> Result<Vec<TextLine<'_>>, Memory>
+// Returns the lines of a text without page furniture, in order.
+pub(crate) fn kept_lines(alloc: Global, text: &[u8]) -> Result<Vec<TextLine<'_>>, Memory>
     ensures { IfOk result (λ kept. KeepsLines [] (text_lines text.now) (map numbered kept.items)) }
 {
     let mut kept = Vec::new(alloc);
@@ -110,8 +103,3 @@ pub fn kept_lines(alloc: Global, text: &[u8]) -> Result<Vec<TextLine<'_>>, Memor
     }
     Ok(kept)
 }
-
-/// Says that at most one list of lines is left without the furniture.
-pub fn one_keeping()
-    ensures { (lines a b : List NumberedLine) → KeepsLines [] lines a → KeepsLines [] lines b → a ≡ b }
-{}

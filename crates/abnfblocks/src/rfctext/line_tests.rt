@@ -72,7 +72,7 @@ fn count_digits(line: &[u8]) -> usize
 }
 
 // The line without the blanks that end it.
-fn without_blanks(line: &[u8]) -> &[u8]
+pub(crate) fn without_blanks(line: &[u8]) -> &[u8]
     ensures { result.now ≡ bare_end line.now }
 {
     &line[..line.len() - count_blanks(line)]

@@ -8,7 +8,7 @@ returns-clause-joined c = λ texts a b x y.
       definitions = c.one_reading.ensures.definitions;
       no_fault = c.one_reading.ensures.no_fault;
       one_fault = c.one_reading.ensures.one_fault;
-      kept = c.one_keeping.ensures;
+      kept = c.one_masking.ensures;
       found = c.one_finding.ensures.one;
       tokens = c.one_list.ensures;
     } in
@@ -20,7 +20,7 @@ returns-clause-stated c = λ texts form input notes others a b x y p q.
       definitions = c.one_reading.ensures.definitions;
       no_fault = c.one_reading.ensures.no_fault;
       one_fault = c.one_reading.ensures.one_fault;
-      kept = c.one_keeping.ensures;
+      kept = c.one_masking.ensures;
       found = c.one_finding.ensures.one;
       tokens = c.one_list.ensures;
     } in

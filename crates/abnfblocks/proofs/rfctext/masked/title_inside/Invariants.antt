@@ -1,0 +1,13 @@
+use Rattle.std.proofs.Common.{◌≡◌, ◌+◌, ◌-◌, ◌≤◌, length, map, drop}
+use Rattle.abnfblocks.specs.Fences.{inside_title}
+use Rattle.abnfblocks.specs.TextLines.{numbered}
+use Rattle.abnfblocks.proofs.rfctext.masked.title_inside.Given as goal
+
+abbrev pub invariant-loop-count : goal.invariant-loop-count
+invariant-loop-count l = record {
+  within : l.count ≤ length l.lines;
+  same : l.count + inside_title (drop l.count (map numbered l.lines)) ≡ inside_title (map numbered l.lines);
+}
+
+abbrev pub decreases-loop-count : goal.decreases-loop-count
+decreases-loop-count l = length l.lines - l.count
