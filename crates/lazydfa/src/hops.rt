@@ -107,8 +107,8 @@ fn end_word(state: &State) -> u32
     if state.ended { 1 } else { 0 }
 }
 
-/// Keeps that a class leads from a state to another, and whether that has ended, if the place of its row is below
-/// 2 ^ 32. `Memory` if an allocation fails.
+/// Keeps that a class leads from a state to another, and whether that has ended, if that is not known and the place of
+/// its row is below 2 ^ 32. `Memory` if an allocation fails.
 pub(crate) fn note_hop(
     cache: &Cache,
     classes: usize,
@@ -129,6 +129,10 @@ pub(crate) fn note_hop(
     let (Some(at), Some(row)) = (spot(state, stride, class), spot(to, stride, 0)) else {
         return Ok(());
     };
+    match hops.get(at) {
+        Some(known) if *known < PLACES => return Ok(()),
+        _ => {}
+    }
     let (Ok(word), Some(last)) = (u32::try_from(row), row.checked_add(classes)) else {
         return Ok(());
     };
