@@ -159,9 +159,10 @@ def test_names_lead_to_their_rules(page):
 
 def test_a_link_has_all_of_it(page, server):
     choose(page, "cut", "whole")
-    put(page, "grammar", 'a = "x"\nb = "\u00e9+/~"\n')
+    put(page, "grammar", 'a = "x"\nb = "+/~" ; \u00e9\n')
     put(page, "input", "x\n\u20ac")
-    wait(page, lambda: [it.text for it in page.find_elements(By.CSS_SELECTOR, "#rule option")][1:] == ["a", "b"])
+    rules = "return [...document.querySelectorAll('#rule option')].slice(1).map((it) => it.text)"
+    wait(page, lambda: page.execute_script(rules) == ["a", "b"])
     choose(page, "rule", "b")
     page.find_element(By.ID, "link").click()
     made = page.current_url
@@ -170,7 +171,7 @@ def test_a_link_has_all_of_it(page, server):
     page.get("about:blank")
     page.get(made)
     shown = "return [...arguments].map((id) => document.querySelector(`#${id} .CodeMirror`).CodeMirror.getValue())"
-    assert page.execute_script(shown, "grammar", "input") == ['a = "x"\nb = "\u00e9+/~"\n', "x\n\u20ac"]
+    assert page.execute_script(shown, "grammar", "input") == ['a = "x"\nb = "+/~" ; \u00e9\n', "x\n\u20ac"]
     chosen = "return [...arguments].map((id) => document.getElementById(id).value)"
     fields = ["kind", "rule", "cut", "letters", "ends"]
     assert page.execute_script(chosen, *fields) == ["abnf", "b", "whole", "bytes", "lf"]
