@@ -9,7 +9,7 @@ ghost use Rattle.abnfcheck.specs.NameChains.{AreNameChains, IsNameChain, names_a
 
 use crate::name_ids::name_ids;
 use abnfread::Elem;
-use fixpoint::{Chains, chains_from, one_chain, slices};
+use fixpoint::{Chains, chains_from, slices};
 use ruletable::{Memory, NameCase, RuleTable};
 use std::alloc::Global;
 
@@ -85,6 +85,4 @@ impl NameChains {
 pub fn one_name_chain()
     ensures { (rules : List Rule) (given : Option (List ℕ)) (name : List ℕ) (a b : Option (List (List ℕ)))
         → IsNameChain rules given name a → IsNameChain rules given name b → a ≡ b }
-{
-    one_chain();
-}
+{}
