@@ -166,7 +166,7 @@ fn write_joined<O: Sink>(
 /// - Where no text gives a rule nothing is written, `NoMatch`.
 /// - A list of rules is written as it is, with the status of a grammar that is written.
 /// - Where a writer fails, nothing more is written to it, and the status is at least `Fault`. Writers that have not
-///   failed are flushed once at the end, `out` first.
+///   failed are flushed at the end, `out` first; no clause sees a flush.
 /// - If an allocation fails: `out of memory`, `NoMemory`.
 pub fn run_join<O: Sink, E: Sink>(
     alloc: Global,

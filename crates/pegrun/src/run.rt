@@ -39,7 +39,7 @@ use toolrun::{Status, run_tool};
 /// - Where a writer fails, nothing more is written to it, and the status is at least `Fault`. A fault of `out` is
 ///   reported by `write error` on `err`: right after the notes, or after all else where the flush of `out` failed.
 ///   Where `err` fails in the notes, nothing is read, and nothing is written on `out`. Writers that have not failed are
-///   flushed once at the end, `out` first.
+///   flushed at the end, `out` first; no clause sees a flush.
 /// - If an allocation fails, the text of the units before stands whole: `out of memory`, `NoMemory`. If it fails in an
 ///   explanation, the line of the fault or of the stop comes before that, without its explanation; or the first notes
 ///   do, the last perhaps without its own.

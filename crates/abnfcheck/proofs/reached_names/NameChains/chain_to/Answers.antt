@@ -25,5 +25,5 @@ returns c = λ rules given are.
     let names = c.args.self.now.names in
     let place = sym (found_folded names c.args.name.now are.folds) ∙ (sym c.in_ok-id.ensures.found ∙ c.in-Some.is) in
     chain_by_rows rules given c.args.name.now (names_of names) are.rows are.judged _ are.graph
-    (chain_of_id rules given (names_of names) are.rows are.judged c.in-Some.id _ c.in_ok-chain_to.field-0 are.graph place
-    (c.in_ok-chain_to.ensures are.rows are.judged (rw c.in-Some-chains.is at are.chains)))
+    (chain_of_id rules given (names_of names) are.rows are.judged c.in-Some.id _ c.in_ok-chain_to.field-0 are.graph
+    place (c.in_ok-chain_to.ensures are.rows are.judged (rw c.in-Some-chains.is at are.chains)))
