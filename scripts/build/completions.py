@@ -200,7 +200,7 @@ _@NAME@_rules() {
 
 _arguments -s \
 @OPTIONS@
-    '1:grammar:_files'
+    '1:grammar:_files' '2:input:_files'
 """
 
 FISH = r"""# Completes the command line of @NAME@ in fish. scripts/build/completions.py wrote this file.

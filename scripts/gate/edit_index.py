@@ -39,6 +39,8 @@ EXEMPT = (
     "flatgrammar: Flat.share",
     # Its equation stands behind a premise, and `requires` says that something meets the premise.
     "pegmatch: writing.write_event", "matchfailure: TextPlace.behind",
+    # It passes on what the reader inside gives.
+    "cli: Input.read",
     # It passes on what `KeyLog::get` finds.
     "packrat: Packrat.found",
     # It passes on what `diagnostics::explain_note` returns, whose clause equates.

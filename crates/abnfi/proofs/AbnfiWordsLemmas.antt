@@ -50,16 +50,16 @@ options_are m options by read =
     record {
       letters = read.letters ∙ ap alphabet_named (first_found f (rows_of f) refl (codes "letters"));
       viable = flag_found f (rows_of f) refl (codes "viable") options.viable
-          (flag_is c app.top.rules is m by.4 d 7 (codes "viable") 119
+          (flag_is c app.top.rules is m by.4 d 8 (codes "viable") 119
           (record { named = λ n. cc; help = refl; version = refl })
           (record { within = omega arith; at = λ q. refl; only = refl })) read.viable;
       nul = flag_found f (rows_of f) refl (codes "null-data") options.nul
-          (flag_is c app.top.rules is m by.4 d 8 (codes "null-data") 122
+          (flag_is c app.top.rules is m by.4 d 9 (codes "null-data") 122
           (record { named = λ n. cc; help = refl; version = refl })
           (record { within = omega arith; at = λ q. refl; only = refl })) read.nul;
       printed = read.printed ∙ ap printed_named (first_found f (rows_of f) refl (codes "print"));
       numbered = flag_found f (rows_of f) refl (codes "line-number") options.numbered
-          (flag_is c app.top.rules is m by.4 d 10 (codes "line-number") 110
+          (flag_is c app.top.rules is m by.4 d 11 (codes "line-number") 110
           (record { named = λ n. cc; help = refl; version = refl })
           (record { within = omega arith; at = λ q. refl; only = refl })) read.numbered;
     }

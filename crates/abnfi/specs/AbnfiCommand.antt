@@ -60,7 +60,7 @@ print_rule names = record (new_rule (codes "print")) {
 abbrev pub number_rule : Rule
 number_rule = flag_rule (codes "line-number") (code "n")
 
--- `abnfi [-m MODE] [-l N] [-s RULE] [-u MODE] [-p WHAT] [-n] [-w] [-z] [-x] GRAMMAR`
+-- `abnfi [-m MODE] [-l N] [-s RULE] [-u MODE] [-p WHAT] [-n] [-w] [-z] [-x] GRAMMAR [FILE]`
 abbrev pub abnfi_app : Names → Names → Names → App
 abnfi_app names alphabets printed =
     with_rule (with_rule (with_rule (with_rule (with_rule (tool_app names (codes "abnfi"))

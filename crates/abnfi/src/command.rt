@@ -21,12 +21,13 @@ static PRINTED: [&str; 5] = ["answers", "derived", "refused", "count", "none"];
 
 /// The text of the help.
 const HELP: &str =
-    "Judge each line of standard input by an ABNF grammar (RFC 5234, RFC 7405): yes or no
+    "Judge each line of a file or standard input by an ABNF grammar (RFC 5234, RFC 7405): yes or no
 
-Usage: abnfi [OPTIONS] <GRAMMAR>
+Usage: abnfi [OPTIONS] <GRAMMAR> [FILE]
 
 Arguments:
   <GRAMMAR>  The file of the grammar, at most 1048576 bytes
+  [FILE]     The file of the input [default: standard input]
 
 Grammar:
   -m, --mode <MODE>  Choose what to do with the grammar [default: run] [possible values: run, check, print]
@@ -52,11 +53,11 @@ Exit status:
   1  some line is no
   2  the grammar or the arguments are refused
   3  a line is longer than N bytes
-  4  a read or write error, or the grammar cannot be read
+  4  a read or write error, or a file cannot be read
   5  out of memory
 
 Example:
-  abnfi date.abnf < dates.txt";
+  abnfi date.abnf dates.txt";
 
 fn letters_arg<'a>(alloc: Global) -> Arg<'a>
     ensures rule { (names : _) × AreAlphabets names × (rule_of result ≡ letters_rule names) }
@@ -101,7 +102,7 @@ fn printed_of(matches: &ArgMatches<'_>) -> Printed
     }
 }
 
-/// The program `abnfi [-m MODE] [-l N] [-s RULE] [-u MODE] [-p WHAT] [-n] [-w] [-z] [-x] GRAMMAR`.
+/// The program `abnfi [-m MODE] [-l N] [-s RULE] [-u MODE] [-p WHAT] [-n] [-w] [-z] [-x] GRAMMAR [FILE]`.
 pub(crate) struct Abnfi;
 
 impl Program for Abnfi {

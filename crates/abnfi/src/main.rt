@@ -1,4 +1,4 @@
-//! Judges the lines of its standard input by an ABNF grammar.
+//! Judges the lines of a file or of its standard input by an ABNF grammar.
 #![tactic(auto)]
 
 mod command;
@@ -6,9 +6,7 @@ mod run;
 
 use crate::command::Abnfi;
 use crate::run::abnfi_main;
-use cli::{Program, end_without_memory, start_program};
-use feed::SourceOf;
-use std::io::BufReader;
+use cli::{Program, open_source, start_program};
 use std::process::ExitCode;
 
 fn main(rt: HostRuntime) -> ExitCode {
@@ -17,13 +15,15 @@ fn main(rt: HostRuntime) -> ExitCode {
         rt.stdout(),
         rt.stderr(),
         |alloc| Abnfi::command(alloc),
-        |words, out, err| {
-            // without a buffer each line would cost a system call
-            let Ok(ahead) = BufReader::new(rt.alloc(), rt.stdin()) else {
-                return end_without_memory(&rt);
-            };
-            let mut reader = SourceOf::new(ahead);
-            ExitCode::from(abnfi_main(&rt, words, &mut reader, out, err).code())
+        |words, out, err| match open_source::<Abnfi, HostRuntime, _, _, _>(
+            &rt,
+            words,
+            rt.stdin(),
+            out,
+            err,
+        ) {
+            Ok(mut reader) => ExitCode::from(abnfi_main(&rt, words, &mut reader, out, err).code()),
+            Err(status) => ExitCode::from(status.code()),
         },
     )
 }

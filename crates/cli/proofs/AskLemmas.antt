@@ -31,8 +31,8 @@ pub words_ask : {O : Type 0} (Asks : List Row → O → Type 0) (f : Found) (row
     → IsFlagOf (one_text f (codes "explain")) a.settings.explain
     → Asks (rows_of f) a.settings.options
     → option_map (λ s. s.now) path ≡ first_value f (codes "grammar") → path ≡ Some a.path
-    → Ask Asks rows a
-words_ask Asks f rows e whole a path mode limit start explain options word is =
+    → option_map (λ s. s.now) a.file ≡ first_value f (codes "file") → Ask Asks rows a
+words_ask Asks f rows e whole a path mode limit start explain options word is file =
     let w = whole.limit in
     let number = subst (λ o. IsLimitOf o a.settings.limit) w.1 limit in
     record {
@@ -43,4 +43,5 @@ words_ask Asks f rows e whole a path mode limit start explain options word is =
       options = subst (λ r. Asks r a.settings.options) e options;
       grammar = sym (first_found f rows e (codes "grammar"))
           ∙ (sym word ∙ ap (option_map (λ (s : Bor Text). s.now)) is);
+      file = file ∙ first_found f rows e (codes "file");
     }

@@ -56,3 +56,4 @@ pub record Ask {O : Type 0} (Asks : List Row → O → Type 0) (rows : List Row)
   pub explain : asked.settings.explain ≡ is_flagged (one_of (codes "explain") rows)
   pub options : Asks rows asked.settings.options
   pub grammar : first_of (codes "grammar") rows ≡ Some asked.path.now
+  pub file : option_map (λ s. s.now) asked.file ≡ first_of (codes "file") rows

@@ -55,9 +55,13 @@ flag_rule id letter = record (new_rule id) {
   parser = Some vp.Bool;
 }
 
--- the one word that is no option
+-- the first word that is no option
 abbrev pub grammar_rule : Rule
 grammar_rule = record (new_rule (codes "grammar")) { value_names = 1; action = Some Set; required = true }
+
+-- the word after it, where there is one
+abbrev pub file_rule : Rule
+file_rule = record (new_rule (codes "file")) { value_names = 1; action = Some Set }
 
 -- `--version`, which has no letter
 abbrev pub version_rule : Rule
@@ -74,8 +78,8 @@ program_app name = record {
   subs = [];
 }
 
--- the command that both tools have, its modes under these names: `[-m MODE] [-l N] [-s RULE] [-x] GRAMMAR`
+-- the command that both tools have, its modes under these names: `[-m MODE] [-l N] [-s RULE] [-x] GRAMMAR [FILE]`
 abbrev pub tool_app : Names → Text → App
 tool_app names name =
-    with_rule (with_rule (with_rule (with_rule (with_rule (program_app name) (long_named (mode_rule names)))
-    (long_named limit_rule)) (long_named rule_rule)) (flag_rule (codes "explain") (code "x"))) grammar_rule
+    with_rule (with_rule (with_rule (with_rule (with_rule (with_rule (program_app name) (long_named (mode_rule names)))
+    (long_named limit_rule)) (long_named rule_rule)) (flag_rule (codes "explain") (code "x"))) grammar_rule) file_rule

@@ -1,4 +1,5 @@
 pub mod Asked
 pub mod Command
+pub mod Inputs
 pub mod Jobs
 pub mod Parsing

@@ -1,8 +1,8 @@
 //! The commands of the programs: the options that both tools have, and those that a program adds.
 ghost use Rattle.std.specs.Prelude.{◌≡◌, IfOk, false};
 ghost use Rattle.clap.specs.Words.{app_of, rule_of, with_rule};
-ghost use Rattle.cli.specs.Command.{AreModes, flag_rule, grammar_rule, limit_rule, long_named, mode_rule};
-ghost use Rattle.cli.specs.Command.{program_app, tool_app};
+ghost use Rattle.cli.specs.Command.{AreModes, file_rule, flag_rule, grammar_rule, limit_rule, long_named};
+ghost use Rattle.cli.specs.Command.{mode_rule, program_app, tool_app};
 
 use clap::{Arg, ArgAction, Command, value_parser};
 use std::alloc::{AllocError, Global};
@@ -44,6 +44,15 @@ fn grammar_arg<'a>(alloc: Global) -> Arg<'a>
         .value_name("GRAMMAR")
         .action(ArgAction::Set)
         .required(true)
+}
+
+fn file_arg<'a>(alloc: Global) -> Arg<'a>
+    ensures rule { rule_of result ≡ file_rule }
+    ensures local { result.global ≡ false }
+{
+    Arg::new(alloc, "file")
+        .value_name("FILE")
+        .action(ArgAction::Set)
 }
 
 /// Adds an option that has its id as a long name too. `AllocError` if an allocation fails.
@@ -94,8 +103,8 @@ pub fn program_command<'a>(
         .arg(version)
 }
 
-/// Returns the command that both tools have: `[-m MODE] [-l N] [-s RULE] [-x] GRAMMAR`. `AllocError` if an allocation
-/// fails.
+/// Returns the command that both tools have: `[-m MODE] [-l N] [-s RULE] [-x] GRAMMAR [FILE]`. `AllocError` if an
+/// allocation fails.
 pub fn tool_command<'a>(
     alloc: Global,
     name: &'a str,
@@ -110,5 +119,6 @@ pub fn tool_command<'a>(
     let rule = Arg::new(alloc, "rule").short('s').value_name("RULE");
     let command = add_option(command, rule)?;
     let command = add_flag(command, alloc, "explain", 'x')?;
-    command.arg(grammar_arg(alloc))
+    let command = command.arg(grammar_arg(alloc))?;
+    command.arg(file_arg(alloc))
 }

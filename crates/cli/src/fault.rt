@@ -1,6 +1,8 @@
 //! The end of a program whose words were not parsed.
 ghost use Rattle.std.specs.Prelude.{◌≡◌, ◌∷◌, [], IfOk, false};
 ghost use Rattle.clap.specs.Words.{kind_of};
+ghost use Rattle.clap.specs.declared.error.kind.ErrorKind.{ErrorKind as Kind};
+ghost use Rattle.cli.specs.Inputs.{InputlessStates};
 ghost use Rattle.cli.specs.Jobs.{TellsOf};
 ghost use Rattle.cli.specs.Parsing.{IsTextAlone, WordsState};
 ghost use Rattle.toolrun.specs.Plan.{IsToldAnd};
@@ -8,6 +10,7 @@ ghost use Rattle.toolrun.specs.Right.{Comes};
 ghost use Rattle.toolrun.specs.Status.{code_of};
 ghost use Rattle.toolrun.specs.Stream.{no_input, passed};
 
+use crate::input::Inputless;
 use clap::error::ErrorKind;
 use clap::{Command, Error};
 use ruletable::{Sink, write_whole};
@@ -17,18 +20,21 @@ use toolrun::{Status, Stop, close_run, end_run};
 /// What is told of a word that is no UTF-8 text.
 const INVALID_UTF8: &str = "invalid UTF-8 was detected in one or more arguments";
 
-/// Writes on the error output what is wrong with the words, and ends.
-fn tell_fault<O: Sink, E: Sink>(text: &str, out: &mut O, err: &mut E) -> Status
+/// What is wrong with a file of the input where no grammar is run.
+const UNASKED: &str = "FILE is read only with -m run";
+
+/// Writes a text on the error output, and ends with this status.
+fn tell_fault<O: Sink, E: Sink>(text: &str, status: Status, out: &mut O, err: &mut E) -> Status
     requires out_is_fresh { O.failed out.old ≡ false }
     requires err_is_fresh { E.failed err.old ≡ false }
-    ensures right { Comes (IsToldAnd text.now (Stop.Quiet Status.Refused)) no_input
+    ensures right { Comes (IsToldAnd text.now (Stop.Quiet status)) no_input
         (passed O.contents O.failed out.old out.new) (passed E.contents E.failed err.old err.new) (code_of result) }
 {
     if write_whole(err, text.as_bytes()).is_err() {
         return close_run(out, err);
     }
     // the text says all
-    end_run(Ok(Stop::Quiet(Status::Refused)), out, err)
+    end_run(Ok(Stop::Quiet(status)), out, err)
 }
 
 /// Writes the help on the output, and ends.
@@ -67,18 +73,40 @@ pub fn end_unparsed<O: Sink, E: Sink>(
         return end_run(Ok(Stop::NoMemory), out, err);
     };
     if error.use_stderr() {
-        tell_fault(text.as_str(), out, err)
+        tell_fault(text.as_str(), Status::Refused, out, err)
     } else {
         show_help(text.as_str(), out, err)
     }
 }
 
-/// Returns the error of words that are not all UTF-8 text, in the form of the errors of a parse by that command.
-fn invalid_utf8(command: Result<Command<'_>, AllocError>) -> Result<Error, AllocError>
-    ensures kind { IfOk result (λ e. kind_of e ≡ ErrorKind.ValueValidation) }
+/// Returns an error of this kind in the form of the errors of a parse by that command.
+fn error_of(
+    command: Result<Command<'_>, AllocError>,
+    kind: ErrorKind,
+    message: &str,
+) -> Result<Error, AllocError>
+    ensures kind { IfOk result (λ e. kind_of e ≡ kind) }
 {
     let mut command = command?;
-    command.error(ErrorKind::ValueValidation, INVALID_UTF8)
+    command.error(kind, message)
+}
+
+/// Ends a program whose words have this error, or for which an allocation failed.
+fn end_error<O: Sink, E: Sink>(
+    alloc: Global,
+    error: Result<Error, AllocError>,
+    out: &mut O,
+    err: &mut E,
+) -> Status
+    requires out_is_fresh { O.failed out.old ≡ false }
+    requires err_is_fresh { E.failed err.old ≡ false }
+    ensures { (kind : Kind) → IfOk error.entry (λ e. kind_of e ≡ kind) → Comes (WordsState (kind ∷ [])) no_input
+        (passed O.contents O.failed out.old out.new) (passed E.contents E.failed err.old err.new) (code_of result) }
+{
+    match error {
+        Ok(error) => end_unparsed(alloc, &error, out, err),
+        Err(_) => end_run(Ok(Stop::NoMemory), out, err),
+    }
 }
 
 /// Ends a program of that command, whose words are not all UTF-8 text: that is told on `err`, `Refused`. If an
@@ -94,8 +122,38 @@ pub fn refuse_invalid_utf8<O: Sink, E: Sink>(
     ensures refused { Comes (WordsState (ErrorKind.ValueValidation ∷ [])) no_input
         (passed O.contents O.failed out.old out.new) (passed E.contents E.failed err.old err.new) (code_of result) }
 {
-    match invalid_utf8(command) {
-        Ok(error) => end_unparsed(alloc, &error, out, err),
-        Err(_) => end_run(Ok(Stop::NoMemory), out, err),
+    let error = error_of(command, ErrorKind::ValueValidation, INVALID_UTF8);
+    end_error(alloc, error, out, err)
+}
+
+/// Ends a program of that command whose input cannot be opened: `err` says why.
+///
+/// - `Unasked`: what is wrong with the words, `Refused`.
+/// - `Unopened`: `cannot read`, the file's name and the reason of the system, `Fault`.
+/// - `NoMemory`, or an allocation fails or failed for the command: `out of memory`, `NoMemory`.
+pub(crate) fn end_inputless<O: Sink, E: Sink>(
+    alloc: Global,
+    command: Result<Command<'_>, AllocError>,
+    why: Inputless<'_>,
+    out: &mut O,
+    err: &mut E,
+) -> Status
+    requires out_is_fresh { O.failed out.old ≡ false }
+    requires err_is_fresh { E.failed err.old ≡ false }
+    ensures { Comes (InputlessStates why) no_input (passed O.contents O.failed out.old out.new)
+        (passed E.contents E.failed err.old err.new) (code_of result) }
+{
+    match why {
+        Inputless::Unasked => {
+            let error = error_of(command, ErrorKind::ArgumentConflict, UNASKED);
+            end_error(alloc, error, out, err)
+        }
+        Inputless::Unopened(name, fault) => match format!(in alloc;
+            "cannot read {name}: {fault}\n"
+        ) {
+            Ok(text) => tell_fault(text.as_str(), Status::Fault, out, err),
+            Err(_) => end_run(Ok(Stop::NoMemory), out, err),
+        },
+        Inputless::NoMemory => end_run(Ok(Stop::NoMemory), out, err),
     }
 }

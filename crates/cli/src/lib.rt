@@ -4,6 +4,7 @@
 
 mod command;
 mod fault;
+mod input;
 mod program;
 mod reading;
 mod settings;
@@ -12,6 +13,7 @@ mod tool;
 
 pub use command::{add_flag, add_option, program_command, tool_command};
 pub use fault::refuse_invalid_utf8;
+pub use input::{Input, Inputless, open_source};
 pub use program::{Program, parse};
 pub use reading::{Job, Unready, end_unready, read_job};
 pub use settings::{Asked, read_words, settings_of};

@@ -54,11 +54,15 @@ pub fn read_job<'a, P: Program, R: Files + AllocGlobal>(
 ) -> Result<Job<'a, P::Options>, Unready>
     ensures job { (app : App) × P.is_app app × MatchResult result
         (λ job. (fault_of app (map string_bytes words.entry.now) ≡ []) ×
-        ((path : _) × Ask P.asks (matches_of app (map string_bytes words.entry.now))
-        (record { settings = job.settings; path = path })))
+        ((path : _) × (file : _) × Ask P.asks (matches_of app (map string_bytes words.entry.now))
+        (record { settings = job.settings; path = path; file = file })))
         (IsUnready (fault_of app (map string_bytes words.entry.now))) }
 {
-    let Asked { settings, path } = match read_words::<P, String>(rt.alloc(), words) {
+    let Asked {
+        settings,
+        path,
+        file: _,
+    } = match read_words::<P, String>(rt.alloc(), words) {
         Ok(asked) => asked,
         Err(error) => return Err(Unready::Words(error)),
     };

@@ -54,6 +54,8 @@ pub struct Asked<'a, O> {
     pub settings: Settings<'a, O>,
     /// The file of the grammar.
     pub path: &'a str,
+    /// The file of the input, if one is named.
+    pub file: Option<&'a str>,
 }
 
 /// Reads the words of a program's command line, its name first.
@@ -75,5 +77,10 @@ pub fn read_words<'a, P: Program, S: AsStr>(
     };
     let settings = settings_of::<P>(&matches);
     let path = matches.get_str("grammar").unwrap();
-    Ok(Asked { settings, path })
+    let file = matches.get_str("file");
+    Ok(Asked {
+        settings,
+        path,
+        file,
+    })
 }

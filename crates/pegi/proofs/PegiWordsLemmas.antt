@@ -48,5 +48,5 @@ raw_is m by raw said =
     let is = is_command c (pegi_app names) (by.3 ∙ by.1.2) refl refl refl in
     let d = first_arg c rs is (omega arith) in
     flag_found (found_of m) (rows_of (found_of m)) refl (codes "raw") raw
-    (flag_is c rs is m by.4 d 6 (codes "raw") 114 (record { named = λ n. cc; help = refl; version = refl })
+    (flag_is c rs is m by.4 d 7 (codes "raw") 114 (record { named = λ n. cc; help = refl; version = refl })
     (record { within = omega arith; at = λ q. refl; only = refl })) said

@@ -12,12 +12,13 @@ use toolrun::Status;
 
 /// The text of the help.
 const HELP: &str =
-    "Run a grammar in the syntax of peg(1) on standard input, and print its actions in order
+    "Run a grammar in the syntax of peg(1) on a file or standard input, and print its actions in order
 
-Usage: pegi [OPTIONS] <GRAMMAR>
+Usage: pegi [OPTIONS] <GRAMMAR> [FILE]
 
 Arguments:
   <GRAMMAR>  The file of the grammar, at most 1048576 bytes
+  [FILE]     The file of the input [default: standard input]
 
 Grammar:
   -m, --mode <MODE>  Choose what to do with the grammar [default: run] [possible values: run, check, print]
@@ -37,13 +38,13 @@ Exit status:
   1  no match at some byte
   2  the grammar or the arguments are refused
   3  a unit is longer than N bytes
-  4  a read or write error, or the grammar cannot be read
+  4  a read or write error, or a file cannot be read
   5  out of memory
 
 Example:
-  pegi username.peg < letter.txt";
+  pegi username.peg letter.txt";
 
-/// The program `pegi [-m MODE] [-l N] [-s RULE] [-r] [-x] GRAMMAR`.
+/// The program `pegi [-m MODE] [-l N] [-s RULE] [-r] [-x] GRAMMAR [FILE]`.
 pub(crate) struct Pegi;
 
 impl Program for Pegi {

@@ -1,4 +1,4 @@
-//! Runs a grammar in the syntax of peg(1) on its standard input.
+//! Runs a grammar in the syntax of peg(1) on a file or on its standard input.
 #![tactic(auto)]
 
 mod command;
@@ -6,9 +6,7 @@ mod run;
 
 use crate::command::Pegi;
 use crate::run::pegi_main;
-use cli::{Program, end_without_memory, start_program};
-use feed::SourceOf;
-use std::io::BufReader;
+use cli::{Program, open_source, start_program};
 use std::process::ExitCode;
 
 fn main(rt: HostRuntime) -> ExitCode {
@@ -17,13 +15,15 @@ fn main(rt: HostRuntime) -> ExitCode {
         rt.stdout(),
         rt.stderr(),
         |alloc| Pegi::command(alloc),
-        |words, out, err| {
-            // without a buffer each unit would cost a system call
-            let Ok(ahead) = BufReader::new(rt.alloc(), rt.stdin()) else {
-                return end_without_memory(&rt);
-            };
-            let mut reader = SourceOf::new(ahead);
-            ExitCode::from(pegi_main(&rt, words, &mut reader, out, err).code())
+        |words, out, err| match open_source::<Pegi, HostRuntime, _, _, _>(
+            &rt,
+            words,
+            rt.stdin(),
+            out,
+            err,
+        ) {
+            Ok(mut reader) => ExitCode::from(pegi_main(&rt, words, &mut reader, out, err).code()),
+            Err(status) => ExitCode::from(status.code()),
         },
     )
 }

@@ -3,7 +3,7 @@ use Rattle.std.proofs.Common.{◌≡◌, ◌∙◌, ap, ap₂, rules, false, cod
 use Rattle.std.proofs.lemmas.Result.{IfOk-weaker}
 use Rattle.clap.specs.Words.{App, Rule, rule_of, with_rule}
 use Rattle.cli.proofs.AddedLemmas.{added_rule}
-use Rattle.cli.specs.Command.{flag_rule, grammar_rule, long_named, rule_rule}
+use Rattle.cli.specs.Command.{file_rule, flag_rule, grammar_rule, long_named, rule_rule}
 use Rattle.cli.proofs.command.tool_command.Goals as goal
 
 pub returns : goal.returns
@@ -11,6 +11,7 @@ returns c =
     let mode = c.mode_arg-mode.ensures in
     let limit = c.limit_arg.ensures in
     let grammar = c.grammar_arg.ensures in
+    let file = c.file_arg.ensures in
     let is_rule : rule_of c.value_name-rule.result ≡ rule_rule = search rules in
     let is_local : c.value_name-rule.result.global ≡ false = search rules in
     let moded = c.in_ok-command-2.ensures mode.local
@@ -20,12 +21,15 @@ returns c =
     let ruled = c.in_ok-command-4.ensures is_local
     ∙ ap₂ (λ (app : App) (r : Rule). with_rule app (long_named r)) limited is_rule in
     let flagged = c.in_ok-command-5.ensures
-    ∙ ap (λ (app : App). with_rule app (flag_rule (codes "explain") 120)) ruled in (
+    ∙ ap (λ (app : App). with_rule app (flag_rule (codes "explain") 120)) ruled in
+    let whole = added_rule c.in_ok-command-5.command c.in_ok-command-6.command c.grammar_arg.result grammar_rule
+    grammar.local grammar.rule c.in_ok-command-6.ensures
+    ∙ ap (λ (app : App). with_rule app grammar_rule) flagged in (
       mode.rule.0,
       mode.rule.1,
       IfOk-weaker c.arg.result _ _
           (λ r added.
-          added_rule c.in_ok-command-5.command r c.grammar_arg.result grammar_rule grammar.local grammar.rule added
-          ∙ ap (λ (app : App). with_rule app grammar_rule) flagged)
+          added_rule c.in_ok-command-6.command r c.file_arg.result file_rule file.local file.rule added
+          ∙ ap (λ (app : App). with_rule app file_rule) whole)
           c.arg.ensures,
     )

@@ -17,11 +17,15 @@ returns g c =
           words_ask g.P.Program.asks (found_of c.in-Ok.matches)
               (matches_of said.0 (map g.S.AsStr.text c.args.words.now)) said.2.1
               (c.follows.ensures.whole c.in-Ok.matches c.in-Ok.ensures.parsed)
-              (record { settings = c.settings_of-settings.result; path = c.unwrap-path.result })
+              (record {
+                settings = c.settings_of-settings.result;
+                path = c.unwrap-path.result;
+                file = c.get_str-file.result;
+              })
               c.get_str.result settings.mode settings.limit settings.start settings.explain
               (c.follows.ensures.asked c.in-Ok.matches c.settings_of-settings.result.options c.in-Ok.ensures.parsed
               settings.options)
-              c.get_str.ensures c.unwrap-path.ensures,
+              c.get_str.ensures c.unwrap-path.ensures c.get_str-file.ensures,
         ),
       );
     }

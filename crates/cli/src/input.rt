@@ -1,0 +1,120 @@
+//! The input of a program: standard input, or the file that its words name.
+ghost use Rattle.std.specs.Prelude.{◌≡◌, IfErr, IfOk, false, map, string_bytes};
+ghost use Rattle.clap.specs.Words.{App};
+ghost use Rattle.cli.specs.Inputs.{InputlessStates, IsInputOf, file_of, rest_of};
+ghost use Rattle.cli.specs.declared.input.Inputless.{Inputless as Why};
+ghost use Rattle.toolrun.specs.Right.{Comes};
+ghost use Rattle.toolrun.specs.Status.{code_of};
+ghost use Rattle.toolrun.specs.Stream.{no_input, passed};
+
+use crate::fault::end_inputless;
+use crate::program::Program;
+use crate::settings::read_words;
+use clap::error::ErrorKind as WordsFault;
+use feed::{Source, SourceOf};
+use ruletable::Sink;
+use std::io::{BufReader, ErrorKind, Read};
+use std::rt::Files;
+use std::{fs, io};
+use toolrun::{Mode, Status, Stop, end_run};
+
+/// An input of a program.
+#[derive(Drop)]
+pub enum Input<S, F> {
+    /// Standard input.
+    Standard(S),
+    /// The file that the words name.
+    Named(F),
+}
+
+impl<S: Read, F: Read> Read for Input<S, F> {
+    ghost remaining = { rest_of S.remaining F.remaining };
+
+    fn read(&mut self, buf: &mut [u8]) -> io::Result<usize> {
+        match self {
+            Input::Standard(reader) => reader.read(buf),
+            Input::Named(reader) => reader.read(buf),
+        }
+    }
+}
+
+/// Why a program has no input.
+#[derive(Drop)]
+pub enum Inputless<'a> {
+    /// The words name a file, and do not ask for a run.
+    Unasked,
+    /// The system cannot open the file of that name, for this reason.
+    Unopened(&'a str, io::Error),
+    /// An allocation failed.
+    NoMemory,
+}
+
+/// Returns the input that the words ask for. It is `standard` if the words name no file for it, or name it `-`, or if
+/// something is wrong with the words; else the file, opened.
+///
+/// # Errors
+/// - `Unasked` if the words name a file and ask for another mode than `run`.
+/// - `Unopened` if the file cannot be opened.
+/// - `NoMemory` if an allocation fails.
+fn open_input<'a, P: Program, R: Files + AllocGlobal, S: Drop>(
+    rt: &R,
+    words: &'a [String],
+    standard: S,
+) -> Result<Input<S, R::File>, Inputless<'a>>
+    ensures { (app : App) × P.is_app app × IfOk result (IsInputOf standard.entry
+        (file_of app (map string_bytes words.entry.now))) }
+{
+    let asked = match read_words::<P, String>(rt.alloc(), words) {
+        Ok(asked) => asked,
+        Err(error) if error.kind() == WordsFault::OutOfMemory => return Err(Inputless::NoMemory),
+        Err(_) => return Ok(Input::Standard(standard)),
+    };
+    let name = match asked.file {
+        Some(name) if name != "-" => name,
+        _ => return Ok(Input::Standard(standard)),
+    };
+    if asked.settings.mode != Mode::Run {
+        return Err(Inputless::Unasked);
+    }
+    match fs::open(rt, name) {
+        Ok(file) => Ok(Input::Named(file)),
+        Err(fault) if fault.kind() == ErrorKind::OutOfMemory => Err(Inputless::NoMemory),
+        Err(fault) => Err(Inputless::Unopened(name, fault)),
+    }
+}
+
+/// Opens the input of a program, which reads ahead: a buffer spares a system call for each line or unit. It is
+/// `standard` if the words name no file for it, or name it `-`, or if something is wrong with the words.
+///
+/// # Errors
+/// The status of a program that has no input; `err` says why:
+/// - The words name a file and ask for another mode than `run`: what is wrong with them, `Refused`.
+/// - The file cannot be opened: `cannot read`, its name and the reason of the system, `Fault`.
+/// - An allocation fails: `out of memory`, `NoMemory`.
+pub fn open_source<P: Program, R: Files + AllocGlobal, S: Read + Drop, O: Sink, E: Sink>(
+    rt: &R,
+    words: &[String],
+    standard: S,
+    out: &mut O,
+    err: &mut E,
+) -> Result<SourceOf<BufReader<Input<S, R::File>>>, Status>
+    requires out_is_fresh { O.failed out.old ≡ false }
+    requires err_is_fresh { E.failed err.old ≡ false }
+    ensures ready { IfOk result (λ source. (⟦<SourceOf<BufReader<Input<S, R::File>>> as Source>⟧.failed source ≡ false)
+        × (⟦<SourceOf<BufReader<Input<S, R::File>>> as Source>⟧.ended source ≡ false)
+        × (out.new ≡ out.old) × (err.new ≡ err.old)) }
+    ensures ended { IfErr result (λ status. (why : Why) × Comes (InputlessStates why) no_input
+        (passed O.contents O.failed out.old out.new) (passed E.contents E.failed err.old err.new) (code_of status)) }
+{
+    let input = match open_input::<P, R, S>(rt, words, standard) {
+        Ok(input) => input,
+        Err(why) => {
+            let command = P::command(rt.alloc());
+            return Err(end_inputless(rt.alloc(), command, why, out, err));
+        }
+    };
+    match BufReader::new(rt.alloc(), input) {
+        Ok(ahead) => Ok(SourceOf::new(ahead)),
+        Err(_) => Err(end_run(Ok(Stop::NoMemory), out, err)),
+    }
+}
