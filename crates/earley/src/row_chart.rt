@@ -29,10 +29,12 @@ use std::rc::Rc;
 // A longer line is not judged by rows.
 const LONGEST: usize = 1 << 32;
 
-/// The sets of a line, and whether the last holds the whole's end with origin 0.
+/// The sets of a line with the answer.
 #[derive(Drop)]
 pub(crate) struct JudgedRows {
+    /// The sets.
     pub(crate) chart: RowChart,
+    /// Whether the last set has the end of the augmented start, with origin 0.
     pub(crate) yes: bool,
 }
 

@@ -1,4 +1,4 @@
-//! What the items of a row predict, advance and complete.
+//! Prediction, advance and completion for the items of a row.
 ghost use Rattle.std.specs.Prelude.{◌≡◌, ◌↔◌, ◌<◌, ℕ, List, [], IsTrue, IfOk, length, Contains};
 ghost use Rattle.bitrows.specs.RowSets.{HasAt};
 ghost use Rattle.earleyitems.specs.ItemSets.{IsPredicted, IsCompleted};

@@ -6,12 +6,15 @@ use crate::sets::{Bounds, Record, Stores};
 use flatgrammar::Item;
 use std::marker::Model;
 
-/// Shows an item set, whose lists stand among those of the line's other sets: the heads, which are the roots that were
-/// predicted in it and whose blocks stand in it, and the items beside their blocks. The records of the heads hold
-/// where the waiting list of each begins.
+/// A view of one Earley set, whose lists stand among those of the line's other sets.
+///
+/// A set has predictions and items. A prediction is a root; the items of its precomputed closure are not stored. The
+/// record of a prediction says where its waiting list begins.
 #[derive(Drop)]
 pub(crate) struct EarleySet<'a> {
+    /// The lists of all sets.
     pub(crate) stores: &'a Stores,
+    /// Where the lists of this set stand.
     pub(crate) bounds: &'a Bounds,
 }
 

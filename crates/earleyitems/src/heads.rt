@@ -8,13 +8,15 @@ use ruletable::Memory;
 use std::alloc::Global;
 use std::marker::Model;
 
-/// The heads of a set, in the order in which they were predicted, seen as a list.
+/// The predictions of a set, in the order in which they were added. Contracts see that list.
 ///
-/// Each has its index in a table by head. The table may say anything of what is no head, so that emptying takes no
-/// time.
+/// A prediction is the number of a root. The two vectors are a sparse set: `table[head]` counts only if `list` has
+/// `head` at that index. So emptying it clears the list alone.
 #[derive(Drop)]
 pub(crate) struct Heads {
+    /// The predictions, each once.
     list: Vec<usize>,
+    /// Of each root its index in `list`, if it is a prediction.
     table: Vec<usize>,
 }
 

@@ -19,12 +19,15 @@ use crate::sets::{Part, Record};
 use flatgrammar::{Ask, Item, Tables, asks};
 use ruletable::Memory;
 
-/// An entry of the waiting list of a head: the item that the completion of the head adds, its home, and one more than
-/// the index of the next entry, or 0.
+/// An entry of the waiting list of a prediction. A completion of the predicted root adds the item, and looks for no
+/// callers (Aycock and Horspool 2002).
 #[derive(Clone, Copy)]
 pub(crate) struct Waiter {
+    /// The item after the call.
     pub(crate) item: Item,
+    /// The index of the item's prediction in the set of its origin.
     pub(crate) home: usize,
+    /// One more than the index of the next entry, or 0.
     pub(crate) next: usize,
 }
 

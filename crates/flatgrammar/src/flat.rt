@@ -19,13 +19,14 @@ use std::alloc::Global;
 use std::marker::Model;
 use std::rc::Rc;
 
-/// A grammar as numbered nodes: of each rule the node of its body, and the whole, a concatenation of the judged rule's
-/// body alone. It serves lines of at most `limit` letters.
+/// A grammar as numbered nodes, for lines of at most `limit` symbols. Contracts see the nodes, the rules' bodies and
+/// the augmented start, which is a concatenation of the judged rule's body alone.
 ///
-/// It keeps what judging looks up by node: where a node starts and ends, whether it is nullable, and what its
-/// prediction implies.
+/// `new` computes once, by node, what judging looks up: where a node starts and ends, whether it is nullable, and the
+/// closure of its prediction. Nothing changes later, so that the judges share the tables.
 #[derive(Drop)]
 pub struct Flat {
+    /// The grammar, and what was computed of its nodes.
     tables: Rc<Tables>,
 }
 

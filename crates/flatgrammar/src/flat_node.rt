@@ -32,7 +32,7 @@ pub enum Node {
         most: Option<u32>,
         operand: usize,
     },
-    /// At most `most` turns of it where that is there, each of at least one letter.
+    /// At most `most` iterations of it where that is there, each of at least one symbol.
     Turns {
         most: Option<u32>,
         operand: usize,
@@ -41,7 +41,7 @@ pub enum Node {
     Opt(usize),
     /// The rule of that id; the number of rules stands for a rule that is not there.
     Name(usize),
-    /// What derives nothing.
+    /// The empty set: it derives no line.
     Nothing,
 }
 
@@ -66,7 +66,7 @@ pub(crate) fn has(set: &Set, value: u32) -> bool
     }
 }
 
-/// The least and the greatest letter of some; there are none if the greatest is below the least.
+/// A range of symbols, from `least` to `greatest`. It is empty if the greatest is below the least.
 #[derive(Clone, Copy)]
 pub struct Ends {
     pub least: u32,
@@ -150,14 +150,16 @@ fn is_enough(least: u32, most: Option<u32>, step: usize) -> bool
     }
 }
 
-/// What a node does at a step: the node that it calls with the step after it, and whether the node is done there.
+/// The actions of a node at a step.
 #[derive(Clone, Copy)]
 pub(crate) struct NodeDeed {
+    /// The node that it calls, and the step after the call.
     pub(crate) called: Option<(usize, usize)>,
+    /// Whether the node is complete there.
     pub(crate) done: bool,
 }
 
-/// Returns what a node does at a step.
+/// Returns the actions of a node at a step.
 #[inline(always)]
 pub(crate) fn node_deed(node: &Node, step: usize) -> NodeDeed
     ensures called { result.called ≡ callee (node_of node.now) step }

@@ -11,13 +11,16 @@ use crate::tables::{Tables, call, whole_root};
 use ruletable::Memory;
 use std::alloc::Global;
 
-/// The place that alone calls a node, where another node begins: the head in whose block it stands, the node and the
-/// step of the place, and the step after it.
+/// The only call site of an inlined node. It stands where its own node begins, so the callee is predicted with it.
 #[derive(Clone, Copy)]
 pub struct Inner {
+    /// The root whose closure has the call site.
     pub head: usize,
+    /// The node of the call site.
     pub node: usize,
+    /// The step of the call.
     pub step: usize,
+    /// The step after the call.
     pub next: usize,
 }
 

@@ -13,21 +13,27 @@ use std::alloc::Global;
 // Fewer dotted rules that read are walked without a table by letter.
 const FEW: usize = 4;
 
-/// A dotted rule that calls a root with a block of its own: the root, and the step after the call.
+/// A dotted rule that calls a root with a closure of its own.
 #[derive(Clone, Copy)]
 pub struct Ask {
+    /// The dotted rule.
     pub spot: Spot,
+    /// The root that it calls.
     pub root: usize,
+    /// The step after the call.
     pub next: usize,
 }
 
-/// Holds of the dotted rules of a block those that call a root with a block of its own, and those that read: all, and
-/// where they are many those of each letter below 256. All letters that they read are between the ends.
+/// The dotted rules of a closure that matter in a set: those that call, and those that read.
 #[derive(Drop)]
 pub struct SpotList {
+    /// The dotted rules that call a root with a closure of its own.
     pub asks: Vec<Ask>,
+    /// The dotted rules that may read a symbol.
     pub readers: Vec<Spot>,
+    /// Of each symbol below 256 its readers; empty if at most four dotted rules read.
     pub by_letter: Vec<Vec<Spot>>,
+    /// A range that has all symbols that are read.
     pub ends: Ends,
 }
 

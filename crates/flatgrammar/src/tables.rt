@@ -11,19 +11,29 @@ use crate::flat_node::{Node, callee, may_read, node_deed, takes};
 use crate::inner::{Inner, inner_at};
 use crate::spot_list::{Ask, SpotList};
 
-/// Holds the nodes of a lowered grammar, of each rule the node of its body, of each node its root, a mark of what is
-/// nullable, the place that alone calls it if it stands in the block of another, its block and the lists of its block,
-/// the whole's node, and how many letters a line may have.
+/// A lowered grammar, with all that judging looks up by node.
+///
+/// `nodes`, `bodies`, `whole` and `limit` are the grammar. The other vectors have an entry for each node and follow
+/// from it.
 #[derive(Drop)]
 pub struct Tables {
+    /// The nodes, by number.
     pub nodes: Vec<Node>,
+    /// Of each rule the node of its body.
     pub bodies: Vec<usize>,
+    /// Of each node its root: the node where it starts and ends. A name's root is that of its rule's body.
     pub roots: Vec<Option<usize>>,
+    /// Of each node whether it derives the empty line.
     pub nulls: Vec<bool>,
+    /// Of each inlined node its only call site.
     pub inners: Vec<Option<Inner>>,
+    /// Of each node the closure of its prediction; empty for an inlined node.
     pub blocks: Vec<Block>,
+    /// Of each closure the dotted rules that call or read.
     pub lists: Vec<SpotList>,
+    /// The node of the augmented start.
     pub whole: usize,
+    /// The most symbols of a line.
     pub limit: usize,
 }
 
@@ -58,17 +68,20 @@ pub fn takes_letter(flat: &Tables, item: Item) -> bool
     }
 }
 
-/// What an item's place does: the root that it calls with the step after it, whether its node is done there, whether
-/// what it calls has to take a letter, and whether it may read a letter.
+/// The actions of an item's dotted rule.
 #[derive(Clone, Copy)]
 pub struct Deed {
+    /// The root that it calls, and the step after the call.
     pub called: Option<(usize, usize)>,
+    /// Whether its node is complete there.
     pub done: bool,
+    /// Whether what it calls has to take a symbol.
     pub takes: bool,
+    /// Whether it may read a symbol.
     pub reads: bool,
 }
 
-/// Returns what an item's place does. It looks the node up once.
+/// Returns the actions of an item's dotted rule. It looks the node up once.
 #[inline(always)]
 pub fn deed_of(flat: &Tables, item: Item) -> Deed
     ensures called { result.called ≡ call_of flat.now item }

@@ -23,12 +23,21 @@ use std::alloc::Global;
 use std::marker::Model;
 use std::rc::Rc;
 
-/// A flat grammar, seen as that, with what was found out of its lines.
+/// A flat grammar with the part of its automaton that earlier lines needed. Contracts see the grammar alone.
+///
+/// The automaton is a lazy DFA. Its states stand for sets of return stacks, which share their tails as nodes of a graph
+/// (Tomita 1987). The grammar and the classes never change. The memo only grows, until an allocation fails; then it is
+/// emptied. No verdict depends on the memo's contents, so one automaton serves line after line. The memo's budget
+/// bounds its time and memory; where it is spent, the automaton gives no verdict.
 #[derive(Drop)]
 pub struct Automaton {
+    /// Allocates all that the automaton keeps.
     alloc: Global,
+    /// The grammar, shared with the `Flat` from which it was made.
     tables: Rc<Tables>,
+    /// Classes of the symbols that each set of the grammar takes or rejects together.
     classes: Classes,
+    /// The states and transitions known so far, and the shared suffixes of the line that is read.
     memo: Memo,
 }
 

@@ -3,10 +3,15 @@
 use ruletable::Memory;
 use std::alloc::Global;
 
-/// For each entry, numbered from 1 on, the entry before it in its chain, and for each chain its last entry. 0 is none.
+/// Hash chains of entries that are numbered from 1 on; 0 is none.
+///
+/// The entries themselves stand in a vector of the caller. A chain has the entries with one hash slot, each linked to
+/// the one before it. `heads` has a power of two of slots, or none before the first `restart`.
 #[derive(Drop)]
 pub(crate) struct Chains {
+    /// Of each entry the entry before it in its chain, or 0.
     links: Vec<usize>,
+    /// Of each chain its last entry, or 0.
     heads: Vec<usize>,
 }
 

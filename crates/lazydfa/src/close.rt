@@ -10,11 +10,17 @@ use crate::conts::{Cont, Conts, id_of};
 use flatgrammar::{Item, Tables, begin_steps, deed_of};
 use ruletable::Memory;
 
-/// Ids, in order, where each of them stands, and over how many of them one may go. These places are not relied on.
+/// A set of ids of continuations, which is also the worklist of a closure.
+///
+/// It is a sparse set: `spots[id]` may say anything unless `items` has `id` at that index. So emptying it clears
+/// `items` alone. No contract relies on `spots`.
 #[derive(Drop)]
 pub(crate) struct Ids {
+    /// The members, in the order in which they were added.
     pub(crate) items: Vec<usize>,
+    /// Of each id where it may stand in `items`.
     pub(crate) spots: Vec<usize>,
+    /// The most members that a closure may visit.
     pub(crate) most: usize,
 }
 

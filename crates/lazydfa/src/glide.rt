@@ -11,10 +11,12 @@ use letters::Letter;
 /// In lines of so many letters it is tried whether a state stays over four of them.
 const LONG: usize = 256;
 
-/// The row of a run's state, by its place, and how many letters led to that state.
+/// How far a run over a line has come.
 #[derive(Clone, Copy)]
 pub(crate) struct Track {
+    /// The index of the first word of the state's row in `hops`.
     pub(crate) row: usize,
+    /// How many symbols of the line led to that state.
     pub(crate) at: usize,
 }
 

@@ -14,10 +14,12 @@ use std::alloc::Global;
 /// How many places of a part are looked at for one that stands there twice.
 const DEPTH: usize = 64;
 
-/// Tops, and the id of the part that they stood on.
+/// Stacks whose shared suffix was split off.
 #[derive(Drop)]
 pub(crate) struct Split {
+    /// The ids of the stacks without the suffix.
     pub(crate) tops: Vec<usize>,
+    /// The id of the suffix.
     pub(crate) part: usize,
 }
 

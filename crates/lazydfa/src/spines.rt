@@ -7,10 +7,12 @@ use crate::close::cont_at;
 use crate::conts::{Cont, Conts, id_of};
 use ruletable::Memory;
 
-/// What continuations are taken off, and what they are put on, both by id.
+/// A change of the suffix below continuations.
 #[derive(Clone, Copy)]
 pub(crate) struct Move {
+    /// The id of the suffix that they stand on.
     pub(crate) off: usize,
+    /// The id of the suffix to put them on.
     pub(crate) on: usize,
 }
 
