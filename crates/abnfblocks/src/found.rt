@@ -11,7 +11,7 @@ use abnfread::one_reading;
 use ruletable::{Memory, ReadFault};
 use std::alloc::Global;
 
-/// What is found at a line that begins a rule. Lines count from 0, as they stand in the list.
+/// The result of the search at a line that begins a rule. Lines count from 0, as they stand in the list.
 #[derive(Clone, Copy)]
 pub enum Found {
     /// So many lines from the first one on are ABNF.
@@ -28,7 +28,7 @@ pub enum Found {
     },
 }
 
-/// Returns what is found among the lines of a text, in order: one entry for each line that begins a rule.
+/// Finds the rules among the lines of a text, in order: one entry for each line that begins a rule.
 ///
 /// A line begins a rule if a rule's name and `=` stand after its margin. The rule has all lines up to the next one that
 /// begins a rule, or that does not go on: blank lines, comments and lines of a larger margin do, and a line that begins

@@ -18,10 +18,10 @@ use abnfread::{Abnf, Elem};
 use ruletable::{Memory, NameCase, Note, RuleTable};
 use std::alloc::Global;
 
-/// What the checks of a grammar gave.
+/// The result of the checks of a grammar.
 #[derive(Drop)]
 pub struct Checked<S> {
-    /// What there is to say of it, in order.
+    /// The notes on it, in order.
     pub notes: Vec<Note>,
     /// The grammar, ready to judge lines, unless a note rejects it.
     pub sound: Option<S>,
@@ -66,11 +66,14 @@ pub fn check_abnf(
     })
 }
 
-// The notes on a grammar, whether it is rejected, and the id of the judged rule if there is such a rule.
+/// The notes on a grammar with their consequences.
 #[derive(Drop)]
 struct Found {
+    /// The notes, in order.
     notes: Vec<Note>,
+    /// Whether one of them rejects the grammar.
     refused: bool,
+    /// The id of the judged rule, if there is such a rule.
     judged: usize,
 }
 

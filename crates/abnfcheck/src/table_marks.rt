@@ -1,4 +1,4 @@
-//! What the rules of any table are good for.
+//! Marks on the rules of any table.
 ghost use Rattle.std.specs.Prelude.{◌≡◌, Bool, length, slice_index_or, IfOk};
 ghost use Rattle.fixpoint.specs.Demands.{demand_of, demands_of};
 ghost use Rattle.fixpoint.specs.StepRows.{rows_of};

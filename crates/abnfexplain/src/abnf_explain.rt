@@ -1,4 +1,4 @@
-//! What explains a fault of a grammar in ABNF.
+//! Explanations of faults of a grammar in ABNF.
 ghost use Rattle.std.specs.Prelude.{◌≡◌, ℕ, ◌≤◌, ◌++◌, ◌&&◌, List, Some, true, length, map, codes, OnOk, IfOk};
 ghost use Rattle.std.specs.Option.{option_map};
 ghost use Rattle.lexer.specs.GrammarLimits.{max_grammar};

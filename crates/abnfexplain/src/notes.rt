@@ -1,4 +1,4 @@
-//! What explains notes.
+//! Explanations of notes.
 ghost use Rattle.std.specs.Prelude.{◌≡◌, ℕ, List, Option, IfOk, option_copied};
 ghost use Rattle.ruletable.specs.Notes.{Said, said_of};
 ghost use Rattle.abnfexplain.specs.AbnfNoteLines.{AreAbnfPlaces, ExplainsNote, sign_of as the_sign};
@@ -9,7 +9,7 @@ use lexer::one_list;
 use ruletable::{LineRule, Memory, NameCase, Note};
 use std::alloc::Global;
 
-/// What the tokens of ABNF are to the definitions of a grammar.
+/// The roles of the tokens of ABNF in the definitions of a grammar.
 pub struct AbnfSigns;
 
 impl Signs<AbnfKind> for AbnfSigns {

@@ -1,4 +1,4 @@
-//! What a grammar in ABNF is a list of.
+//! Definitions, of which a grammar in ABNF is a list.
 
 use crate::elem::Elem;
 use ruletable::Span;

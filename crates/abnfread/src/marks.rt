@@ -16,12 +16,19 @@ pub struct MarkedToken<'a> {
     pub first: bool,
 }
 
-/// The tokens of a grammar's text with their marks, the last one `End`.
+/// An iterator over the tokens of a grammar's text with their marks. The last one is `End`.
+///
+/// A line begins a rule if it has the margin of the text's first token (RFC 5234, section 2.2). So the iterator keeps
+/// that margin, and where the last token ended.
 #[derive(Drop)]
 pub struct AbnfTokenIter<'a> {
+    /// The whole text.
     text: &'a [u8],
+    /// The tokens without marks.
     inner: TokenIter<'a, AbnfKind>,
+    /// The margin of the first token, in bytes, once that was taken.
     margin: Option<usize>,
+    /// Where the last token ended, in bytes from the front of the text.
     end: usize,
     ghost whole: { total_of inner ≡ length text.now },
 }

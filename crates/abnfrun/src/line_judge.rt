@@ -26,25 +26,33 @@ use refusedlines::{Explainer, RefusedLine, explain_refused};
 use ruletable::Memory;
 use std::alloc::Global;
 
-/// Answers lines by a grammar: whether its judged rule derives them, and the length of their longest viable prefix if
-/// that is asked for. It explains rejected lines by the flat grammar for lines of one letter more, if there is one.
+/// A judge of lines by a grammar: it answers whether the judged rule derives a line. It borrows all that it needs, and
+/// changes nothing; the memory of the judges is in `Work`.
 #[derive(Drop)]
 pub struct LineJudge<'a> {
+    /// The grammar.
     pub(crate) grammar: &'a SoundAbnf,
+    /// The alphabet of lines.
     pub(crate) letters: Alphabet,
+    /// Whether a rejection reports the length of the longest viable prefix.
     pub(crate) viable: bool,
+    /// The lowered grammar: with `viable`, its productive parts alone.
     pub(crate) flat: &'a Flat,
+    /// The flat grammar for lines of one symbol more, by which rejected lines are explained, if they are.
     pub(crate) explainer: Option<&'a Flat>,
     ghost lowered: { viable ≡ false → ∥ IsLowered (rules_of grammar.now.rules) grammar.now.judged flat.now ∥₁ },
     ghost tells: { viable ≡ true → ∥ TellsBeginnings (has letters) (rules_of grammar.now.rules) grammar.now.judged
         flat.now ∥₁ },
 }
 
-/// The memory that lines are judged in: that of the judges of their letters, and their code points.
+/// The memory in which lines are judged. It is kept from line to line.
 #[derive(Drop)]
 pub struct Work {
+    /// Allocates the explanations.
     alloc: Global,
+    /// The two judges of symbols.
     pub(crate) engines: Engines,
+    /// The code points of the line, if its symbols are code points.
     points: Vec<CodePoint>,
 }
 

@@ -39,29 +39,29 @@ pub fn events_rise_of_start()
         RuleGives rules start x (Outcome.Takes q events) k → Rise 0 q events × (q ≤ length x) }
 {}
 
-/// What an expression gives before it has looked at the input's last byte, it gives on every input that begins with
-/// this one.
+/// States that an outcome of an expression that did not look at the input's last byte holds on every input that begins
+/// with this one.
 pub fn longer_input()
     ensures { (rules : List Rule) (x y : List ℕ) (e : Pattern) (p k : ℕ) (o : Outcome) →
         p < length x → k < length x → Gives rules x e p o k → Gives rules (x ++ y) e p o k }
 {}
 
-/// What a start rule gives before it has looked at the input's last byte, it gives on every input that begins with this
-/// one.
+/// States that an outcome of a start rule that did not look at the input's last byte holds on every input that begins
+/// with this one.
 pub fn longer_input_of_start()
     ensures { (rules : List Rule) (start : ℕ) (x y : List ℕ) (k : ℕ) (o : Outcome) →
         k < length x → RuleGives rules start x o k → RuleGives rules start (x ++ y) o k }
 {}
 
-/// What an expression gives before it has looked at the last byte of a text with which the input begins, it gives on
-/// that text alone.
+/// States that an outcome of an expression that did not look at the last byte of a prefix of the input holds on that
+/// prefix alone.
 pub fn shorter_input()
     ensures { (rules : List Rule) (x y : List ℕ) (e : Pattern) (p k : ℕ) (o : Outcome) →
         k < length x → Gives rules (x ++ y) e p o k → Gives rules x e p o k }
 {}
 
-/// What a start rule gives before it has looked at the last byte of a text with which the input begins, it gives on
-/// that text alone.
+/// States that an outcome of a start rule that did not look at the last byte of a prefix of the input holds on that
+/// prefix alone.
 pub fn shorter_input_of_start()
     ensures { (rules : List Rule) (start : ℕ) (x y : List ℕ) (k : ℕ) (o : Outcome) →
         k < length x → RuleGives rules start (x ++ y) o k → RuleGives rules start x o k }

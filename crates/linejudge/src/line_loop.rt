@@ -26,7 +26,7 @@ use ruletable::{Memory, Sink, WriteFault, write_whole};
 use std::alloc::Global;
 use toolrun::{Ending, Stop, ToldRefusals};
 
-/// What follows at a place: a line that takes so many bytes was answered, or a stop.
+/// The next step of a run: the answer to a line that takes so many bytes, or a stop.
 #[derive(Clone, Copy)]
 pub enum Step {
     Answers { said: Answer, len: usize },
@@ -141,7 +141,7 @@ fn told_ending(reached: Reached, stop: Stop) -> Ending
     }
 }
 
-/// Returns how a run ends that stopped so, explained if that is asked.
+/// Wraps the stop of a run as its ending. If `asked`, it adds the explanations of rejected lines and of the stop.
 fn ending_at(asked: bool, reached: Reached, stop: Stop) -> Ending
     ensures plain { asked ≡ false → result ≡ Ending.Plain stop }
     ensures told { asked ≡ true → IsToldEnding (reached.told.items

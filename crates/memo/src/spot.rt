@@ -1,11 +1,12 @@
-//! What an outcome is stored under.
+//! Tasks, under which outcomes are stored.
 ghost use Rattle.std.specs.Prelude.{◌≡◌, ◌+◌, ◌*◌, ◌<◌, ◌^◌, IfOk, OnErr};
 ghost use Rattle.memo.specs.KeyLog.{row_of, place_of, number_of, IsNarrow};
 
 use crate::narrow::narrow;
 use ruletable::Memory;
 
-/// What is evaluated: a node at a place; or, of a node with members, the tail from one of its members on, at a place.
+/// A task of an evaluation: a node at a position; or, of a node with members, the tail from one of its members on, at a
+/// position.
 #[derive(Clone, Copy)]
 pub enum Spot {
     /// A node and a place.

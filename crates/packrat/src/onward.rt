@@ -15,13 +15,18 @@ use memo::{Found, Spot};
 use pegmatch::{Kept, Tried, match_any, match_bytes, match_set};
 use pegnodes::Node;
 
-/// The tail of a node from a member on, at a place, with that member, and whether it is the last one.
+/// The tail of a node from one of its members on, at a position.
 #[derive(Clone, Copy)]
 pub(crate) struct Entering {
+    /// The node.
     pub(crate) node: usize,
+    /// The index of the member, from 0.
     pub(crate) index: usize,
+    /// The position, in bytes from the front of the window.
     pub(crate) place: usize,
+    /// The node of the member.
     pub(crate) member: usize,
+    /// Whether the member is the last one.
     pub(crate) only: bool,
 }
 

@@ -1,4 +1,4 @@
-//! What explains notes.
+//! Explanations of notes.
 ghost use Rattle.std.specs.Prelude.{◌≡◌, ◌++◌, ℕ, List, Option, IfOk, OnOk, option_copied};
 ghost use Rattle.ruletable.specs.Notes.{Said, said_of};
 ghost use Rattle.pegexplain.specs.PegNotes.{ArePegPlaces, ExplainsNote, IsLineBehind, IsLoopTold};

@@ -6,14 +6,14 @@ ghost use Rattle.pegexplain.specs.PegStands.{behind_primary, prefixed, goes, all
 
 use pegread::Kind;
 
-/// What was taken last.
+/// The kind of token that was taken last.
 #[derive(Clone, Copy)]
 pub(crate) enum Stand {
     /// Nothing: the first definition's name is to come.
     Start,
     /// The first definition's name.
     Named,
-    /// What an item may follow, and no prefix waits for it.
+    /// A token that an item may follow, with no prefix that waits for it.
     Fresh,
     /// `!`, which waits for its item.
     Not,

@@ -22,10 +22,12 @@ pub enum Verdict {
     Fails,
 }
 
-/// Says what a byte decides of a node, and how many pairs of a node and the place that evaluates.
+/// The outcome of a node that one byte decides.
 #[derive(Clone, Copy)]
 pub struct Decided {
+    /// The outcome.
     pub verdict: Verdict,
+    /// How many pairs of a node and a position its evaluation visits.
     pub count: u16,
 }
 
@@ -277,7 +279,7 @@ fn by_node(grammar: &MarkedNodes<'_>, n: usize, b: u8, levels: usize) -> Option<
     }
 }
 
-/// Returns what a byte decides of a node, if it does and the node is not too deep.
+/// Returns the outcome of a node that a byte decides; `None` if it does not, or the node is too deep.
 pub fn decide(grammar: &MarkedNodes<'_>, n: usize, b: u8) -> Option<Decided>
     ensures { IfSome result (λ d. Decides grammar.now b n d) }
 {

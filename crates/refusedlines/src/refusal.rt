@@ -30,13 +30,16 @@ pub(crate) enum RefusedAt {
     End,
 }
 
-/// The explanation of a rejected line: what lines are made of, where it is rejected, after how many of its bytes, and
-/// what can follow there.
+/// The explanation of a rejected line.
 #[derive(Drop)]
 pub(crate) struct Refusal {
+    /// The alphabet of the line.
     pub(crate) alphabet: Alphabet,
+    /// Where it is rejected, by its symbols.
     pub(crate) at: RefusedAt,
+    /// After how many of its bytes it is rejected.
     pub(crate) place: usize,
+    /// The symbols that can follow there.
     pub(crate) following: Following,
 }
 

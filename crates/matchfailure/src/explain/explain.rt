@@ -56,9 +56,11 @@ fn byte_of(found: &Option<Farthest>, unit: usize) -> Option<u128>
     }
 }
 
-/// A search for the farthest failures of units, which counts the units that it evaluated.
+/// A search for the farthest failures of units. It evaluates a unit anew, and holds the count alone, so that contracts
+/// bound how many units are evaluated for an explanation.
 #[derive(Drop)]
 pub struct FailureSearch {
+    /// How many units it evaluated.
     evaluated: u128,
 }
 

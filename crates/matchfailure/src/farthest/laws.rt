@@ -34,8 +34,8 @@ pub fn failing_leaf_stops()
         (f : ℕ) × LeafStops nodes x n p f }
 {}
 
-/// What a start rule that looks at less than a text fails at farthest there, it fails at farthest on every input that
-/// begins with that text; and where no comparison fails outside of `!`, none fails there.
+/// States that the farthest failures of a start rule that looks at less than a text are the same on every input that
+/// begins with the text. If no comparison fails outside of `!`, none fails on such an input.
 pub fn same_on_longer()
     ensures far { (rules : List Rule) (start : ℕ) (nodes : List Shape) (bodies ranks x y : List ℕ) (k f : ℕ)
         (o : Outcome) (vs : List Visit) → IsRanked rules start nodes bodies ranks → RuleGives rules start x o k →

@@ -16,10 +16,14 @@ pub struct Visit {
     pub place: usize,
 }
 
-/// Pairs in the order in which they were added, seen as their list.
+/// A list of different pairs, in the order in which they were added. Contracts see the list.
+///
+/// It is a worklist: a pair is added once, and its children are added after it.
 #[derive(Drop)]
 pub(crate) struct VisitList {
+    /// The pairs, in order.
     visits: Vec<Visit>,
+    /// The same pairs, as a set.
     seen: HashSet<Visit>,
 }
 
