@@ -18,15 +18,15 @@ pub struct MarkedToken<'a> {
 
 /// An iterator over the tokens of a grammar's text with their marks. The last one is `End`.
 ///
-/// A line begins a rule if it has the margin of the text's first token (RFC 5234, section 2.2). So the iterator keeps
-/// that margin, and where the last token ended.
+/// A line begins a rule if its indent is at most that of the text's first token (RFC 5234, section 2.2). So the
+/// iterator keeps that indent. White space stands before a token that does not begin where the last one ended.
 #[derive(Drop)]
 pub struct AbnfTokenIter<'a> {
     /// The whole text.
     text: &'a [u8],
     /// The tokens without marks.
     inner: TokenIter<'a, AbnfKind>,
-    /// The margin of the first token, in bytes, once that was taken.
+    /// The indent of the first token, in bytes, if blanks alone stand before it in its line.
     margin: Option<usize>,
     /// Where the last token ended, in bytes from the front of the text.
     end: usize,

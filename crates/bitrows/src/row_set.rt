@@ -9,14 +9,19 @@ use std::alloc::Global;
 use std::marker::Model;
 use std::mem;
 
-/// A set of pairs of a place and a number: a row of numbers for each place. Those that came in since they were last
-/// taken are pending.
+/// A set of pairs of a row and a number, with a worklist.
+///
+/// A number that was added, and not taken yet, is pending. `add` looks for new numbers in a whole row at once, and
+/// `take` takes all that is pending in one row. So a fixed point is found with few operations on words.
 #[derive(Drop)]
 pub struct RowSet {
+    /// Allocates the rows.
     alloc: Global,
+    /// Of each row its numbers, with those that are pending.
     rows: Vec<BitRow>,
+    /// Of each row the numbers that are pending.
     pending: Vec<BitRow>,
-    // the places of what is pending
+    /// The rows that have pending numbers.
     queue: Vec<usize>,
 }
 

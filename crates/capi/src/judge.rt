@@ -1,4 +1,4 @@
-//! What C holds of a grammar that was opened.
+//! The judge of lines that C holds.
 ghost use Rattle.std.specs.Prelude.{◌≡◌, is_some, None, Some, true};
 
 use crate::judge_box::JudgeBox;

@@ -1,4 +1,4 @@
-//! What C holds of a grammar of peg(1) that was opened.
+//! The open grammar of peg(1) that C holds.
 ghost use Rattle.std.specs.Prelude.{◌≡◌, is_some, None, Some, true};
 
 use crate::loose::Loose;

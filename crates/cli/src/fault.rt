@@ -14,7 +14,7 @@ use ruletable::{Sink, write_whole};
 use std::alloc::{AllocError, Global};
 use toolrun::{Status, Stop, close_run, end_run};
 
-/// What is told of a word that is no UTF-8 text.
+/// The message on a word that is not UTF-8.
 const INVALID_UTF8: &str = "invalid UTF-8 was detected in one or more arguments";
 
 /// Writes on the error output what is wrong with the words, and ends.

@@ -12,9 +12,9 @@ use thiserror::Error;
 #[error("read error")]
 pub struct Broken;
 
-/// What gives bytes.
+/// A reader of bytes.
 pub trait Source {
-    /// The bytes still to come, where the inner reader tells them.
+    /// The bytes still to come, where the inner reader's contract states them.
     ghost remaining: { Self → Option (List ℕ) };
 
     /// Whether a call has failed.

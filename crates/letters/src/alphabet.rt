@@ -1,8 +1,8 @@
-//! What a line is made of.
+//! Alphabets of lines.
 ghost use Rattle.std.specs.Prelude.{◌≡◌, ◌↔◌, IsTrue};
 ghost use Rattle.letters.specs.Letters.{has, HasLetter};
 
-/// What a line is made of.
+/// The alphabet of a line.
 #[derive(Clone, Copy, Debug, PartialEq, Eq)]
 pub enum Alphabet {
     /// Bytes.

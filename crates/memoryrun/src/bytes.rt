@@ -6,7 +6,9 @@ use feed::{Broken, Source};
 /// A reader over bytes in memory, which never fails.
 #[derive(Drop)]
 pub struct Bytes<'a> {
+    /// The bytes still to come.
     rest: &'a [u8],
+    /// Whether it reported its end.
     ended: bool,
 }
 

@@ -1,4 +1,4 @@
-//! What can be wrong with a grammar's text.
+//! Faults of a grammar's text.
 ghost use Rattle.std.specs.Prelude.{◌≡◌, ◌++◌, codes, decimal, false};
 ghost use Rattle.ruletable.specs.Faults.{at_line, fault_text};
 ghost use Rattle.ruletable.specs.Writing.{Writes, Flags};

@@ -12,9 +12,9 @@ use thiserror::Error;
 #[error("write error")]
 pub struct WriteFault;
 
-/// What takes bytes.
+/// A writer of bytes.
 pub trait Sink {
-    /// The bytes taken so far, where the inner writer tells them.
+    /// The bytes taken so far, where the inner writer's contract states them.
     ghost contents: { Self → Option (List ℕ) };
 
     /// Whether a call has failed.
@@ -42,7 +42,9 @@ pub trait Sink {
 /// A sink over a writer of `std`.
 #[derive(Drop)]
 pub struct SinkOf<T> {
+    /// The writer.
     inner: T,
+    /// Whether a call has failed.
     failed: bool,
 }
 

@@ -53,7 +53,9 @@ impl Fields {
 /// A text that a call prints. An allocation that fails cuts it short, and it counts for no text then.
 #[derive(Drop)]
 pub struct Text {
+    /// The bytes so far.
     bytes: Vec<u8>,
+    /// Whether an allocation failed.
     is_cut: bool,
 }
 

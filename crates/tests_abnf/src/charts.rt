@@ -100,7 +100,7 @@ fn add_prefixes(sets: &mut Sets, line: &[u8], out: &mut Text) -> Option<()> {
     Some(())
 }
 
-/// `CALL GRAMMAR | LIMIT | ..`: one of the calls on the item sets of lines that have at most so many letters.
+/// `CALL GRAMMAR | LIMIT | ..`: one of the calls on the item sets of lines that have at most so many symbols.
 pub(crate) fn run(alloc: Global, call: &str, fields: &Fields, out: &mut Text) -> Option<()> {
     let mut sets = no_sets(alloc, fields.text(0), fields.number(1))?;
     match call {

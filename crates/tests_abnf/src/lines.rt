@@ -12,7 +12,7 @@ use ruletable::Memory;
 use std::alloc::Global;
 use testio::{Fields, Text};
 
-/// A flat grammar, and what judges lines by it: item sets, and an automaton if there is one.
+/// A flat grammar, and both judges of lines by it: item sets, and an automaton if there is one.
 #[derive(Drop)]
 pub(crate) struct Judges {
     flat: Flat,
@@ -33,7 +33,7 @@ fn judges_of(alloc: Global, flat: Flat, room: Option<usize>) -> Result<Judges, M
     })
 }
 
-/// How lines of a grammar are judged: whether their prefixes are too, of which letters, and how many letters they have.
+/// How lines of a grammar are judged: whether their prefixes are too, of which symbols, and how many symbols they have.
 #[derive(Clone, Copy)]
 pub(crate) struct Judging {
     pub(crate) is_viable: bool,
@@ -42,7 +42,7 @@ pub(crate) struct Judging {
     pub(crate) room: Option<usize>,
 }
 
-/// Returns what judges lines by a grammar.
+/// Makes the judges of lines by a grammar.
 pub(crate) fn judges_by(
     alloc: Global,
     grammar: &SoundAbnf,

@@ -11,9 +11,10 @@ use ruletable::{Memory, Sink, WriteFault};
 use std::alloc::Global;
 use toolrun::Ending;
 
-/// Judges lines by their first byte, and tells what the refused ones lack.
+/// A judge of lines by their first byte. It explains what the rejected ones lack.
 #[derive(Drop)]
 pub struct Comments {
+    /// Allocates the explanations.
     alloc: Global,
 }
 

@@ -18,7 +18,7 @@ use packrat::Packrat;
 use pegmatch::ReplayFault;
 use std::alloc::Global;
 
-/// Returns what the actions of the start rule print at the front of a text, each node evaluated once at each place;
+/// Prints the actions of the start rule at the front of a text, and evaluates each node once at each position. Returns
 /// none if the rule fails there.
 pub fn print_once(
     alloc: Global,

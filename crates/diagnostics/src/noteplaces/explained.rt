@@ -1,4 +1,4 @@
-//! What a grammar's text explains of notes.
+//! Explains notes by a grammar's text.
 ghost use Rattle.std.specs.Prelude.{◌≡◌, ◌++◌, ℕ, List, length, map, IfOk, OnOk, option_copied};
 ghost use Rattle.lexer.specs.TokenLists.{AreTokens, tok_of};
 ghost use Rattle.ruletable.specs.Notes.{said, said_of};

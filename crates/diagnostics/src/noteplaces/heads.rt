@@ -23,11 +23,14 @@ pub struct Head {
     pub start: usize,
 }
 
-/// A token, and what it is to the definitions.
+/// A token with its role in the definitions.
 #[derive(Clone, Copy)]
 pub(crate) struct Signed<'a> {
+    /// The role.
     pub(crate) sign: Sign,
+    /// The bytes of the token.
     pub(crate) slice: &'a [u8],
+    /// Where the token begins, in bytes from the front of the text.
     pub(crate) start: usize,
 }
 
