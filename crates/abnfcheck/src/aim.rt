@@ -7,6 +7,6 @@ use letters::Alphabet;
 pub(crate) enum Aim {
     /// That it derives the empty string.
     Empty,
-    /// That it derives some list of letters of the alphabet.
+    /// That it derives some line over the alphabet.
     Letters(Alphabet),
 }

@@ -71,7 +71,7 @@ pub fn sound_rules(alloc: Global, rules: &RuleTable<Elem>) -> Result<Vec<bool>, 
     opposites(alloc, &broken[..rules.len()])
 }
 
-/// Returns a mark for each rule of a table, by id: whether it derives some list of letters of the alphabet, as
+/// Returns a mark for each rule of a table, by id: whether it derives some line over the alphabet, as
 /// `productive` does of a sound grammar.
 ///
 /// # Errors

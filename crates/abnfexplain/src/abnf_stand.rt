@@ -115,7 +115,7 @@ pub(crate) fn stand_behind(form: Form) -> Stand
     }
 }
 
-/// A place between two tokens.
+/// A position between two tokens.
 #[derive(Drop)]
 pub(crate) struct Place {
     pub(crate) stand: Stand,

@@ -21,7 +21,7 @@ use toolrun::Status;
 /// [-z] [-x] GRAMMAR`: it judges the lines that the reader gives by the grammar in the file GRAMMAR, as `run_abnf`
 /// says, with the settings of the words.
 ///
-/// Words without a run, a grammar that cannot be read and want of memory end it as `tool_main` says.
+/// Words without a run, a grammar that cannot be read and an allocation that fails end it as `tool_main` says.
 pub(crate) fn abnfi_main<R: Files + AllocGlobal, I: Source, O: Sink, E: Sink>(
     rt: &R,
     words: &[String],

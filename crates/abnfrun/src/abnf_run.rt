@@ -30,17 +30,17 @@ use toolrun::{Status, run_tool};
 ///   grammar is to be printed.
 /// - A line ends before an LF, or before a NUL byte if the settings say so, and a last piece without an end is a line
 ///   if it is not empty; all other bytes belong to their line. It is answered by `yes` exactly if the judged rule
-///   derives it: the rule named in the settings, or else the first. The letters of a line are its bytes; or, if the
+///   derives it: the rule named in the settings, or else the first. The symbols of a line are its bytes; or, if the
 ///   settings say so, its code points in UTF-8, and then a line that is not UTF-8 is not derived. The run ends after
 ///   the last line with `Done` if all answers are `yes`, else with `NoMatch`.
 /// - The settings may ask for other things than the answers: the lines that are derived, or those that are not, each
 ///   with its end; how many there are of both, at the end of the input; or nothing. If they ask for numbers, the number
 ///   of a line from 1 and a colon stand before what is written for it.
 /// - A line that is not derived is answered by `no`. If the settings ask for the longest viable prefix, it is answered
-///   by `no N`, where that prefix has N letters. Of a line that is not UTF-8 these letters are those of its longest
+///   by `no N`, where that prefix has N symbols. Of a line that is not UTF-8 these symbols are those of its longest
 ///   prefix that is.
 /// - If the settings ask for explanations, `err` gets, before the message in which the run ends: for each of the first
-///   16 lines that are not derived, where it is rejected and which letters can follow there, all of them and no other,
+///   16 lines that are not derived, where it is rejected and which symbols can follow there, all of them and no other,
 ///   and whether the line can end there; and how many more there are.
 /// - A line of more than `limit` bytes is not answered: `line K longer than L bytes`, `Overlong`; K counts from 1.
 /// - After a fault of the reader a line is judged only if its end was read: else `read error`, `Fault`. So is an input

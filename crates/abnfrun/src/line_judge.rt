@@ -82,7 +82,7 @@ pub fn lines_have_answers()
     utf8_is_decided();
 }
 
-/// Returns the answer to the letters of a line, no more than the flat grammar serves. `Memory` if an allocation fails.
+/// Returns the answer to the symbols of a line, no more than the flat grammar serves. `Memory` if an allocation fails.
 fn judge_letters<L: Letter>(
     judges: &LineJudge<'_>,
     engines: &mut Engines,
@@ -109,7 +109,7 @@ fn judge_letters<L: Letter>(
     if yes { Ok(Answer::Yes) } else { Ok(Answer::No) }
 }
 
-/// Returns the answer to a line by the answer to its longest prefix that is UTF-8, of so many letters, where that is
+/// Returns the answer to a line by the answer to its longest prefix that is UTF-8, of so many symbols, where that is
 /// not the whole line.
 fn torn_by(said: Answer, count: usize) -> Answer
     ensures { result ≡ torn count said }
@@ -158,7 +158,7 @@ fn judge_points(judges: &LineJudge<'_>, work: &mut Work, line: &[u8]) -> Result<
     Ok(Answer::No)
 }
 
-/// Returns the lines that explain a rejected line of that number, by the flat grammar for lines of one letter more.
+/// Returns the lines that explain a rejected line of that number, by the flat grammar for lines of one symbol more.
 /// `Memory` if an allocation fails.
 fn explain_line(
     judges: &LineJudge<'_>,
@@ -251,7 +251,7 @@ pub(crate) fn lowered(
     lower(alloc, grammar, settings.limit)
 }
 
-/// Lowers a grammar for lines of one letter more than settings allow, by which rejected lines are explained, if
+/// Lowers a grammar for lines of one symbol more than settings allow, by which rejected lines are explained, if
 /// settings ask for that. `Memory` if an allocation fails.
 pub(crate) fn explainer_of(
     alloc: Global,

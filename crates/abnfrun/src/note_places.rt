@@ -98,7 +98,7 @@ fn push_behind(
     }
 }
 
-/// Returns the lines that explain a note: those of places, and by which rules the judged one reaches a name that no
+/// Returns the lines that explain a note: those of positions, and by which rules the judged one reaches a name that no
 /// rule has, or a rule that holds prose.
 ///
 /// `Memory` if an allocation fails.

@@ -111,7 +111,7 @@ fn judge_by(
 }
 
 /// Reads and checks a grammar's text, and returns the notes on it and what judges lines by it as settings ask: by the
-/// rule that they name, within their limit. They say what letters are, and whether the longest viable prefix is asked
+/// rule that they name, within their limit. They say what symbols are, and whether the longest viable prefix is asked
 /// for; all else of them is not looked at. The text's fault if it is not a grammar, or if an allocation fails.
 pub fn open_abnf(
     alloc: Global,

@@ -108,7 +108,7 @@ impl BitRow {
         Ok(())
     }
 
-    /// Tells whether it has each member of another set.
+    /// Returns whether it has each member of another set.
     pub fn has_all(&self, found: &BitRow) -> bool
         ensures { IsTrue result ↔ ((x : ℕ) → Contains found.now x → Contains self.now x) }
     {

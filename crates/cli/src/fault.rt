@@ -81,7 +81,7 @@ fn invalid_utf8(command: Result<Command<'_>, AllocError>) -> Result<Error, Alloc
     command.error(ErrorKind::ValueValidation, INVALID_UTF8)
 }
 
-/// Ends a program of that command, whose words are not all UTF-8 text: that is told on `err`, `Refused`. If an
+/// Ends a program of that command, whose words are not all UTF-8 text: that is reported on `err`, `Refused`. If an
 /// allocation fails, or failed for the command, `out of memory`, `NoMemory`.
 pub fn refuse_invalid_utf8<O: Sink, E: Sink>(
     alloc: Global,

@@ -40,7 +40,7 @@ pub enum Unready {
     NoMemory,
 }
 
-/// Reads a grammar's file: one byte more than a grammar may have is enough to tell that it is too long.
+/// Reads a grammar's file: one byte more than a grammar may have is enough to show that it is too long.
 fn read_grammar<R: Files + AllocGlobal>(rt: &R, path: &str) -> io::Result<Vec<u8>> {
     let mut bytes = Vec::new(rt.alloc());
     fs::open(rt, path)?

@@ -1,4 +1,4 @@
-//! The places of a flat grammar, numbered, with what each does.
+//! The dotted rules of a flat grammar, numbered, with their actions.
 ghost use Rattle.std.specs.Prelude.{◌≡◌, ◌+◌, ℕ, List, Some, IfOk, IfSome, IsTrue, slice_get};
 ghost use Rattle.flatgrammar.specs.Blocks.{spot, item_at, call_at};
 ghost use Rattle.flatgrammar.specs.Places.{AreDifferent};
@@ -405,7 +405,7 @@ fn is_whole_reached(flat: &Tables, roots: &[RootPlaces]) -> bool
     }
 }
 
-/// Returns the table of a grammar's places. `None` if it has too many. `Memory` if an allocation fails.
+/// Returns the table of a grammar's dotted rules. `None` if it has too many. `Memory` if an allocation fails.
 pub(crate) fn place_table(alloc: Global, flat: Rc<Tables>) -> Result<Option<PlaceTable>, Memory>
     ensures same { IfOk result (λ table. IfSome table (λ t. t.flat ≡ flat)) }
     ensures table { IfOk result (λ table. IfSome table IsPlaceTable) }

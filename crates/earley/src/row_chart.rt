@@ -261,7 +261,7 @@ fn judge_by_table<L: Letter>(
 }
 
 /// Judges a line by rows: returns its sets, and whether the last holds the whole's end with origin 0. `None` if the
-/// line is too long, or the grammar has too many places. `Memory` if an allocation fails.
+/// line is too long, or the grammar has too many dotted rules. `Memory` if an allocation fails.
 pub(crate) fn judge_rows<L: Letter>(
     alloc: Global,
     flat: Rc<Tables>,

@@ -48,8 +48,8 @@ fn complete_listed(waiters: &[Waiter], first: usize, set: &mut Items) -> Result<
     Ok(())
 }
 
-/// Completes an item's root: advances the one place that alone calls the root, or else the root's waiting list in the
-/// set of the item's origin. Where that is the set in work, nothing waits.
+/// Completes an item's root: advances the one dotted rule that alone calls the root, or else the root's waiting list in
+/// the set of the item's origin. Where that is the set in work, nothing waits.
 #[inline(always)]
 fn complete_root(flat: &Tables, sets: &Sets, at: HomedItem, set: &mut Items) -> Result<(), Memory>
     requires alone { AreAlone flat.now }
@@ -120,7 +120,7 @@ fn predict(called: Option<(usize, usize)>, heads: &mut Heads) -> Result<(), Memo
     Ok(())
 }
 
-/// Advances an item over a nullable root that it calls, which is given, but for a turn that takes a letter, as is
+/// Advances an item over a nullable root that it calls, which is given, but for an iteration that takes a symbol, as is
 /// given.
 fn advance_nullable(
     flat: &Tables,
@@ -151,7 +151,7 @@ fn advance_nullable(
     Ok(())
 }
 
-/// Advances an item over a nullable root, and completes one that is done. What its place does is given.
+/// Advances an item over a nullable root, and completes one that is done. What its dotted rule does is given.
 fn advance(
     flat: &Tables,
     sets: &Sets,

@@ -1,4 +1,4 @@
-//! The items of a set by what comes after their dot: a call, or letters.
+//! The items of a set by what comes after their dot: a call, or symbols.
 ghost use Rattle.std.specs.Prelude.{◌≡◌, ◌++◌, ◌∷◌, ℕ, List, [], IsTrue, IfOk};
 ghost use Rattle.flatgrammar.specs.TableViews.{call_of};
 ghost use Rattle.flatgrammar.specs.declared.flat_item.Item as code_item;
@@ -71,7 +71,7 @@ pub(crate) fn keep_caller(
     }
 }
 
-/// Adds an item if it may read a letter, as is given.
+/// Adds an item if it may read a symbol, as is given.
 pub(crate) fn keep_reader(
     at: HomedItem,
     reads: bool,

@@ -20,11 +20,11 @@ pub trait Source {
     /// Whether a call has failed.
     ghost failed: { Self → Bool };
 
-    /// Whether a call has told the end.
+    /// Whether a call has reported the end.
     ghost ended: { Self → Bool };
 
     /// Puts the next bytes at the front of `buffer` and answers how many, or fails and takes nothing.
-    /// 0 into a buffer that is not empty tells the end: none is to come. Nothing is asked behind a failure or the end.
+    /// 0 into a buffer that is not empty reports the end: none is to come. Nothing is asked after a failure or the end.
     fn read(&mut self, buffer: &mut [u8]) -> Result<usize, Broken>
         requires not_failed { failed self.old ≡ false }
         requires not_ended { ended self.old ≡ false }
@@ -47,7 +47,7 @@ pub struct SourceOf<R> {
 }
 
 impl<R: io::Read> SourceOf<R> {
-    /// Returns a source that has neither failed nor told its end.
+    /// Returns a source that has neither failed nor reported its end.
     pub fn new(inner: R) -> SourceOf<R>
         ensures remaining { ⟦<SourceOf<R> as Source>⟧.remaining result ≡ R.remaining inner }
         ensures failed { ⟦<SourceOf<R> as Source>⟧.failed result ≡ false }

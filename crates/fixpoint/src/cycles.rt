@@ -1,4 +1,4 @@
-//! Numbers that come back to themselves by steps, and ranks that all other steps lower.
+//! Numbers on cycles of steps, and ranks that all other steps lower.
 //!
 //! The search keeps a path whose numbers each lead to the next, and divides it into parts whose numbers lead to each
 //! other (Gabow, "Path-based depth-first search for strong and biconnected components", 2000). It has no recursion: the

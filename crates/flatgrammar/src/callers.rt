@@ -14,11 +14,11 @@ use std::alloc::Global;
 /// The callers of a node.
 #[derive(Clone, Copy)]
 pub(crate) enum Caller {
-    /// No place.
+    /// No dotted rule.
     Nobody,
-    /// This place alone.
+    /// This dotted rule alone.
     One(Spot),
-    /// Any places.
+    /// Several dotted rules, or a repetition.
     Many,
 }
 

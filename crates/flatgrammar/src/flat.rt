@@ -44,7 +44,7 @@ impl Model for Flat {
 
 impl Flat {
     /// Returns the flat grammar of these nodes, of which the nullable ones are marked, for lines of at most `limit`
-    /// letters. `Memory` if an allocation fails.
+    /// symbols. `Memory` if an allocation fails.
     pub fn new(
         alloc: Global,
         nodes: Vec<Node>,
@@ -113,7 +113,7 @@ impl Flat {
         }
     }
 
-    /// Returns whether that node is passed without a letter.
+    /// Returns whether that node is passed without a symbol.
     pub fn is_nullable(&self, n: usize) -> bool
         ensures { IsTrue result ↔ Nullable self.now.nodes self.now.bodies n }
     {
@@ -130,7 +130,7 @@ impl Flat {
         self.tables.whole
     }
 
-    /// Returns how many letters a line may have.
+    /// Returns how many symbols a line may have.
     pub fn limit(&self) -> usize
         ensures { result ≡ self.now.limit }
     {

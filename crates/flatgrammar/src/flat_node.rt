@@ -6,21 +6,21 @@ ghost use Rattle.flatgrammar.specs.FlatViews.{set_of, node_of};
 ghost use Rattle.flatgrammar.specs.NodeSteps.{begin_count, is_done, callee, call_count, turned, takes, read_at};
 ghost use Rattle.flatgrammar.specs.NodeSteps.{IfSomeSet};
 
-/// A set of letters.
+/// A set of symbols.
 #[derive(Clone, Copy)]
 pub enum Set {
-    /// This letter.
+    /// This symbol.
     Exactly(u32),
-    /// This letter and its other case.
+    /// This symbol and its other case.
     EitherCase(u32),
-    /// The letters from `low` to `high`.
+    /// The symbols from `low` to `high`.
     Between { low: u32, high: u32 },
 }
 
 /// An element with the numbers of its operands in their place.
 #[derive(Drop)]
 pub enum Node {
-    /// One letter of each set, in order.
+    /// One symbol of each set, in order.
     Letters(Vec<Set>),
     /// All of them, in order.
     Concat(Vec<usize>),
@@ -55,7 +55,7 @@ fn small(value: u32) -> u32
     }
 }
 
-/// Returns whether a set holds a letter.
+/// Returns whether a set holds a symbol.
 pub(crate) fn has(set: &Set, value: u32) -> bool
     ensures { IsTrue result ↔ Has (set_of set.now) value }
 {
@@ -85,7 +85,7 @@ fn ends_of_set(set: &Set) -> Ends
     Ends { least, greatest }
 }
 
-/// Returns ends between which the letter that a step reads is too.
+/// Returns ends between which the symbol that a step reads is too.
 pub(crate) fn widened(node: &Node, step: usize, ends: Ends) -> Ends
     ensures wider { (result.least ≤ ends.least) × (ends.greatest ≤ result.greatest) }
     ensures held { (c : ℕ) → IfSomeSet (read_at (node_of node.now) step) c
@@ -217,7 +217,7 @@ pub(crate) fn callee(node: &Node, step: usize) -> Option<(usize, usize)>
     node_deed(node, step).called
 }
 
-/// Returns how many of a node's first steps may call something, its turns left out.
+/// Returns how many of a node's first steps may call something, its iterations left out.
 pub(crate) fn call_count(node: &Node) -> usize
     ensures { result ≡ call_count (node_of node.now) }
 {
@@ -228,7 +228,7 @@ pub(crate) fn call_count(node: &Node) -> usize
     }
 }
 
-/// Returns the operand whose turns a node repeats.
+/// Returns the operand that a node repeats.
 pub(crate) fn turned(node: &Node) -> Option<usize>
     ensures { result ≡ turned (node_of node.now) }
 {
@@ -238,7 +238,7 @@ pub(crate) fn turned(node: &Node) -> Option<usize>
     }
 }
 
-/// Returns whether each turn of a node takes a letter.
+/// Returns whether each iteration of a node takes a symbol.
 #[inline(always)]
 pub(crate) fn takes(node: &Node) -> bool
     ensures { result ≡ takes (node_of node.now) }
@@ -249,7 +249,7 @@ pub(crate) fn takes(node: &Node) -> bool
     }
 }
 
-/// Returns whether a step may read a letter.
+/// Returns whether a step may read a symbol.
 #[inline(always)]
 pub(crate) fn may_read(node: &Node, step: usize) -> bool
     ensures { IsTrue result ↔ (read_at (node_of node.now) step ≢ None) }
@@ -260,7 +260,7 @@ pub(crate) fn may_read(node: &Node, step: usize) -> bool
     }
 }
 
-/// Returns whether a step reads a letter.
+/// Returns whether a step reads a symbol.
 pub(crate) fn reads(node: &Node, step: usize, value: u32) -> bool
     ensures value { IsTrue result ↔ IfSomeSet (read_at (node_of node.now) step) value }
     ensures fits { IsTrue result → step + 1 < 2 ^ 64 }

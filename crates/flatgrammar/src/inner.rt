@@ -1,4 +1,4 @@
-//! Nodes that one place alone calls, where another node begins.
+//! Nodes that one dotted rule alone calls, where another node begins.
 ghost use Rattle.std.specs.Prelude.{◌≡◌, ◌↔◌, ℕ, Some, IsTrue, IfOk, IfSome};
 ghost use Rattle.flatgrammar.specs.Blocks.{spot, begin_count, call_at};
 ghost use Rattle.flatgrammar.specs.TableViews.{whole_root as the_whole};
@@ -34,7 +34,7 @@ pub fn begin_steps(flat: &Tables, node: usize) -> usize
     }
 }
 
-/// Returns the place that alone calls a node, if the node stands in the block of another.
+/// Returns the dotted rule that alone calls a node, if the node stands in the block of another.
 pub(crate) fn inner_at(inners: &[Option<Inner>], node: usize) -> Option<Inner>
     ensures { result ≡ the_inner inners.now node }
 {
@@ -99,7 +99,7 @@ fn inner_of(flat: &Tables, caller: Caller, inners: &[Option<Inner>], node: usize
     }
 }
 
-/// Returns for each node the place that alone calls it, if the node stands in the block of another.
+/// Returns for each node the dotted rule that alone calls it, if the node stands in the block of another.
 pub(crate) fn find_inners(alloc: Global, flat: &Tables) -> Result<Vec<Option<Inner>>, Memory>
     ensures { IfOk result (λ inners. AreInners flat.now inners.items) }
 {

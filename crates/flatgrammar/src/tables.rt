@@ -49,7 +49,7 @@ fn rooted(flat: &Tables, called: Option<(usize, usize)>) -> Option<(usize, usize
     }
 }
 
-/// Returns the root that an item's place calls, and the step after it.
+/// Returns the root that an item's dotted rule calls, and the step after it.
 #[inline(always)]
 pub fn call(flat: &Tables, item: Item) -> Option<(usize, usize)>
     ensures { result ≡ call_of flat.now item }
@@ -58,7 +58,7 @@ pub fn call(flat: &Tables, item: Item) -> Option<(usize, usize)>
     rooted(flat, callee(node, item.step))
 }
 
-/// Returns whether what an item's place calls has to take a letter.
+/// Returns whether what an item's dotted rule calls has to take a symbol.
 pub fn takes_letter(flat: &Tables, item: Item) -> bool
     ensures { result ≡ takes_of flat.now item }
 {
@@ -139,7 +139,7 @@ pub fn asks(flat: &Tables, head: usize) -> &[Ask]
     }
 }
 
-/// Returns of the dotted rules of a root's block at least those that read a letter.
+/// Returns of the dotted rules of a root's block at least those that read a symbol.
 pub fn readers(flat: &Tables, head: usize, value: u32) -> &[Spot]
     ensures { result.now ≡ the_readers_of flat.now head value }
 {
@@ -175,7 +175,7 @@ pub fn passes(flat: &Tables, head: usize) -> &[Spot]
     }
 }
 
-/// Returns the place that alone calls a root, if the root stands in the block of another.
+/// Returns the dotted rule that alone calls a root, if the root stands in the block of another.
 pub fn sole_caller(flat: &Tables, root: usize) -> Option<Inner>
     ensures { result ≡ inner_of flat.now root }
 {
@@ -192,7 +192,7 @@ pub fn whole_root(flat: &Tables) -> Option<usize>
     }
 }
 
-/// Returns whether an item's place reads a letter.
+/// Returns whether an item's dotted rule reads a symbol.
 pub fn reads(flat: &Tables, item: Item, value: u32) -> bool
     ensures value { IsTrue result ↔ IfSomeSet (read_of flat.now item) value }
     ensures fits { IsTrue result → item.step + 1 < 2 ^ 64 }

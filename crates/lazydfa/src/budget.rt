@@ -39,14 +39,14 @@ impl Budget {
         }
     }
 
-    /// Adds the turns that `letters` symbols earn.
+    /// Adds the earnings of `letters` symbols.
     pub(crate) fn earn(&mut self, letters: usize) {
         let more = letters.saturating_mul(TURNS).min(self.gift);
         self.gift = self.gift.saturating_sub(more);
         self.turns = self.turns.saturating_add(more).saturating_add(letters);
     }
 
-    /// Subtracts the turns that were spent.
+    /// Subtracts spent turns.
     pub(crate) fn spend(&mut self, turns: usize) {
         self.turns = self.turns.saturating_sub(turns);
     }

@@ -72,7 +72,7 @@ pub(crate) fn forget(cache: &mut Cache)
     cache.cells.clear();
 }
 
-/// Returns whether a continuation reads a letter.
+/// Returns whether a continuation reads a symbol.
 fn cont_reads(tables: &Tables, id: usize, value: u32, conts: &Conts) -> bool
     requires within { id ≤ length conts.now.items.items }
     requires older { AreOlder conts.now.items.items }
@@ -96,7 +96,7 @@ fn cont_reads(tables: &Tables, id: usize, value: u32, conts: &Conts) -> bool
     )
 }
 
-/// Returns whether one of the continuations reads a letter.
+/// Returns whether one of the continuations reads a symbol.
 pub(crate) fn any_reads(tables: &Tables, tops: &[usize], value: u32, conts: &Conts) -> bool
     requires within { (id : ℕ) → Contains tops.now id → id ≤ length conts.now.items.items }
     requires older { AreOlder conts.now.items.items }

@@ -1,4 +1,4 @@
-//! Where one continuation goes on without a letter.
+//! Where one continuation goes on without a symbol.
 ghost use Rattle.std.specs.Prelude.{◌≡◌, ◌↔◌, ◌||◌, ◌<◌, ◌≤◌, ◌∷◌, ◌+◌, ℕ, true, List, [], IsTrue, IfOk, IfSome};
 ghost use Rattle.std.specs.Prelude.{length, slice_get, Some, Contains};
 ghost use Rattle.flatgrammar.specs.Flat.{Place};
@@ -95,7 +95,7 @@ pub(crate) fn enter(
     Ok(())
 }
 
-/// Returns whether nothing is left to do at a place.
+/// Returns whether nothing is left to do at a dotted rule.
 fn is_last(tables: &Tables, node: usize, step: usize) -> bool
     ensures { result ≡ last_of tables.now (Place.at node step) }
 {
@@ -137,7 +137,7 @@ fn after(
     )
 }
 
-/// Adds the continuations where what a place calls begins, before what is left to do after it.
+/// Adds the continuations where what a dotted rule calls begins, before what is left to do after it.
 fn call_on(tables: &Tables, cont: Cont, conts: &mut Conts, ids: &mut Ids) -> Result<(), Memory>
     requires within { cont.next ≤ length conts.old.items.items }
     requires older { AreOlder conts.old.items.items }
@@ -172,7 +172,8 @@ pub(crate) fn cont_at(conts: &Conts, id: usize) -> Cont
     conts.items[id - 1]
 }
 
-/// Adds what a continuation goes on to without a letter, and returns whether it is a place alone whose node is done.
+/// Adds what a continuation goes on to without a symbol, and returns whether it is a dotted rule alone whose node is
+/// done.
 fn expand(tables: &Tables, id: usize, conts: &mut Conts, ids: &mut Ids) -> Result<bool, Memory>
     requires within { id ≤ length conts.old.items.items }
     requires older { AreOlder conts.old.items.items }
@@ -210,8 +211,8 @@ fn either(a: bool, b: bool) -> bool
     a || b
 }
 
-/// Adds all that ids go on to without a letter, and returns whether one of them is a place alone whose node is done;
-/// `None` if that goes over more of them than there may be. `Memory` if an allocation fails.
+/// Adds all that ids go on to without a symbol, and returns whether one of them is a dotted rule alone whose node is
+/// done; `None` if that goes over more of them than there may be. `Memory` if an allocation fails.
 pub(crate) fn close(
     tables: &Tables,
     conts: &mut Conts,

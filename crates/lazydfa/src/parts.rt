@@ -11,7 +11,7 @@ use flatgrammar::Tables;
 use ruletable::Memory;
 use std::alloc::Global;
 
-/// How many places of a part are looked at for one that stands there twice.
+/// How many dotted rules of a part are looked at for one that stands there twice.
 const DEPTH: usize = 64;
 
 /// Stacks whose shared suffix was split off.
@@ -117,7 +117,7 @@ fn may_split(conts: &Conts, front: &Front, part: usize) -> bool
     !front.ended && 0 < part && part <= conts.items.len()
 }
 
-/// Splits off what all tops stand on, if a place stands there twice and none of them has ended. `Memory` if an
+/// Splits off what all tops stand on, if a dotted rule stands there twice and none of them has ended. `Memory` if an
 /// allocation fails.
 pub(crate) fn split_off(
     alloc: Global,
@@ -151,7 +151,7 @@ pub(crate) fn split_off(
     Ok(Some(Split { tops, part }))
 }
 
-/// Returns tops put on a part, beside what the part goes on to without a letter; `None` if that goes over more ids
+/// Returns tops put on a part, beside what the part goes on to without a symbol; `None` if that goes over more ids
 /// than there may be. `Memory` if an allocation fails.
 pub(crate) fn put_back(
     alloc: Global,

@@ -16,8 +16,8 @@ pub(crate) struct Move {
     pub(crate) on: usize,
 }
 
-/// Takes the places of a continuation down to one below it, from the top on; returns whether it stands on that one.
-/// `Memory` if an allocation fails.
+/// Takes the dotted rules of a continuation down to one below it, from the top on; returns whether it stands on that
+/// one. `Memory` if an allocation fails.
 fn take_spine(conts: &Conts, top: usize, off: usize, spine: &mut Vec<Cont>) -> Result<bool, Memory>
     requires within { top ≤ length conts.now.items.items }
     requires older { AreOlder conts.now.items.items }
@@ -40,7 +40,7 @@ fn take_spine(conts: &Conts, top: usize, off: usize, spine: &mut Vec<Cont>) -> R
     Ok(id == off)
 }
 
-/// Puts places on what is below, and returns the id of what comes of that. `Memory` if an allocation fails.
+/// Puts dotted rules on what is below, and returns the id of what comes of that. `Memory` if an allocation fails.
 fn put_spine(conts: &mut Conts, spine: &mut Vec<Cont>, on: usize) -> Result<usize, Memory>
     requires within { on ≤ length conts.old.items.items }
     requires older { AreOlder conts.old.items.items }

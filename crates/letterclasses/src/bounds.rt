@@ -1,4 +1,4 @@
-//! Numbers where classes of letters begin.
+//! Numbers where classes of symbols begin.
 ghost use Rattle.std.specs.Prelude.{IsTrue, IfOk, Contains};
 ghost use Rattle.letterclasses.specs.ClassBounds.{IsBoundAdded};
 

@@ -54,10 +54,10 @@ impl Outcome {
     }
 }
 
-/// One entry of the log: a key, or keys of a node at places in a row.
+/// One entry of the log: a key, or keys of a node at positions in a row.
 #[derive(Clone, Copy)]
 pub(crate) enum Entry {
-    /// The tail of a node from a member on, at a place.
+    /// The tail of a node from a member on, at a position.
     Member {
         ending: Ending,
         node: u32,
@@ -66,7 +66,7 @@ pub(crate) enum Entry {
         end: u32,
         events: u32,
     },
-    /// A node at the places from `from` to `to`, all with one outcome.
+    /// A node at the positions from `from` to `to`, all with one outcome.
     Run {
         ending: Ending,
         node: u32,
@@ -75,7 +75,7 @@ pub(crate) enum Entry {
         end: u32,
         events: u32,
     },
-    /// A node at the places from `from` on, short of `to`, at each of which it takes one byte.
+    /// A node at the positions from `from` on, short of `to`, at each of which it takes one byte.
     Steps {
         node: u32,
         from: u32,
@@ -125,7 +125,7 @@ impl Entry {
         }
     }
 
-    /// Returns an entry of a node at the places from `from` to `to`.
+    /// Returns an entry of a node at the positions from `from` to `to`.
     ///
     /// # Errors
     /// `Memory` if a number does not fit into 32 bits.
@@ -145,7 +145,7 @@ impl Entry {
         })
     }
 
-    /// Returns an entry of a node that takes one byte at each place from `from` on, short of `to`.
+    /// Returns an entry of a node that takes one byte at each position from `from` on, short of `to`.
     ///
     /// # Errors
     /// `Memory` if a number does not fit into 32 bits.

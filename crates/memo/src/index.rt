@@ -173,7 +173,7 @@ fn add(
 }
 
 impl Index {
-    /// Returns an index without places; it takes no memory.
+    /// Returns an index without cells; it takes no memory.
     pub(crate) fn new(alloc: Global) -> Index
         ensures { result ≡ [] }
     {
@@ -191,10 +191,10 @@ impl Index {
         self.heads.clear();
     }
 
-    /// Adds a place: the number of a key, and the entry that has the key.
+    /// Adds a cell: the number of a key, and the entry that has the key.
     ///
     /// # Errors
-    /// `Memory` if an allocation fails; no place is added.
+    /// `Memory` if an allocation fails; no cell is added.
     pub(crate) fn push(&mut self, number: usize, entry: u32) -> Result<(), Memory>
         ensures added { OnOk result (self.new ≡ self.old ++ record { number = number; entry = entry } ∷ []) }
         ensures unchanged { OnErr result (self.new ≡ self.old) }

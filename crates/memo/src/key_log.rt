@@ -178,7 +178,7 @@ impl KeyLog {
         Ok(())
     }
 
-    /// Returns the mark of a row: a place that no stored key of the row reaches.
+    /// Returns the mark of a row: a position that no stored key of the row reaches.
     #[inline(always)]
     pub fn mark(&self, row: usize) -> usize
         ensures { (s : Stored) → IsIn s self.now.stored → row_of s.spot ≡ row → place_of s.spot < result }
@@ -266,8 +266,8 @@ impl KeyLog {
         self.store(entry)
     }
 
-    /// Stores what was found for the pairs of a node at the places from `from` to `to`. The node must be a row that the
-    /// log has.
+    /// Stores what was found for the pairs of a node at the positions from `from` to `to`. The node must be a row that
+    /// the log has.
     ///
     /// # Errors
     /// `Memory` if an allocation fails, or if a number does not fit into 32 bits; nothing is stored.
@@ -288,8 +288,8 @@ impl KeyLog {
         self.store(entry)
     }
 
-    /// Stores that a node takes one byte, with no events, at each place from `from` on, short of `to`. The node must be
-    /// a row that the log has.
+    /// Stores that a node takes one byte, with no events, at each position from `from` on, short of `to`. The node must
+    /// be a row that the log has.
     ///
     /// # Errors
     /// `Memory` if an allocation fails, or if a number does not fit into 32 bits; nothing is stored.

@@ -13,7 +13,7 @@ pub struct Bytes<'a> {
 }
 
 impl<'a> Bytes<'a> {
-    /// Returns a reader that gives these bytes, and has not told their end.
+    /// Returns a reader that gives these bytes, and has not reported their end.
     pub fn new(bytes: &'a [u8]) -> Bytes<'a>
         ensures remaining { ⟦<Bytes<'a> as Source>⟧.remaining result ≡ Some bytes.entry.now }
         ensures ended { ⟦<Bytes<'a> as Source>⟧.ended result ≡ false }

@@ -156,9 +156,9 @@ impl Matcher for Packrat {
     /// with the window. At `Need` no frame is left, and stored are reached keys with their outcomes. The pairs that
     /// were begun are visited ones before the window's end, each begun once. A failure and `Need` leave no events.
     ///
-    /// However it ends, it has counted one match, and has begun at most as many pairs as there are nodes at the places
-    /// up to where the start rule looks. With `more` they are also at most as many as there are nodes at the window's
-    /// bytes.
+    /// However it ends, it has counted one match, and has begun at most as many pairs as there are nodes at the
+    /// positions up to where the start rule looks. With `more` they are also at most as many as there are nodes at the
+    /// window's bytes.
     ///
     /// # Errors
     /// `Memory` if an allocation fails, or if a count does not fit in 32 bits; nothing is stored.

@@ -63,8 +63,8 @@ fn push_behind(
 
 /// Returns the lines that explain a note on a grammar, where a name may be given for the start rule: where the note's
 /// rule is first defined, and where it is defined again; the use by which a name is noted that no rule has; the steps
-/// by which a left-recursive rule comes back to itself, or where it is defined if `MAX_WAYS` such rules stand before
-/// it; what a rule repeats that may take nothing. There are none for notes of other kinds.
+/// by which left steps of a left-recursive rule lead back to it, or where it is defined if `MAX_WAYS` such rules
+/// stand before it; what a rule repeats that may take nothing. There are none for notes of other kinds.
 ///
 /// # Errors
 /// `Memory` if an allocation fails.

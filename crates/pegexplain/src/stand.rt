@@ -29,7 +29,7 @@ pub(crate) enum Stand {
     Done,
 }
 
-/// A place between two tokens.
+/// A position between two tokens.
 #[derive(Clone, Copy)]
 pub(crate) struct Place {
     pub(crate) stand: Stand,
@@ -138,7 +138,7 @@ impl Place {
         }
     }
 
-    /// Returns the place after a token of the kind, if one can stand here.
+    /// Returns the position after a token of the kind, if one can stand here.
     pub(crate) fn after(self, kind: Kind) -> Option<Place>
         requires { self.depth ≤ max_open }
         ensures { result ≡ goes self.stand self.depth kind }

@@ -1,4 +1,4 @@
-//! Nodes whose outcome at a place is decided by the byte there alone.
+//! Nodes whose outcome at a position is decided by the byte there alone.
 ghost use Rattle.std.specs.Prelude.{◌≡◌, ℕ, ◌+◌, Bool, List, IfSome, slice_get, Some, get_or, false};
 ghost use Rattle.pegnodes.specs.ByByte.{ByByte};
 ghost use Rattle.pegnodes.specs.Decides.{Decides, DecidesBelow, DecidesShape, DecidesMembers, DecidesAlternatives};
@@ -11,7 +11,7 @@ use crate::keys::{is_key_of_members, mark_or};
 use crate::node::Node;
 use ruletable::ByteSet;
 
-/// Says what a node does at a place, where the byte there alone decides it.
+/// Says what a node does at a position, where the byte there alone decides it.
 #[derive(Clone, Copy)]
 pub enum Verdict {
     /// Takes the byte.

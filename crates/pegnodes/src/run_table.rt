@@ -174,8 +174,8 @@ impl RunTable {
         self.entries[usize::from(b)]
     }
 
-    /// Returns how far the node takes the bytes of a window from a place up to another, and how many pairs the turns of
-    /// a repetition over them are.
+    /// Returns how far the node takes the bytes of a window from a position up to another, and how many pairs the
+    /// iterations of a repetition over them are.
     pub fn run(&self, window: &[u8], from: usize, to: usize) -> Run
         requires from { from ≤ to }
         requires to { to ≤ length window.now }

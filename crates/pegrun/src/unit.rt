@@ -28,7 +28,7 @@ pub enum Step {
     Stops(Stop),
 }
 
-/// Returns how a run ends where no unit goes on at a place.
+/// Returns how a run ends where no unit goes on at a position.
 fn stop_where(place: usize, len: usize) -> Stop
     ensures { result ≡ stop_at place len }
 {

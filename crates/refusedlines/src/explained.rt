@@ -146,7 +146,7 @@ fn explain_points(
 
 /// Adds the lines that explain a rejected line: where it is rejected, what can follow there, and a picture of that
 /// position; or that the judged rule derives nothing. The flat grammar must be that of `lower_viable` for the grammar
-/// and its letters, and the line must have fewer bytes than `flat.limit()`. The chart is filled anew.
+/// and its symbols, and the line must have fewer bytes than `flat.limit()`. The chart is filled anew.
 ///
 /// # Errors
 /// `Memory` if an allocation fails; a part of the lines may be added then.

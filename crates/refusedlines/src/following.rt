@@ -91,7 +91,7 @@ pub fn find_following<L: Letter>(
     find_behind(alloc, chart, flat, &line[..after])
 }
 
-/// Returns nothing. Its contract is a law: at most one list of runs has the letters that can follow the first letters
+/// Returns nothing. Its contract is a law: at most one list of runs has the symbols that can follow the first symbols
 /// of a line.
 pub fn following_is_one()
     ensures { (has : ℕ → Bool) (rules : List Rule) (id : ℕ) (x : List ℕ) (n : ℕ) (runs others : List the_run)

@@ -22,9 +22,9 @@ pub struct RefusedLine<'a> {
 /// Where a line is rejected.
 #[derive(Clone, Copy)]
 pub(crate) enum RefusedAt {
-    /// At the letter with that number, from 1.
+    /// At the symbol with that number, from 1.
     Letter(usize),
-    /// At bytes that are not UTF-8, where the letter with that number would stand.
+    /// At bytes that are not UTF-8, where the symbol with that number would stand.
     NoText(usize),
     /// At its end.
     End,
@@ -43,7 +43,7 @@ pub(crate) struct Refusal {
     pub(crate) following: Following,
 }
 
-/// Returns where a line is rejected: after so many of its letters, of which there are that many, before bytes that are
+/// Returns where a line is rejected: after so many of its symbols, of which there are that many, before bytes that are
 /// not UTF-8 or the end.
 pub(crate) fn refused_at(after: usize, letters: usize, torn: bool) -> RefusedAt
     requires { after + 1 < 2 ^ 64 }

@@ -20,7 +20,7 @@ pub trait Sink {
     /// Whether a call has failed.
     ghost failed: { Self → Bool };
 
-    /// Takes a beginning of `bytes`, or fails and takes nothing. Nothing is written behind a failure.
+    /// Takes a prefix of `bytes`, or fails and takes nothing. Nothing is written after a failure.
     fn write(&mut self, bytes: &[u8]) -> Result<usize, WriteFault>
         requires { failed self.old ≡ false }
         ensures within { IfOk result (λ n. n ≤ length bytes.now) }

@@ -44,7 +44,7 @@ impl Fields {
         Some(numbers)
     }
 
-    /// Tells whether a field is this text.
+    /// Returns whether a field is this text.
     pub fn is(&self, at: usize, text: &[u8]) -> bool {
         self.text(at) == text
     }

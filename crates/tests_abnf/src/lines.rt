@@ -56,8 +56,8 @@ pub(crate) fn judges_by(
     judges_of(alloc, flat, how.room)
 }
 
-/// Tells whether an automaton, if there is one and it answers, says the same of a line as the item sets, and of how far
-/// it begins something.
+/// Returns whether an automaton, if there is one and it answers, says the same of a line as the item sets, and of how
+/// far it begins something.
 pub(crate) fn agrees<L: Letter>(judges: &mut Judges, line: &[L]) -> Result<bool, Memory> {
     if line.len() > judges.flat.limit() {
         return Err(Memory);

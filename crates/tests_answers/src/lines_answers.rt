@@ -151,7 +151,7 @@ fn tells_numbers(rt: HostRuntime) {
     );
 }
 
-/// Eighteen lines that are too long, one of them behind a short one.
+/// Eighteen lines that are too long, one of them after a short one.
 static LONG_LINES: &[u8] =
     b"abc\nabc\nabc\nabc\nabc\nabc\nabc\nabc\nabc\na\nabc\nabc\nabc\nabc\nabc\nabc\nabc\nabc\nabcd";
 

@@ -1,4 +1,4 @@
-//! Laws of stacks of places.
+//! Laws of stacks of dotted rules.
 ghost use Rattle.std.specs.Prelude.{◌≡◌, ◌↔◌, ◌++◌, ◌+◌, ◌∷◌, ℕ, true, false, Bool, List, [], Some, Contains};
 ghost use Rattle.std.specs.Prelude.{slice_get};
 ghost use Rattle.flatgrammar.specs.Flat.{Flat, Place, Concat};
@@ -7,7 +7,7 @@ ghost use Rattle.flatgrammar.specs.Holds.{HasItem};
 ghost use Rattle.letterclasses.specs.Stacks.{Reach, Accepts, ReadBy, TellsLast, AreUncounted, AreAlike};
 ghost use Rattle.letterclasses.specs.Stacks.{IsPlain, IsFront, IsNext, IsUnfolded, Lifted, IsReading};
 
-/// Returns nothing. Its contract is a law: stacks and item sets hold the same places, and accept the same lines.
+/// Returns nothing. Its contract is a law: stacks and item sets hold the same dotted rules, and accept the same lines.
 pub fn stacks_tell()
     ensures { (flat : Flat) (last : Place → Bool) (body : ℕ) (x : List ℕ) → TellsLast flat last → AreUncounted flat
         → slice_get flat.nodes flat.whole ≡ Some (Concat (body ∷ [])) → (j : ℕ) →
@@ -15,8 +15,8 @@ pub fn stacks_tell()
         (((stack : List Place) × Reach flat last x j stack) ↔ HasItem flat x j) }
 {}
 
-/// Returns nothing. Its contract is a law: a transition, computed from tops alone and for one letter of a class, leads
-/// from the front before a letter of that class to the front after it; and something is reached after it exactly if a
+/// Returns nothing. Its contract is a law: a transition, computed from tops alone and for one symbol of a class, leads
+/// from the front before a symbol of that class to the front after it; and something is reached after it exactly if a
 /// top reads it.
 pub fn a_letter_leads_on()
     ensures { (flat : Flat) (last : Place → Bool) (x : List ℕ) (j c d : ℕ) → slice_get x j ≡ Some c →

@@ -9,7 +9,7 @@ use std::alloc::Global;
 use std::collections::HashMap;
 use std::marker::Model;
 
-/// A node at a place.
+/// A node at a position.
 #[derive(Clone, Copy, PartialEq, Eq, Hash)]
 pub(crate) struct Pair {
     pub(crate) node: usize,
@@ -64,7 +64,7 @@ impl CellMap {
         self.cells.get(&Pair { node, place }).copied()
     }
 
-    /// Adds a cell. The node must have none at that place.
+    /// Adds a cell. The node must have none at that position.
     ///
     /// # Errors
     /// `Memory` if an allocation fails; no cell is added.

@@ -1,4 +1,4 @@
-//! The machine that evaluates each node at each place at most once.
+//! The machine that evaluates each node at each position at most once.
 ghost use Rattle.std.specs.Prelude.{◌≡◌, ℕ, ◌+◌, ◌*◌, ◌<◌, ◌≤◌, Bool, List, [], ◌∷◌, length, true, slice_get, Some};
 ghost use Rattle.std.specs.Prelude.{IfOk, OnOk, OnErr};
 ghost use Rattle.gramcheck.specs.Grammar.{IsSoundGrammar};

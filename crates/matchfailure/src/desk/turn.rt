@@ -19,7 +19,7 @@ use pegnodes::Node;
 /// The next step of an evaluation.
 #[derive(Clone, Copy)]
 pub(crate) enum Turn {
-    /// It asks for what a node gives at a place; so many of its members are done, and those before end there.
+    /// It asks for what a node gives at a position; so many of its members are done, and those before end there.
     Ask {
         node: usize,
         place: usize,
@@ -98,7 +98,7 @@ pub(crate) fn not(found: Option<Found>, operand: usize, place: usize) -> Turn
     }
 }
 
-/// Returns the result of the remainder of a repetition at the end of one turn of it.
+/// Returns the result of the remainder of a repetition at the end of one iteration.
 pub(crate) fn again(cells: &CellMap, node: usize, end: usize) -> Turn
     ensures { result ≡ again_turn node end (found_at cells.now node end) }
 {

@@ -26,7 +26,7 @@ pub struct Farthest {
 /// the window, with all that was expected there; nothing if no comparison fails outside of `!`. The window is taken as
 /// the whole rest of the input, whether the start rule succeeds on it or not.
 ///
-/// It evaluates the start rule anew, each node at each place once.
+/// It evaluates the start rule anew, each node at each position once.
 ///
 /// # Errors
 /// `Memory` if an allocation fails.

@@ -1,4 +1,4 @@
-//! Pairs of a node and a place, and the list of those that were found.
+//! Pairs of a node and a position, and the list of those that were found.
 ghost use Rattle.std.specs.Prelude.{◌≡◌, ℕ, [], OnOk};
 ghost use Rattle.matchfailure.specs.VisitLists.{AddsVisits};
 
@@ -7,7 +7,7 @@ use std::alloc::Global;
 use std::collections::HashSet;
 use std::marker::Model;
 
-/// A node at a place.
+/// A node at a position.
 #[derive(Clone, Copy, PartialEq, Eq, PartialOrd, Ord, Hash)]
 pub struct Visit {
     /// The number of the node.

@@ -82,7 +82,7 @@ impl EventLog {
     /// Adds an event, and returns its head.
     ///
     /// # Errors
-    /// `Memory` if an allocation fails, or if the place or node does not fit in 32 bits; the log is unchanged.
+    /// `Memory` if an allocation fails, or if the position or node does not fit in 32 bits; the log is unchanged.
     #[inline(always)]
     pub fn mark(&mut self, event: Kept) -> Result<usize, Memory>
         ensures head { IfOk result (λ head. IsHead self.new head) }
