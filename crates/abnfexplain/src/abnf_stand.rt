@@ -115,9 +115,10 @@ pub(crate) fn stand_behind(form: Form) -> Stand
     }
 }
 
-/// A position between two tokens.
+/// A position between two tokens: the state of a pushdown machine that recognizes prefixes of grammars.
 #[derive(Drop)]
 pub(crate) struct Place {
+    /// The kind of token before it.
     pub(crate) stand: Stand,
     /// The brackets that are open, the innermost last.
     pub(crate) brackets: Vec<Bracket>,

@@ -9,6 +9,7 @@ use lexer::{Kind, Token, TokenIter};
 /// A token with its marks.
 #[derive(Clone, Copy)]
 pub struct MarkedToken<'a> {
+    /// The token.
     pub token: Token<'a, AbnfKind>,
     /// White space stands directly before it.
     pub gap: bool,

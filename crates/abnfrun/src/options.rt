@@ -13,6 +13,7 @@ pub struct AbnfOptions {
     pub viable: bool,
     /// Whether a NUL byte ends a line, in place of LF.
     pub nul: bool,
+    /// The output for each line.
     pub printed: Printed,
     /// Whether the number of a line and a colon stand before what is printed for it.
     pub numbered: bool,

@@ -260,8 +260,8 @@ fn judge_by_table<L: Letter>(
     Ok(JudgedRows { chart, yes })
 }
 
-/// Judges a line by rows: returns its sets, and whether the last holds the whole's end with origin 0. `None` if the
-/// line is too long, or the grammar has too many dotted rules. `Memory` if an allocation fails.
+/// Judges a line by rows: returns its sets, and whether the last holds the augmented start's end with origin 0. `None`
+/// if the line is too long, or the grammar has too many dotted rules. `Memory` if an allocation fails.
 pub(crate) fn judge_rows<L: Letter>(
     alloc: Global,
     flat: Rc<Tables>,

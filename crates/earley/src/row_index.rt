@@ -1,4 +1,4 @@
-//! The filled sets of a line, in kinds by the rows of a dotted rule.
+//! The filled sets of a line, indexed by dotted rule.
 ghost use Rattle.std.specs.Prelude.{◌≡◌, ◌↔◌, ◌⊎◌, ◌+◌, ◌<◌, ◌≤◌, ◌^◌, ◌++◌, ◌∷◌, ℕ, [], length};
 ghost use Rattle.std.specs.Prelude.{IsTrue, IfOk, Contains};
 ghost use Rattle.bitrows.specs.RowSets.{HasAt};
@@ -26,7 +26,7 @@ pub(crate) struct FilledSets {
     pub(crate) union: Vec<BitRow>,
 }
 
-/// Returns no sets, for so many dotted rules. `Memory` if an allocation fails.
+/// Returns no sets, for `places` dotted rules. `Memory` if an allocation fails.
 pub(crate) fn no_sets(alloc: Global, places: usize) -> Result<FilledSets, Memory>
     ensures none { IfOk result (λ filled. filled.sets.items ≡ []) }
     ensures indexed { IfOk result (λ filled. AreIndexed places filled) }

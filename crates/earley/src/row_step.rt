@@ -40,7 +40,7 @@ pub(crate) fn predict_root(
     Ok(())
 }
 
-/// Predicts what a dotted rule calls, for its row, which is not empty.
+/// Predicts the root that a dotted rule calls, for its row, which is not empty.
 fn predict_row(
     table: &PlaceTable,
     place: usize,

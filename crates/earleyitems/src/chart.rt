@@ -328,11 +328,11 @@ fn judge_by<L: Letter>(
     Ok(None)
 }
 
-/// Fills the chart with the item sets of a line, and returns whether the last set holds the whole's end with origin 0.
-/// The line may have at most `flat.limit()` symbols.
+/// Fills the chart with the item sets of a line, and returns whether the last set holds the augmented start's end with
+/// origin 0. The line may have at most `flat.limit()` symbols.
 ///
-/// It gives up once more than `most` items are kept one by one, as those of blocks are not. It returns `None` then: the
-/// sets of the line have more than `most` items, and the chart is empty.
+/// It gives up once more than `most` items are kept one by one, as those of closures are not. It returns `None` then:
+/// the sets of the line have more than `most` items, and the chart is empty.
 ///
 /// `Memory` if an allocation fails; the chart is empty then.
 pub fn judge_within<L: Letter>(

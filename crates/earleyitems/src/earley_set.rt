@@ -29,7 +29,7 @@ impl<'a> Model for EarleySet<'a> {
 }
 
 impl<'a> EarleySet<'a> {
-    /// Returns the records of the heads.
+    /// Returns the records of the predictions.
     #[inline(always)]
     pub(crate) fn records(&self) -> &'a [Record]
         ensures heads { heads_of result.now ≡ self.now.heads }
@@ -38,7 +38,7 @@ impl<'a> EarleySet<'a> {
         &self.stores.records[self.bounds.records.from..self.bounds.records.to]
     }
 
-    /// Returns the items beside the blocks.
+    /// Returns the items beside the closures.
     #[inline(always)]
     pub(crate) fn items(&self) -> &'a [Item]
         ensures { result.now ≡ self.now.items }
@@ -46,7 +46,7 @@ impl<'a> EarleySet<'a> {
         &self.stores.items[self.bounds.items.from..self.bounds.items.to]
     }
 
-    /// Returns the number of its items, those of the blocks counted.
+    /// Returns the number of its items, those of the closures counted.
     #[inline(always)]
     pub(crate) fn size(&self) -> usize
         ensures { result ≡ self.now.size }

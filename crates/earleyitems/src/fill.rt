@@ -179,7 +179,7 @@ fn advance(
     Ok(())
 }
 
-/// Predicts heads.
+/// Adds predictions, each once. `Memory` if an allocation fails.
 fn predict_all(calls: &[usize], heads: &mut Heads) -> Result<(), Memory>
     ensures { IfOk result (λ done. Adds (λ t. In t calls.now) heads.old heads.new) }
 {
@@ -252,7 +252,7 @@ fn process_item(
     Ok(())
 }
 
-/// Works on one head: predicts what its block calls, and adds what its block advances over nullable roots.
+/// Works on one prediction: predicts what its closure calls, and adds what its closure advances over nullable roots.
 fn process_head(
     flat: &Tables,
     head: usize,
@@ -273,10 +273,9 @@ fn process_head(
     Ok(())
 }
 
-/// Predicts, completes and advances over nullable roots until nothing can be added; each item and head is worked on
-/// once.
-/// Returns the number of items of its blocks.
-/// `Memory` if that is no number of 64 bits, or if an allocation fails.
+/// Predicts, completes and advances over nullable roots until nothing can be added; each item and prediction is worked
+/// on once. Returns the number of items of its closures. `Memory` if that is no number of 64 bits, or if an allocation
+/// fails.
 pub(crate) fn fill(
     flat: &Tables,
     sets: &Sets,

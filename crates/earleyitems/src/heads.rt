@@ -1,4 +1,4 @@
-//! The heads of a set, found at once.
+//! The predictions of a set, found at once.
 ghost use Rattle.std.specs.Prelude.{◌≡◌, ◌<◌, ◌++◌, ◌∷◌, ℕ, [], length, slice_get, Some, IfOk, IfSome, IfNone};
 ghost use Rattle.flatgrammar.specs.Places.{In};
 ghost use Rattle.earleyitems.specs.HeadTables.{IsTable};
@@ -81,7 +81,7 @@ fn push(list: &mut Vec<usize>, table: &mut [usize], head: usize) -> Result<(), M
 }
 
 impl Heads {
-    /// Returns no heads. It takes no memory.
+    /// Returns no predictions. It takes no memory.
     pub(crate) fn new(alloc: Global) -> Heads
         ensures { result ≡ [] }
     {
@@ -91,14 +91,14 @@ impl Heads {
         }
     }
 
-    /// Returns the number of heads.
+    /// Returns the number of predictions.
     pub(crate) fn len(&self) -> usize
         ensures { result ≡ length self.now }
     {
         self.list.len()
     }
 
-    /// Returns the head at that index.
+    /// Returns the prediction at that index.
     pub(crate) fn at(&self, index: usize) -> usize
         requires { index < length self.now }
         ensures { slice_get self.now index ≡ Some result }
@@ -106,14 +106,14 @@ impl Heads {
         self.list[index]
     }
 
-    /// Returns the heads.
+    /// Returns the predictions.
     pub(crate) fn list(&self) -> &[usize]
         ensures { result.now ≡ self.now }
     {
         &self.list
     }
 
-    /// Returns the index of a head.
+    /// Returns the index of a prediction.
     #[inline(always)]
     pub(crate) fn find(&self, head: usize) -> Option<usize>
         ensures found { IfSome result (λ index. slice_get self.now index ≡ Some head) }
@@ -124,7 +124,7 @@ impl Heads {
         index_of(&self.list, &self.table, head)
     }
 
-    /// Adds a head unless it is there. `Memory` if an allocation fails.
+    /// Adds a prediction unless it is there. `Memory` if an allocation fails.
     #[inline(always)]
     pub(crate) fn add(&mut self, head: usize) -> Result<(), Memory>
         ensures { IfOk result (λ done. Adds (λ a. a ≡ head) self.old self.new) }

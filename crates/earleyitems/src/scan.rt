@@ -60,7 +60,7 @@ fn scan_items(flat: &Tables, value: u32, from: &[HomedItem], set: &mut Items) ->
     Ok(())
 }
 
-/// Scans a symbol for the dotted rules of a block.
+/// Scans a symbol for the dotted rules of a closure.
 fn scan_spots(
     flat: &Tables,
     value: u32,
@@ -91,7 +91,7 @@ fn scan_spots(
     Ok(())
 }
 
-/// Scans a symbol for the blocks of heads.
+/// Scans a symbol for the closures of predictions.
 fn scan_heads(
     flat: &Tables,
     value: u32,

@@ -232,8 +232,8 @@ impl Sets {
         &self.stores.waiters
     }
 
-    /// Adds a set as it was filled, with the waiting lists of its heads. `Memory` if its items are 2 ^ 64 or more, or
-    /// if an allocation fails; there is no set then.
+    /// Adds a set as it was filled, with the waiting lists of its predictions. `Memory` if its items are 2 ^ 64 or
+    /// more, or if an allocation fails; there is no set then.
     #[inline(always)]
     pub(crate) fn push(&mut self, flat: &Tables, filled: Filled<'_>) -> Result<(), Memory>
         requires lists { AreSpotLists flat.now }

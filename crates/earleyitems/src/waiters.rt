@@ -1,4 +1,4 @@
-//! The waiting lists of a set: for each head the items that its completion adds.
+//! The waiting lists of a set: for each prediction the items that its completion adds.
 ghost use Rattle.std.specs.Prelude.{◌≡◌, ◌+◌, ◌++◌, ◌∷◌, ℕ, List, [], length, map, drop, slice_index_or, Some, IfOk};
 ghost use Rattle.flatgrammar.specs.Blocks.{block_of, AreAsks, AreHomes, AreSpotLists};
 ghost use Rattle.flatgrammar.specs.Places.{In};
@@ -196,8 +196,8 @@ fn add_records(heads: &[usize], records: &mut Vec<Record>) -> Result<(), Memory>
     Ok(())
 }
 
-/// Adds the records of a set's heads, and fills the waiting list of each, after those of other sets. Returns where the
-/// records stand. `callers` are those items that call.
+/// Adds the records of a set's predictions, and fills the waiting list of each, after those of other sets. Returns
+/// where the records stand. `callers` are those items that call.
 #[inline(always)]
 pub(crate) fn list_waiters(
     flat: &Tables,

@@ -41,8 +41,11 @@ pub trait Source {
 /// A source over a reader of `std`. Each error of that reader is a failure, an interrupted call too.
 #[derive(Drop)]
 pub struct SourceOf<R> {
+    /// The reader.
     inner: R,
+    /// Whether a call has failed.
     failed: bool,
+    /// Whether a call has reported the end.
     ended: bool,
 }
 

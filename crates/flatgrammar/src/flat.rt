@@ -123,7 +123,7 @@ impl Flat {
         }
     }
 
-    /// Returns the number of the whole.
+    /// Returns the number of the augmented start.
     pub fn whole(&self) -> usize
         ensures { result ≡ self.now.whole }
     {

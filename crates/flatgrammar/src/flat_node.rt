@@ -106,7 +106,7 @@ pub(crate) fn widened(node: &Node, step: usize, ends: Ends) -> Ends
     }
 }
 
-/// Returns in how many steps a node begins: those from 0 on.
+/// Returns the number of steps at which a node begins: those from 0 on.
 pub(crate) fn begins(node: &Node) -> usize
     ensures { result ≡ begin_count (node_of node.now) }
 {
@@ -217,7 +217,7 @@ pub(crate) fn callee(node: &Node, step: usize) -> Option<(usize, usize)>
     node_deed(node, step).called
 }
 
-/// Returns how many of a node's first steps may call something, its iterations left out.
+/// Returns how many first steps of a node may call something, its iterations left out.
 pub(crate) fn call_count(node: &Node) -> usize
     ensures { result ≡ call_count (node_of node.now) }
 {

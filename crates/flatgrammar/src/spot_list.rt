@@ -1,4 +1,4 @@
-//! Of the dotted rules of a block those that call, and those that read.
+//! The dotted rules of a closure that call or read.
 ghost use Rattle.std.specs.Prelude.{◌≡◌, ◌≤◌, ℕ, Some, IsTrue, IfOk, IfSome, IfNone, slice_get};
 ghost use Rattle.flatgrammar.specs.Blocks.{block_of, call_at, spots_of, Asks, AreAsks, Reads, ReadsAny, Picks};
 ghost use Rattle.flatgrammar.specs.Blocks.{AreByLetter, AreEnds, lists_in, IsSpotList};
@@ -178,7 +178,7 @@ fn list_of(alloc: Global, flat: &Tables, from: &[Spot]) -> Result<SpotList, Memo
     })
 }
 
-/// Returns of each block its lists.
+/// Returns of each closure its lists.
 pub(crate) fn spot_lists(alloc: Global, flat: &Tables) -> Result<Vec<SpotList>, Memory>
     ensures { IfOk result (λ lists. (h : ℕ) → IsSpotList flat.now (block_of flat.now h).spots
         (lists_in (slice_get lists.items h))) }

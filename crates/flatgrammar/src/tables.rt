@@ -118,7 +118,7 @@ pub fn null(flat: &Tables, root: usize) -> bool
     }
 }
 
-/// Returns the dotted rules of a root's block.
+/// Returns the dotted rules of a root's closure.
 pub fn spots(flat: &Tables, head: usize) -> &[Spot]
     ensures { result.now ≡ (block_of flat.now head).spots }
 {
@@ -128,7 +128,7 @@ pub fn spots(flat: &Tables, head: usize) -> &[Spot]
     }
 }
 
-/// Returns of the dotted rules of a root's block at least those that call a root with a block of its own, with what
+/// Returns of the dotted rules of a root's closure at least those that call a root with a closure of its own, with what
 /// they ask for.
 pub fn asks(flat: &Tables, head: usize) -> &[Ask]
     ensures { result.now ≡ (lists_of flat.now head).asks }
@@ -139,7 +139,7 @@ pub fn asks(flat: &Tables, head: usize) -> &[Ask]
     }
 }
 
-/// Returns of the dotted rules of a root's block at least those that read a symbol.
+/// Returns of the dotted rules of a root's closure at least those that read a symbol.
 pub fn readers(flat: &Tables, head: usize, value: u32) -> &[Spot]
     ensures { result.now ≡ the_readers_of flat.now head value }
 {
@@ -155,7 +155,7 @@ pub fn readers(flat: &Tables, head: usize, value: u32) -> &[Spot]
     }
 }
 
-/// Returns the roots with blocks of their own that the dotted rules of a root's block call.
+/// Returns the roots with closures of their own that the dotted rules of a root's closure call.
 pub fn calls(flat: &Tables, head: usize) -> &[usize]
     ensures { result.now ≡ (block_of flat.now head).calls }
 {
@@ -165,7 +165,7 @@ pub fn calls(flat: &Tables, head: usize) -> &[usize]
     }
 }
 
-/// Returns the dotted rules after the nullable calls of a root's block.
+/// Returns the dotted rules after the nullable calls of a root's closure.
 pub fn passes(flat: &Tables, head: usize) -> &[Spot]
     ensures { result.now ≡ (block_of flat.now head).passes }
 {
@@ -175,14 +175,14 @@ pub fn passes(flat: &Tables, head: usize) -> &[Spot]
     }
 }
 
-/// Returns the dotted rule that alone calls a root, if the root stands in the block of another.
+/// Returns the only call site of a root, if the root is inlined.
 pub fn sole_caller(flat: &Tables, root: usize) -> Option<Inner>
     ensures { result ≡ inner_of flat.now root }
 {
     inner_at(&flat.inners, root)
 }
 
-/// Returns the root of the whole.
+/// Returns the root of the augmented start.
 pub fn whole_root(flat: &Tables) -> Option<usize>
     ensures { result ≡ whole_root flat.now }
 {

@@ -93,11 +93,14 @@ pub fn judge_peg(alloc: Global, peg: Peg, start: Option<&str>) -> Result<Checked
     })
 }
 
-// The notes on a grammar, its nodes, and their ranks.
+/// The analysis of a grammar.
 #[derive(Drop)]
 struct Judged {
+    /// The notes, in order.
     notes: Vec<Note>,
+    /// The rules' bodies, cut into numbered nodes.
     cut: Cut,
+    /// Of each node its rank.
     ranks: Vec<usize>,
 }
 

@@ -119,7 +119,7 @@ fn is_same(state: &State, tops: &[usize], ended: bool) -> bool
     state.ended == ended && state.tops.as_slice() == tops
 }
 
-/// Returns whether the whole may end where a state is.
+/// Returns whether the augmented start may end in a state.
 #[inline(always)]
 pub(crate) fn has_ended(cache: &Cache, state: usize) -> bool
     ensures { (got : State) → slice_get cache.now.states.items state ≡ Some got → result ≡ got.ended }

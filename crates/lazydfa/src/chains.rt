@@ -1,4 +1,4 @@
-//! Chains of numbers, in which entries are found again by what they hash to. No contract relies on them: whoever finds
+//! Chains of numbers, in which entries are found by their hash. No contract relies on them: whoever finds
 //! a number there compares the entry.
 use ruletable::Memory;
 use std::alloc::Global;
@@ -32,7 +32,7 @@ impl Chains {
         }
     }
 
-    /// Returns the last entry in the chain of what hashes to that.
+    /// Returns the last entry in the chain of a hash.
     pub(crate) fn last(&self, hash: usize) -> usize {
         self.heads.get(self.slot(hash)).copied().unwrap_or(0)
     }
@@ -46,7 +46,7 @@ impl Chains {
         }
     }
 
-    /// Adds the next entry, which hashes to that. `Memory` if an allocation fails.
+    /// Adds the next entry, which has that hash. `Memory` if an allocation fails.
     pub(crate) fn add(&mut self, hash: usize) -> Result<(), Memory> {
         let slot = self.slot(hash);
         let last = self.heads.get(slot).copied().unwrap_or(0);

@@ -1,4 +1,4 @@
-//! A run over symbols while no cell is filled and no part is pushed or put back.
+//! The inner loop of a run: it fills no cell, and pushes or puts back no part.
 ghost use Rattle.std.specs.Prelude.{◌≡◌, ◌≤◌, ◌<◌, ◌+◌, ◌^◌, IsTrue, length, map};
 ghost use Rattle.lazydfa.specs.Memos.{GlidesOver};
 ghost use Rattle.lazydfa.specs.Hops.{StaysBy, StaysOver};
@@ -8,7 +8,7 @@ use crate::memo::Memo;
 use letterclasses::class_of;
 use letters::Letter;
 
-/// In lines of so many symbols it is tried whether a state stays over four of them.
+/// In lines of at least this many symbols, the loop tries whether a state stays over four symbols.
 const LONG: usize = 256;
 
 /// How far a run over a line has come.
@@ -80,7 +80,7 @@ fn stay_on<L: Letter>(
     at
 }
 
-/// Goes over symbols of a line while what their classes lead to is known and no part is pushed or put back, and returns
+/// Runs over symbols of a line while their transitions are cached and no part is pushed or put back, and returns
 /// where that stops.
 pub(crate) fn glide<L: Letter>(
     memo: &Memo,

@@ -1,4 +1,5 @@
-//! Parts of stacks: what all tops of a state stand on is split off, and put back where one of them has ended.
+//! Shared suffixes of stacks: the suffix of all stacks of a state is split off, and put back when one of them has
+//! ended.
 ghost use Rattle.std.specs.Prelude.{◌≡◌, ◌≤◌, ◌<◌, ℕ, false, List, [], IsTrue, IfOk, IfSome, length, Contains};
 ghost use Rattle.lazydfa.specs.Conts.{AreKept, AreOlder, TopReads, stack_of};
 ghost use Rattle.lazydfa.specs.StackParts.{IsSplitOff, PutsBack};
@@ -151,8 +152,8 @@ pub(crate) fn split_off(
     Ok(Some(Split { tops, part }))
 }
 
-/// Returns tops put on a part, beside what the part goes on to without a symbol; `None` if that goes over more ids
-/// than there may be. `Memory` if an allocation fails.
+/// Returns tops put on a part, beside the continuations that follow from the part without a symbol; `None` if that goes
+/// over more ids than there may be. `Memory` if an allocation fails.
 pub(crate) fn put_back(
     alloc: Global,
     tables: &Tables,

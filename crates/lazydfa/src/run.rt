@@ -174,7 +174,7 @@ fn take_step(
     }
 }
 
-/// Makes a memo ready for a line of so many symbols.
+/// Prepares a memo for a line of `letters` symbols.
 fn prepare(memo: &mut Memo, letters: usize)
     ensures conts { memo.new.cache.conts.items ≡ memo.old.cache.conts.items }
     ensures states { memo.new.cache.states ≡ memo.old.cache.states }

@@ -19,7 +19,7 @@ pub(crate) struct Front {
     pub(crate) ended: bool,
 }
 
-/// Adds what a continuation comes to by a symbol.
+/// Adds the continuation after one, if that reads the symbol.
 fn read_on(
     tables: &Tables,
     id: usize,
@@ -60,7 +60,7 @@ fn read_on(
     Ok(())
 }
 
-/// Adds what continuations come to by a symbol.
+/// Adds the continuations after those that read a symbol.
 fn read_all(
     tables: &Tables,
     tops: &[usize],

@@ -8,9 +8,11 @@ use std::marker::PhantomData;
 /// A token, with its slice of the text.
 #[derive(Clone, Copy)]
 pub struct Token<'a, K> {
+    /// The kind of the token.
     pub kind: K,
+    /// The bytes of the token.
     pub slice: &'a [u8],
-    /// Where the slice lies in the text.
+    /// The span of these bytes in the text.
     pub span: Span,
 }
 

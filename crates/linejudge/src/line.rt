@@ -15,6 +15,7 @@ pub struct LineForm {
     pub limit: usize,
     /// The byte that ends a line.
     pub end: u8,
+    /// The output for each line.
     pub printed: Printed,
     /// Whether the number of a line and a colon stand before what is printed for it.
     pub numbered: bool,

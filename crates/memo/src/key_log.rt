@@ -25,10 +25,12 @@ pub struct Given {
     pub events: usize,
 }
 
-/// A key that was evaluated, with what was found.
+/// A key that was evaluated, with its outcome.
 #[derive(Clone, Copy)]
 pub struct Stored {
+    /// The key.
     pub spot: Spot,
+    /// The outcome.
     pub given: Given,
 }
 

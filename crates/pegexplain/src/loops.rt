@@ -12,10 +12,12 @@ use pegread::{Expr, print_expr};
 use ruletable::{Memory, RuleTable, SinkOf};
 use std::alloc::Global;
 
-// A repetition, and its place among those of a body.
+/// A repetition in a body.
 #[derive(Clone, Copy)]
 pub(crate) struct Repeat<'a> {
+    /// Its index among the repetitions of the body.
     place: usize,
+    /// The repetition.
     e: &'a Expr,
 }
 

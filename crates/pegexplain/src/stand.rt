@@ -29,9 +29,11 @@ pub(crate) enum Stand {
     Done,
 }
 
-/// A position between two tokens.
+/// A position between two tokens: the state of a machine that recognizes prefixes of grammars. All brackets are of one
+/// form, so it counts them.
 #[derive(Clone, Copy)]
 pub(crate) struct Place {
+    /// The kind of token before it.
     pub(crate) stand: Stand,
     /// How many brackets are open.
     pub(crate) depth: usize,

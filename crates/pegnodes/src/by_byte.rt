@@ -31,13 +31,16 @@ pub struct Decided {
     pub count: u16,
 }
 
-/// Numbered nodes, of each rule the node of its body, and marks of the keys among the nodes and of those after which
-/// the tails of sequences are keys. What has no mark is a key.
+/// Numbered nodes with marks of the keys. A node without a mark is a key.
 #[derive(Clone, Copy)]
 pub struct MarkedNodes<'a> {
+    /// The nodes, by number.
     pub nodes: &'a [Node],
+    /// Of each rule the node of its body.
     pub bodies: &'a [usize],
+    /// Of each node whether it is a key.
     pub keys: &'a [bool],
+    /// Of each node whether the tail of a sequence after it is a key.
     pub behind: &'a [bool],
 }
 

@@ -19,10 +19,12 @@ pub struct Stop {
     pub pairs: u64,
 }
 
-/// Where a run of bytes that a node takes ends, and how many pairs the iterations of a repetition over it begin.
+/// A run of bytes that a node takes, one at a time.
 #[derive(Clone, Copy)]
 pub struct Run {
+    /// The position after the last byte.
     pub end: usize,
+    /// How many pairs the iterations of a repetition over it begin.
     pub pairs: u128,
 }
 

@@ -28,12 +28,14 @@ pub struct Slot {
     pub put: Put,
 }
 
-/// Where an action's text is cut: from where to where it stands without the blanks at its ends, and its slots, in
-/// order.
+/// The cut of an action's text. Its offsets count the bytes of the text.
 #[derive(Drop)]
 pub struct Template {
+    /// Where the text begins, without the blanks before it.
     pub from: usize,
+    /// Where the text ends, without the blanks after it.
     pub to: usize,
+    /// The slots, in order.
     pub slots: Vec<Slot>,
 }
 

@@ -52,11 +52,14 @@ pub(crate) enum Prefix {
     And,
 }
 
-/// A definition as it was read: its name, the name's span, and the body.
+/// A definition as it was read.
 #[derive(Drop)]
 pub(crate) struct Definition<'a> {
+    /// The name.
     pub(crate) name: &'a [u8],
+    /// The span of the name.
     pub(crate) span: Span,
+    /// The body.
     pub(crate) body: Expr,
 }
 

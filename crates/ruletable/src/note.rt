@@ -24,10 +24,12 @@ pub enum NoteKind {
     Loop,
 }
 
-/// A note: its kind, and the rule or name of which it speaks.
+/// A note: a diagnostic on a grammar that reads.
 #[derive(Drop)]
 pub struct Note {
+    /// The kind of the note.
     pub kind: NoteKind,
+    /// The name of the rule, or the name that no rule has.
     pub name: Vec<u8>,
 }
 

@@ -5,6 +5,7 @@ use std::alloc::Global;
 /// The fields of a row.
 #[derive(Drop)]
 pub struct Fields {
+    /// The texts of the fields, in order.
     pub(crate) texts: Vec<Vec<u8>>,
 }
 

@@ -7,10 +7,12 @@ use lowering::items_tell;
 use std::alloc::Global;
 use testio::{Fields, Text};
 
-/// A flat grammar, and the item sets of a line.
+/// A flat grammar with its chart.
 #[derive(Drop)]
 struct Sets {
+    /// The flat grammar.
     flat: Flat,
+    /// The item sets of a line.
     chart: Chart,
 }
 

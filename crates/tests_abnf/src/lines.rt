@@ -12,11 +12,14 @@ use ruletable::Memory;
 use std::alloc::Global;
 use testio::{Fields, Text};
 
-/// A flat grammar, and both judges of lines by it: item sets, and an automaton if there is one.
+/// A flat grammar with both judges of lines.
 #[derive(Drop)]
 pub(crate) struct Judges {
+    /// The flat grammar.
     flat: Flat,
+    /// The judge by item sets.
     chart: Chart,
+    /// The lazy automaton, if there is one.
     automaton: Option<Automaton>,
 }
 
@@ -33,12 +36,16 @@ fn judges_of(alloc: Global, flat: Flat, room: Option<usize>) -> Result<Judges, M
     })
 }
 
-/// How lines of a grammar are judged: whether their prefixes are too, of which symbols, and how many symbols they have.
+/// The settings by which lines of a grammar are judged.
 #[derive(Clone, Copy)]
 pub(crate) struct Judging {
+    /// Whether prefixes are judged too.
     pub(crate) is_viable: bool,
+    /// The alphabet of lines.
     pub(crate) alphabet: Alphabet,
+    /// The most symbols of a line.
     pub(crate) limit: usize,
+    /// The room of the automaton, if it is not the default.
     pub(crate) room: Option<usize>,
 }
 

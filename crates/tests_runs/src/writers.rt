@@ -156,6 +156,7 @@ fn both_outputs_are_flushed_once(rt: HostRuntime) {
 /// A writer that takes all, and counts the calls.
 #[derive(Drop)]
 struct Counter {
+    /// The number of calls.
     calls: u32,
 }
 

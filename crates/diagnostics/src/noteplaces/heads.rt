@@ -34,11 +34,14 @@ pub(crate) struct Signed<'a> {
     pub(crate) start: usize,
 }
 
-// The name of a definition, where it begins, and whether the definition adds to a rule.
+/// The beginning of a definition.
 #[derive(Clone, Copy)]
 pub(crate) struct Opening<'a> {
+    /// The name.
     pub(crate) name: &'a [u8],
+    /// Where the name begins, in bytes from the front of the text.
     pub(crate) start: usize,
+    /// Whether the definition adds to a rule.
     pub(crate) adds: bool,
 }
 

@@ -1,6 +1,6 @@
 //! Symbols one after another.
 
-/// The symbols whose numbers are those from a first to a last.
+/// A run of symbols: those with the numbers from `first` to `last`.
 #[derive(Clone, Copy)]
 pub struct LetterRun {
     pub first: u32,
