@@ -117,7 +117,7 @@ pub(crate) fn refused(notes: &[Note]) -> bool
     false
 }
 
-/// A law: there is at most one list of notes on a grammar.
+/// States that there is at most one list of notes on a grammar.
 pub fn one_list_of_notes()
     ensures { (rules : List Rule) (again : List (List ℕ)) (start : Option (List ℕ)) (a b : List Said) →
         AreNotes rules again start a → AreNotes rules again start b → a ≡ b }

@@ -59,7 +59,7 @@ pub trait Judge<W> {
         ensures work { works_in self.now work.new }
         ensures told { IfOk result (λ why. refusal self.now line.now number why.items) };
 
-    /// A law: each line has an answer. It does nothing.
+    /// States that each line has an answer. It does nothing.
     fn decided(&self)
         ensures { (line : List ℕ) → (said : Answer) × told self.now line said };
 }

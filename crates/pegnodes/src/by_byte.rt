@@ -289,7 +289,7 @@ pub fn decide(grammar: &MarkedNodes<'_>, n: usize, b: u8) -> Option<Decided>
     by_node(grammar, n, b, MOST_LEVELS)
 }
 
-/// A byte decides one verdict of a node, with one number of pairs.
+/// States that a byte decides one verdict of a node, with one number of pairs.
 pub fn one_verdict()
     ensures { (nodes : List Shape) (bodies : List ℕ) (marks : ℕ → Bool) (tails : ℕ → ℕ → Bool) (b n c d : ℕ)
         (v w : Verdict) → ByByte nodes bodies marks tails b n v c → ByByte nodes bodies marks tails b n w d →
