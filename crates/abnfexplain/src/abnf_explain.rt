@@ -304,8 +304,9 @@ fn explain_token(alloc: Global, text: &[u8]) -> Result<Vec<u8>, Memory>
     }
 }
 
-/// Returns the lines that explain the fault of a grammar's text: a picture of the token that decides, its column, what
-/// can stand in its place, and what is known of it and of the tokens before. There are none if an allocation fails.
+/// Returns the lines that explain the fault of a grammar's text. They show a picture of the token that decides, its
+/// column, the tokens that can stand in its place, and facts on it and on the tokens before. There are none if an
+/// allocation fails.
 ///
 /// # Errors
 /// `Memory` if an allocation fails.

@@ -198,9 +198,9 @@ impl SoundPeg {
         self.ranks[n]
     }
 
-    /// Returns whether the node of that number is silent: whether no action and no end of a capture is in it, in its
-    /// operands or in the rules that these name, except those of predicates. The law `silent_leaves_no_event` says what
-    /// that means for a success. The number must be less than `nodes()`.
+    /// Returns whether the node of that number is silent. A silent node has no action and no end of a capture, nor have
+    /// its operands and the rules that these name, those of predicates left out. The law `silent_leaves_no_event`
+    /// states the consequence for a success. The number must be less than `nodes()`.
     pub fn is_silent(&self, n: usize) -> bool
         requires { n < length self.now.nodes }
         ensures { (e : Pattern) → Spells (rules_of self.now.rules) (shapes_of self.now.nodes) n e →

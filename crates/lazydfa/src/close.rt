@@ -172,8 +172,8 @@ pub(crate) fn cont_at(conts: &Conts, id: usize) -> Cont
     conts.items[id - 1]
 }
 
-/// Adds what a continuation goes on to without a symbol, and returns whether it is a dotted rule alone whose node is
-/// done.
+/// Adds the continuations that follow one without a symbol, and returns whether that one completes the bottom of a
+/// stack. `Memory` if an allocation fails.
 fn expand(tables: &Tables, id: usize, conts: &mut Conts, ids: &mut Ids) -> Result<bool, Memory>
     requires within { id ≤ length conts.old.items.items }
     requires older { AreOlder conts.old.items.items }
@@ -211,8 +211,9 @@ fn either(a: bool, b: bool) -> bool
     a || b
 }
 
-/// Adds all that ids go on to without a symbol, and returns whether one of them is a dotted rule alone whose node is
-/// done; `None` if that goes over more of them than there may be. `Memory` if an allocation fails.
+/// Closes a set of ids under calls and returns: adds all continuations that follow without a symbol. Returns whether
+/// one of them completes the bottom of a stack; `None` if the set has more ids than a closure may visit. `Memory` if an
+/// allocation fails.
 pub(crate) fn close(
     tables: &Tables,
     conts: &mut Conts,

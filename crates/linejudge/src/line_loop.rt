@@ -214,11 +214,12 @@ fn answer_lines<W, J: Judge<W>, R: Source, O: Sink>(
     }
 }
 
-/// Judges the lines of what a reader gives, and writes what is printed for them: the answer to each, `yes`, `no`, or
-/// `no` and a number; the lines that are derived or rejected, each with its end; how many there are of both, at the end
-/// of the input; or nothing. The reader may neither have failed nor have given its end before, and the judge must serve
-/// lines of `form.limit` bytes and be able to work in that memory.
+/// Judges the lines that a reader gives, and writes the output that `form.printed` asks for. The reader may neither
+/// have failed nor have given its end before. The judge must serve lines of `form.limit` bytes, and be able to work in
+/// that memory.
 ///
+/// - An answer is `yes`, `no`, or `no` and a number. Lines that are printed keep their ends. Counts of lines are
+///   printed at the end of the input.
 /// - If lines are numbered, a line's number from 1 and a colon stand before its answer, or before the line.
 /// - A line ends before a byte `form.end`, and a last piece without one is a line if it is not empty. All other bytes
 ///   belong to their line, a CR too.
@@ -228,9 +229,9 @@ fn answer_lines<W, J: Judge<W>, R: Source, O: Sink>(
 /// - After the last line the run ends with `Done` if all answers are yes, else with `NoMatch`.
 /// - If the judge explains rejected lines, the ending has the explanations of the first `MAX_TOLD` of them, and how
 ///   many more there are. For a line that is too long it has the greatest length that `-l` allows.
-/// - `NoMemory` if an allocation fails; what is printed for the lines before stands whole, and so do the explanations
-///   of those lines.
-///   `WriteFault` if the output fails; then a prefix is written.
+/// - `NoMemory` if an allocation fails. The output for the lines before stands whole, and so do the explanations of
+///   those lines.
+/// - `WriteFault` if the output fails; then a prefix is written.
 pub fn run_lines<W, J: Judge<W>, R: Source, O: Sink>(
     alloc: Global,
     judge: &J,

@@ -124,8 +124,9 @@ fn push_lines(
     )
 }
 
-/// Adds the lines that explain a rejected line: what is expected where it is rejected, and a picture of that position;
-/// or that the rule of that name derives nothing, if nothing can follow there. The position must be within the line.
+/// Adds the lines that explain a rejected line: the symbols that are expected where it is rejected, and a picture of
+/// that position. If nothing can follow there, they report that the rule of that name derives nothing. The position
+/// must be within the line.
 pub(crate) fn push_refusal(
     alloc: Global,
     name: &[u8],

@@ -9,9 +9,9 @@ use memoryrun::{Outputs, run_opened};
 use pegrun::{OpenedPeg, PegSettings, open_peg};
 use std::alloc::Global;
 
-/// Opens a grammar in ABNF, and returns the answers to two lines, each of at most as many bytes as the settings allow:
-/// what runs of the grammar on each line alone answer, without what explains it. None where the text is no grammar, the
-/// grammar is rejected, or an allocation fails.
+/// Opens a grammar in ABNF, and returns the answers to two lines, each of at most as many bytes as the settings allow.
+/// They are the answers of runs of the grammar on each line alone, without explanations. Returns none if the text is no
+/// grammar, the grammar is rejected, or an allocation fails.
 pub fn answer_both(
     alloc: Global,
     grammar: &[u8],

@@ -161,8 +161,8 @@ impl Desk {
         Ok(())
     }
 
-    /// Goes on with the last frame: pushes one frame; or turns the last frame into its cell, which is the answer where
-    /// it was the only one; or answers `Need`, and leaves the desk as it was.
+    /// Steps the last frame. It pushes the frame of a child, or turns the last frame into its cell; the cell of the
+    /// only frame is the answer. Or it answers `Need`, and leaves the desk as it was.
     ///
     /// # Errors
     /// `Memory` if an allocation fails; the desk is empty.
