@@ -20,9 +20,9 @@ use toolrun::{Checked, open};
 
 /// An open grammar, read, checked and lowered once, that judges lines.
 ///
-/// `flat` is lowered from `grammar` for the alphabet. With `viable` it has the productive parts alone, so that an item
-/// set is empty exactly after the longest viable prefix. `work` keeps the automaton of earlier lines; no answer depends
-/// on it.
+/// `flat` is lowered from `grammar`. With `viable` it has the productive parts alone, for the alphabet: then a prefix
+/// with a symbol is viable exactly if its item set has an item. `work` keeps the automaton of earlier lines; no answer
+/// depends on it.
 #[derive(Drop)]
 pub struct AbnfJudge {
     /// The grammar.

@@ -31,7 +31,7 @@ pub(crate) struct Called {
 /// The actions of a dotted rule.
 #[derive(Clone, Copy)]
 pub(crate) struct Step {
-    /// What it calls.
+    /// The root that it calls, with the dotted rule after the call.
     pub(crate) called: Option<Called>,
     /// Whether its node is complete there.
     pub(crate) done: bool,

@@ -81,7 +81,7 @@ pub const ABNF: AbnfOptions = AbnfOptions {
 /// The settings of a run that tests change.
 #[derive(Clone, Copy)]
 pub struct Wanted {
-    /// What to do with the grammar.
+    /// The mode of the run.
     pub mode: Mode,
     /// How many bytes a unit or a line may have.
     pub limit: usize,
