@@ -14,7 +14,7 @@ use ruletable::{Sink, write_whole};
 use std::alloc::{AllocError, Global};
 use toolrun::{Status, Stop, close_run, end_run};
 
-/// What is told of a word that is no UTF-8 text.
+/// The message on a word that is not UTF-8.
 const INVALID_UTF8: &str = "invalid UTF-8 was detected in one or more arguments";
 
 /// Writes on the error output what is wrong with the words, and ends.
@@ -81,7 +81,7 @@ fn invalid_utf8(command: Result<Command<'_>, AllocError>) -> Result<Error, Alloc
     command.error(ErrorKind::ValueValidation, INVALID_UTF8)
 }
 
-/// Ends a program of that command, whose words are not all UTF-8 text: that is told on `err`, `Refused`. If an
+/// Ends a program of that command, whose words are not all UTF-8 text: that is reported on `err`, `Refused`. If an
 /// allocation fails, or failed for the command, `out of memory`, `NoMemory`.
 pub fn refuse_invalid_utf8<O: Sink, E: Sink>(
     alloc: Global,
