@@ -11,7 +11,7 @@ use abnfread::one_reading;
 use ruletable::{Memory, ReadFault};
 use std::alloc::Global;
 
-/// What is found at a line that begins a rule. Lines count from 0, as they stand in the list.
+/// The result of the search at a line that begins a rule. Lines count from 0, as they stand in the list.
 #[derive(Clone, Copy)]
 pub enum Found {
     /// So many lines from the first one on are ABNF.
@@ -28,13 +28,13 @@ pub enum Found {
     },
 }
 
-/// Returns what is found among the lines of a text, in order: one entry for each line that begins a rule.
+/// Finds the rules among the lines of a text, in order: one entry for each line that begins a rule.
 ///
 /// A line begins a rule if a rule's name and `=` stand after its margin. The rule has all lines up to the next one that
-/// begins a rule, or that does not go on: blank lines, comments and lines of a larger margin do, and a line that begins
-/// with `/`, `|`, `)` or `]`, unless a blank line stands before it. A cut of the rule ends with a line that is not
-/// blank, and only blank lines follow it, or at least one and then a line without `/`. The longest cut that
-/// `read_definitions` reads without the margin is the rule. If none reads, the rule is no ABNF.
+/// begins a rule, or that does not continue the rule. Blank lines, comments and lines of a larger margin continue it.
+/// So does a line that begins with `/`, `|`, `)` or `]`, unless a blank line stands before it. A cut of the rule ends
+/// with a line that is not blank, and only blank lines follow it, or at least one and then a line without `/`. The
+/// longest cut that `read_definitions` reads without the margin is the rule. If none reads, the rule is not ABNF.
 ///
 /// # Errors
 /// `Memory` if an allocation fails.

@@ -1,4 +1,4 @@
-//! What of a rule is ABNF.
+//! The longest cut of a rule that is ABNF.
 ghost use Rattle.std.specs.Prelude.{◌≡◌, ◌<◌, ◌≤◌, length, map, IfOk};
 ghost use Rattle.abnfblocks.specs.TextLines.{numbered};
 ghost use Rattle.abnfblocks.specs.RuleCuts.{margin_at};
@@ -56,7 +56,7 @@ fn shorter_cut(
     Ok(0)
 }
 
-/// Returns what is found of the rule that has these lines, where the first one has that number.
+/// Finds the longest cut of a rule that is ABNF, by the rule's lines. The first of them has the number `first`.
 ///
 /// # Errors
 /// `Memory` if an allocation fails.

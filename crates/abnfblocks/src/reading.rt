@@ -1,4 +1,4 @@
-//! What the lines of a rule read as.
+//! Readings of the lines of a rule.
 ghost use Rattle.std.specs.Prelude.{map, IfOk};
 ghost use Rattle.abnfblocks.specs.TextLines.{numbered};
 ghost use Rattle.abnfblocks.specs.RuleCuts.{lines_text};
@@ -10,7 +10,7 @@ use abnfread::read_definitions;
 use ruletable::{Memory, ReadFault};
 use std::alloc::Global;
 
-/// Returns what is wrong with the lines as ABNF, if something is. They are read without that margin.
+/// Reads the lines as ABNF, without that margin, and returns their fault, if they have one.
 ///
 /// # Errors
 /// `Memory` if an allocation fails.

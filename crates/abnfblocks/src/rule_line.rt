@@ -1,4 +1,4 @@
-//! What a line begins with.
+//! Beginnings of lines: margins, names of rules and other marks.
 ghost use Rattle.std.specs.Prelude.{◌≡◌, ◌≤◌, length};
 ghost use Rattle.std.specs.List.{prefix_len};
 ghost use Rattle.abnfread.specs.AbnfSlices.{continues_name};

@@ -18,22 +18,27 @@ use abnfread::{Abnf, Elem};
 use ruletable::{Memory, NameCase, Note, RuleTable};
 use std::alloc::Global;
 
-/// What the checks of a grammar gave.
+/// The result of the checks of a grammar.
 #[derive(Drop)]
 pub struct Checked<S> {
-    /// What there is to say of it, in order.
+    /// The notes on it, in order.
     pub notes: Vec<Note>,
     /// The grammar, ready to judge lines, unless a note rejects it.
     pub sound: Option<S>,
 }
 
-/// Checks a grammar in ABNF: what there is to say of it, and where no note rejects it, the grammar ready to judge lines
-/// by the rule with the name `rule`, or else by the first. Names compare without case.
+/// Checks a grammar in ABNF. Returns the notes on it, and, if none of them rejects it, the grammar ready to judge lines
+/// by the rule with the name `rule`, or else by the first. Names compare without case (RFC 5234, section 2.1).
 ///
-/// The notes are: rules of the file that `=` defines again; those that `=/` extends before they are defined, where no
-/// core rule has the name; names that no rule has, each once, by first use, where `rule` is a use before all others;
-/// rules of the file with prose; and rules of the file that nothing names and that are not judged. Notes on rules go by
-/// the order of the file. Uses in core rules that the file leaves alone count.
+/// The notes are, in this order, and on rules by the order of the file:
+///
+/// - rules of the file that `=` defines again;
+/// - rules of the file that `=/` extends before they are defined, if no core rule has the name;
+/// - names that no rule has, each once, by first use, where `rule` is a use before all others;
+/// - rules of the file with prose;
+/// - rules of the file that nothing names and that are not judged.
+///
+/// Uses in core rules that the file leaves alone count.
 ///
 /// A redefinition rejects the grammar, and so do prose and a name without a rule if they can be reached from the judged
 /// rule. The other notes never do.
@@ -66,11 +71,14 @@ pub fn check_abnf(
     })
 }
 
-// The notes on a grammar, whether it is rejected, and the id of the judged rule if there is such a rule.
+/// The notes on a grammar with their consequences.
 #[derive(Drop)]
 struct Found {
+    /// The notes, in order.
     notes: Vec<Note>,
+    /// Whether one of them rejects the grammar.
     refused: bool,
+    /// The id of the judged rule, if there is such a rule.
     judged: usize,
 }
 

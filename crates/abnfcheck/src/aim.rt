@@ -1,12 +1,12 @@
-//! What is asked of rules.
+//! Properties that are asked of rules.
 
 use letters::Alphabet;
 
-/// What is asked of a rule.
+/// A property that is asked of a rule.
 #[derive(Clone, Copy)]
 pub(crate) enum Aim {
     /// That it derives the empty string.
     Empty,
-    /// That it derives some list of letters of the alphabet.
+    /// That it derives some line over the alphabet.
     Letters(Alphabet),
 }

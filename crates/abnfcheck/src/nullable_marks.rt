@@ -9,7 +9,7 @@ use crate::sound_abnf::SoundAbnf;
 use ruletable::Memory;
 use std::alloc::Global;
 
-/// Returns a mark for each rule of a grammar, by id: whether the rule derives the empty string, whatever the letters
+/// Returns a mark for each rule of a grammar, by id: whether the rule derives the empty string, whatever the symbols
 /// are. The time is linear in the rules and their elements.
 ///
 /// # Errors

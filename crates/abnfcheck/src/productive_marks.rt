@@ -10,7 +10,7 @@ use letters::Alphabet;
 use ruletable::Memory;
 use std::alloc::Global;
 
-/// Returns a mark for each rule of a grammar, by id: whether the rule derives some list of letters of the alphabet. The
+/// Returns a mark for each rule of a grammar, by id: whether the rule derives some line over the alphabet. The
 /// time is linear in the rules and their elements.
 ///
 /// `Memory` if an allocation fails.

@@ -1,4 +1,4 @@
-//! Which rules derive the empty string, or some list of letters.
+//! Which rules derive the empty string, or some line.
 ghost use Rattle.std.specs.Prelude.{◌≡◌, ◌↔◌, ◌≤◌, ℕ, Bool, IsTrue, List, [], ◌∷◌, ◌++◌, length, replicate, IfOk};
 ghost use Rattle.fixpoint.specs.Demands.{All, One, AreNeedsWithin, owned_demand_of, owned_demands_of};
 ghost use Rattle.abnfread.specs.Element.{Rule, Text, Values, Range, id_of};

@@ -6,11 +6,13 @@ use abnfread::Elem;
 use ruletable::{NameCase, RuleTable};
 use std::marker::Model;
 
-/// A grammar by which lines can be judged: the file's rules, then the core rules that it leaves alone, and the judged
-/// rule. From that one no name without a rule can be reached, and no prose.
+/// A grammar by which lines can be judged. From the judged rule neither prose nor a name without a rule is reached, so
+/// the rules alone decide which lines it derives. Other rules may have such faults.
 #[derive(Drop)]
 pub struct SoundAbnf {
+    /// The file's rules, then the core rules that it leaves alone (RFC 5234, appendix B.1).
     rules: RuleTable<Elem>,
+    /// The id of the judged rule.
     judged: usize,
 }
 
@@ -38,7 +40,8 @@ impl SoundAbnf {
         SoundAbnf { rules, judged }
     }
 
-    /// Returns the file's rules, then the core rules that it leaves alone. Their names compare without case.
+    /// Returns the file's rules, and then the core rules that the file does not define. Their names compare without
+    /// case (RFC 5234, section 2.1).
     pub fn rules(&self) -> &RuleTable<Elem>
         ensures rules { result.now ≡ self.now.rules }
         ensures folds { result.now.names ≡ NameCase.Fold }

@@ -1,4 +1,4 @@
-//! What the rules of any table are good for.
+//! Marks on the rules of any table.
 ghost use Rattle.std.specs.Prelude.{◌≡◌, Bool, length, slice_index_or, IfOk};
 ghost use Rattle.fixpoint.specs.Demands.{demand_of, demands_of};
 ghost use Rattle.fixpoint.specs.StepRows.{rows_of};
@@ -71,7 +71,7 @@ pub fn sound_rules(alloc: Global, rules: &RuleTable<Elem>) -> Result<Vec<bool>, 
     opposites(alloc, &broken[..rules.len()])
 }
 
-/// Returns a mark for each rule of a table, by id: whether it derives some list of letters of the alphabet, as
+/// Returns a mark for each rule of a table, by id: whether it derives some line over the alphabet, as
 /// `productive` does of a sound grammar.
 ///
 /// # Errors

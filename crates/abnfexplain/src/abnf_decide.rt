@@ -11,10 +11,12 @@ use lexer::MAX_OPEN;
 use ruletable::Memory;
 use std::alloc::Global;
 
-/// A token with which the tokens begin no grammar any more.
+/// The first token with which the tokens begin no grammar any more, and its surroundings.
 #[derive(Drop)]
 pub(crate) struct Refused<'a> {
+    /// The position before the token.
     pub(crate) place: Place,
+    /// The token.
     pub(crate) token: MarkedToken<'a>,
     /// The text's first token, if this is another one.
     pub(crate) origin: Option<MarkedToken<'a>>,

@@ -1,4 +1,4 @@
-//! What explains a fault of a grammar in ABNF.
+//! Explanations of faults of a grammar in ABNF.
 ghost use Rattle.std.specs.Prelude.{◌≡◌, ℕ, ◌≤◌, ◌++◌, ◌&&◌, List, Some, true, length, map, codes, OnOk, IfOk};
 ghost use Rattle.std.specs.Option.{option_map};
 ghost use Rattle.lexer.specs.GrammarLimits.{max_grammar};
@@ -304,8 +304,9 @@ fn explain_token(alloc: Global, text: &[u8]) -> Result<Vec<u8>, Memory>
     }
 }
 
-/// Returns the lines that explain the fault of a grammar's text: a picture of the token that decides, its column, what
-/// can stand in its place, and what is known of it and of the tokens before. There are none if an allocation fails.
+/// Returns the lines that explain the fault of a grammar's text. They show a picture of the token that decides, its
+/// column, the tokens that can stand in its place, and facts on it and on the tokens before. There are none if an
+/// allocation fails.
 ///
 /// # Errors
 /// `Memory` if an allocation fails.

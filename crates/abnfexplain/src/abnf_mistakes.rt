@@ -47,7 +47,7 @@ pub(crate) struct Mistake {
     pub(crate) word: &'static [u8],
     /// That token has no other bytes.
     pub(crate) whole: bool,
-    /// What is reported.
+    /// The text that is reported.
     pub(crate) told: &'static [u8],
 }
 

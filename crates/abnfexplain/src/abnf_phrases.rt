@@ -11,11 +11,14 @@ use abnfread::AbnfKind;
 use ruletable::Memory;
 use std::alloc::Global;
 
-/// A phrase, the tokens that it means, and those that another phrase would mean too.
+/// A phrase of an explanation for some tokens.
 #[derive(Clone, Copy)]
 pub(crate) struct Phrase {
+    /// The words of the phrase.
     pub(crate) words: &'static [u8],
+    /// The tokens that it means.
     pub(crate) forms: &'static [Form],
+    /// Tokens that another phrase means too.
     pub(crate) bars: &'static [Form],
 }
 

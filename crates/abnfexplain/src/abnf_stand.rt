@@ -6,14 +6,14 @@ use abnfread::AbnfKind;
 use ruletable::Memory;
 use std::alloc::Global;
 
-/// What was taken last.
+/// The kind of token that was taken last.
 #[derive(Clone, Copy)]
 pub(crate) enum Stand {
     /// Nothing: the first rule's name is to come.
     Start,
     /// A rule's name.
     Named,
-    /// What a repetition must follow.
+    /// A token that a repetition must follow.
     Fresh,
     /// A repeat, which waits for its element.
     Awaits,
@@ -30,12 +30,14 @@ pub(crate) enum Bracket {
     Brack,
 }
 
-/// What the machine sees of a token: its kind, whether white space stands before it, and whether it is the first of a
-/// line that begins a rule.
+/// The form of a token: all that the machine reads of it.
 #[derive(Clone, Copy)]
 pub(crate) struct Form {
+    /// Its kind.
     pub(crate) kind: AbnfKind,
+    /// Whether white space stands before it.
     pub(crate) gap: bool,
+    /// Whether it is the first of a line that begins a rule.
     pub(crate) first: bool,
 }
 
@@ -113,9 +115,10 @@ pub(crate) fn stand_behind(form: Form) -> Stand
     }
 }
 
-/// A place between two tokens.
+/// A position between two tokens: the state of a pushdown machine that recognizes prefixes of grammars.
 #[derive(Drop)]
 pub(crate) struct Place {
+    /// The kind of token before it.
     pub(crate) stand: Stand,
     /// The brackets that are open, the innermost last.
     pub(crate) brackets: Vec<Bracket>,

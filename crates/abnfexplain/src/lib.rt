@@ -1,4 +1,4 @@
-//! What explains a fault of a grammar's text in ABNF, and notes on its grammar.
+//! Explains a fault of a grammar's text in ABNF, and notes on its grammar.
 #![tactic(auto)]
 
 mod abnf_decide;

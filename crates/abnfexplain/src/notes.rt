@@ -1,4 +1,4 @@
-//! What explains notes.
+//! Explanations of notes.
 ghost use Rattle.std.specs.Prelude.{◌≡◌, ℕ, List, Option, IfOk, option_copied};
 ghost use Rattle.ruletable.specs.Notes.{Said, said_of};
 ghost use Rattle.abnfexplain.specs.AbnfNoteLines.{AreAbnfPlaces, ExplainsNote, sign_of as the_sign};
@@ -9,7 +9,7 @@ use lexer::one_list;
 use ruletable::{LineRule, Memory, NameCase, Note};
 use std::alloc::Global;
 
-/// What the tokens of ABNF are to the definitions of a grammar.
+/// The roles of the tokens of ABNF in the definitions of a grammar.
 pub struct AbnfSigns;
 
 impl Signs<AbnfKind> for AbnfSigns {
@@ -38,9 +38,12 @@ pub fn abnf_places(alloc: Global, text: &[u8]) -> Result<Places, Memory>
     places_of::<AbnfKind, AbnfSigns>(alloc, text, LineRule::Lf, NameCase::Fold)
 }
 
-/// Returns the lines that explain a note on a grammar, where a name may be given for the start rule: where the note's
-/// rule is first defined, and where it is defined again; the use by which a name is noted that no rule has;
-/// the first prose of a rule. There are none for notes of other kinds.
+/// Returns the lines that explain a note on a grammar. A name may be given for the start rule.
+///
+/// - On a rule that is defined again: where it is first defined, and where it is defined again.
+/// - On a name that no rule has: its first use.
+/// - On a rule with prose: its first prose.
+/// - Notes of other kinds have no lines.
 ///
 /// # Errors
 /// `Memory` if an allocation fails.

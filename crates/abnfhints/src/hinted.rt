@@ -1,4 +1,4 @@
-//! What hints are on.
+//! The subject of hints.
 
 use crate::line_end::LineEnd;
 use abnfread::Elem;
@@ -6,7 +6,7 @@ use diagnostics::Places;
 use letters::Alphabet;
 use ruletable::RuleTable;
 
-/// A grammar, and what its hints depend on.
+/// A grammar, and all that its hints depend on.
 #[derive(Clone, Copy)]
 pub struct Hinted<'a> {
     /// Where its text defines its rules, and what their bodies mention.
@@ -17,8 +17,8 @@ pub struct Hinted<'a> {
     pub count: usize,
     /// The id of the judged rule, if there is one.
     pub judged: Option<usize>,
-    /// What a line is made of.
+    /// The alphabet of lines.
     pub letters: Alphabet,
-    /// What ends a line.
+    /// The end of a line.
     pub end: LineEnd,
 }

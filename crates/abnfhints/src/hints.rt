@@ -20,11 +20,15 @@ use std::alloc::Global;
 /// How many hints of a kind are reported.
 pub const MAX_HINTS: usize = 16;
 
-/// Returns the hints on a grammar, as they are reported: on rules of the file that derive nothing, by their order; on
-/// ranges and repetitions whose numbers are reversed, by the order of the text; and on the judged rule, if it derives
-/// something, but no line. A rule from which a name without a rule can be reached, or prose, derives what nobody knows:
-/// there is no hint on it of the first and the last kind. Of each kind the first 16 are reported, and how many more
-/// there are. Hints never reject a grammar.
+/// Returns the hints on a grammar, as they are reported:
+///
+/// - on rules of the file that derive nothing, by their order;
+/// - on ranges and repetitions whose numbers are reversed, by the order of the text;
+/// - on the judged rule, if it derives something, but no line.
+///
+/// Nobody knows which texts a rule derives that reaches prose or a name without a rule. So there is no hint on it of
+/// the first and the last kind. Of each kind the first 16 are reported, and how many more there are. Hints never reject
+/// a grammar.
 ///
 /// # Errors
 /// `Memory` if an allocation fails.

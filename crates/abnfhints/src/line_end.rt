@@ -1,4 +1,4 @@
-//! What ends a line.
+//! Ends of lines.
 ghost use Rattle.std.specs.Prelude.{◌≡◌};
 ghost use Rattle.abnfhints.specs.LineEnds.{end_byte};
 

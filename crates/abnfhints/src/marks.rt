@@ -16,7 +16,7 @@ use std::alloc::Global;
 pub(crate) struct Marks {
     /// They reach no name without a rule, and no prose.
     pub(crate) sound: Vec<bool>,
-    /// They derive some list of letters.
+    /// They derive some line.
     pub(crate) productive: Vec<bool>,
 }
 

@@ -1,4 +1,4 @@
-//! Copies elements and rules without what holds a letter.
+//! Copies elements and rules without what holds a symbol.
 ghost use Rattle.std.specs.Prelude.{◌≡◌, ◌↔◌, ◌<◌, ◌≤◌, ◌+◌, IsTrue, Contains, IfOk};
 ghost use Rattle.abnfread.specs.Element as e;
 ghost use Rattle.abnfread.specs.AbnfViews.{element_of, elements_of, rules_of};
@@ -113,7 +113,7 @@ fn all_without(alloc: Global, letter: u8, members: &[Elem]) -> Result<Vec<Elem>,
     Ok(left)
 }
 
-/// Returns the rules with what is left of their bodies: they derive those lists in which the letter does not stand.
+/// Returns the rules with what is left of their bodies: they derive those lists in which the symbol does not stand.
 ///
 /// `Memory` if an allocation fails.
 pub(crate) fn rules_without(

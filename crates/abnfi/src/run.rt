@@ -17,11 +17,11 @@ use ruletable::Sink;
 use std::rt::Files;
 use toolrun::Status;
 
-/// Runs the program `abnfi`, whose words are its own name and `[-m MODE] [-l N] [-s RULE] [-u MODE] [-p WHAT] [-n] [-w]
-/// [-z] [-x] GRAMMAR [FILE]`: it judges the lines that the reader gives by the grammar in the file GRAMMAR, as
-/// `run_abnf` says, with the settings of the words.
+/// Runs the program `abnfi`. It judges the lines that the reader gives by the grammar in the file GRAMMAR, as
+/// `run_abnf` says, with the settings of the words. These are its own name and `[-m MODE] [-l N] [-s RULE] [-u MODE]
+/// [-p WHAT] [-n] [-w] [-z] [-x] GRAMMAR [FILE]`.
 ///
-/// Words without a run, a grammar that cannot be read and want of memory end it as `tool_main` says.
+/// Words without a run, a grammar that cannot be read and an allocation that fails end it as `tool_main` says.
 pub(crate) fn abnfi_main<R: Files + AllocGlobal, I: Source, O: Sink, E: Sink>(
     rt: &R,
     words: &[String],

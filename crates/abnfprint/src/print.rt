@@ -145,7 +145,7 @@ fn print_definition<W: Sink>(name: &[u8], body: &Elem, w: &mut W) -> Result<(), 
 
 /// Writes a grammar's canonical text: each of the file's rules in order by `=`, with all its alternatives, on one line,
 /// and with no parentheses but those that it needs. Core rules that the file leaves alone aren't written. `WriteFault`
-/// where the writer fails; then a beginning of the text is written.
+/// where the writer fails; then a prefix of the text is written.
 ///
 /// Where the grammar was read from some text, and the canonical text has at most `MAX_GRAMMAR` bytes, that text reads
 /// as the same rules, but for their spans, and as nothing else. It takes no memory, and recurses no deeper than the
@@ -168,7 +168,7 @@ pub fn print_abnf<W: Sink>(abnf: &Abnf, w: &mut W) -> Result<(), WriteFault>
 }
 
 /// Laws of canonical texts. The rules that a text reads as, their canonical text reads as too, but for spans, and as
-/// nothing else; no bracket is too many, and no number too large. The canonical text tells nothing of spans, so that of
+/// nothing else; no bracket is too many, and no number too large. The canonical text has no spans, so that of
 /// a canonical text is itself. And the rules that a text reads as are formed: names are names, texts and prose hold
 /// what they may, no concatenation or alternation has fewer than two parts, and no number is over its limit.
 pub fn is_abnf_read_back()

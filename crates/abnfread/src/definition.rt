@@ -1,4 +1,4 @@
-//! What a grammar in ABNF is a list of.
+//! Definitions, of which a grammar in ABNF is a list.
 
 use crate::elem::Elem;
 use ruletable::Span;
@@ -8,8 +8,10 @@ use ruletable::Span;
 pub struct Definition<'a> {
     /// It adds alternatives (`=/`).
     pub adds: bool,
+    /// The name, as it is spelled.
     pub name: &'a [u8],
-    /// Where the name stands.
+    /// The span of the name.
     pub span: Span,
+    /// The elements after `=` or `=/`.
     pub body: Elem,
 }

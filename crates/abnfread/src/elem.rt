@@ -1,4 +1,4 @@
-//! What the bodies of ABNF rules are made of.
+//! Elements, of which the bodies of ABNF rules consist.
 
 /// An element (RFC 5234, sections 2 to 4; RFC 7405).
 #[derive(Drop)]

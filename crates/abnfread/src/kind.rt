@@ -1,8 +1,8 @@
-//! What a grammar in ABNF is cut into.
+//! The kinds of tokens of a grammar in ABNF.
 ghost use Rattle.std.specs.Prelude.{◌≡◌};
 ghost use Rattle.abnfread.specs.AbnfKinds.{is_repeat as repeats};
 
-/// What a token is (RFC 5234, section 4).
+/// The kind of a token (RFC 5234, section 4).
 #[derive(Clone, Copy)]
 pub enum AbnfKind {
     /// A letter, then letters, digits and `-`.
@@ -23,13 +23,13 @@ pub enum AbnfKind {
     RBrack,
     /// Digits, or `*` with digits before and after it, or none.
     Repeat,
-    /// What stands in quotes, with `%s` or `%i` before it, or neither.
+    /// A text in quotes, with `%s` or `%i` before it, or neither.
     Text,
     /// `%`, a base, and numbers with dots between, or two with `-` between.
     Num,
-    /// What stands between `<` and `>`.
+    /// A text between `<` and `>`.
     Prose,
-    /// What begins no token, from there to the end of the text.
+    /// Bytes that begin no token, to the end of the text.
     Bad,
     /// The end of the text.
     End,

@@ -9,6 +9,7 @@ use lexer::{Kind, Token, TokenIter};
 /// A token with its marks.
 #[derive(Clone, Copy)]
 pub struct MarkedToken<'a> {
+    /// The token.
     pub token: Token<'a, AbnfKind>,
     /// White space stands directly before it.
     pub gap: bool,
@@ -16,12 +17,19 @@ pub struct MarkedToken<'a> {
     pub first: bool,
 }
 
-/// The tokens of a grammar's text with their marks, the last one `End`.
+/// An iterator over the tokens of a grammar's text with their marks. The last one is `End`.
+///
+/// A line begins a rule if its indent is at most that of the text's first token (RFC 5234, section 2.2). So the
+/// iterator keeps that indent. White space stands before a token that does not begin where the last one ended.
 #[derive(Drop)]
 pub struct AbnfTokenIter<'a> {
+    /// The whole text.
     text: &'a [u8],
+    /// The tokens without marks.
     inner: TokenIter<'a, AbnfKind>,
+    /// The indent of the first token, in bytes, if blanks alone stand before it in its line.
     margin: Option<usize>,
+    /// Where the last token ended, in bytes from the front of the text.
     end: usize,
     ghost whole: { total_of inner ≡ length text.now },
 }

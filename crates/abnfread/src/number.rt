@@ -1,4 +1,4 @@
-//! What digits say.
+//! Values of digits.
 ghost use Rattle.std.specs.Prelude.{◌≡◌, ℕ, ◌<◌, ◌≤◌, ◌++◌, ◌∷◌, [], Option, List, All, MatchOption, MatchResult};
 ghost use Rattle.std.specs.Str.Parse.{digits_value};
 ghost use Rattle.abnfread.specs.BaseDigits.{is_digit as is_digit_in};

@@ -62,17 +62,20 @@ pub(crate) enum Bracket {
     Brack,
 }
 
-/// What stands round an open bracket: the alternatives that ended, the parts of the last one, how often the bracket
-/// stands, and its form.
+/// The part of a body that an open bracket interrupts.
 #[derive(Drop)]
 pub(crate) struct Level {
+    /// The alternatives that ended.
     alternatives: Vec<Elem>,
+    /// The parts of the last alternative so far.
     parts: Vec<Elem>,
+    /// The repeat before the bracket.
     times: Times,
+    /// The form of the bracket.
     bracket: Bracket,
 }
 
-/// What the reader has come to.
+/// The state of the reader: the kind of word that it took last.
 #[derive(Clone, Copy)]
 pub(crate) enum At {
     /// Before the first word.
@@ -89,18 +92,31 @@ pub(crate) enum At {
     Done,
 }
 
-/// Takes words, and makes definitions of them: those that ended, what the last one began with, what stands round its
-/// open brackets, and the alternatives and parts within the innermost one.
+/// A pushdown machine that takes a grammar word by word, and makes definitions of the words.
+///
+/// The definitions that ended stand in `definitions`. `adds`, `name` and `span` are those of the definition that goes
+/// on. Of its body the machine has `alternatives` and `parts`, within the innermost open bracket. An open bracket
+/// pushes these onto `outer`; its end pops them. `at` decides which words may follow. The stack is a vector, so nesting
+/// takes no call stack.
 #[derive(Drop)]
 pub(crate) struct Reader<'a> {
+    /// Allocates the definitions.
     alloc: Global,
+    /// The definitions that ended, in order.
     definitions: Vec<Definition<'a>>,
+    /// Whether the definition that goes on adds alternatives (`=/`).
     adds: bool,
+    /// The name of the definition that goes on.
     name: &'a [u8],
+    /// The span of that name.
     span: Span,
+    /// The parts that open brackets interrupt, the innermost last.
     outer: Vec<Level>,
+    /// The alternatives that ended, within the innermost bracket.
     alternatives: Vec<Elem>,
+    /// The parts of the last alternative so far.
     parts: Vec<Elem>,
+    /// The word that was taken last.
     at: At,
 }
 

@@ -13,13 +13,13 @@ use lexer::after_byte;
 /// Bytes that stand together.
 #[derive(Clone, Copy)]
 pub(crate) enum Class {
-    /// What goes on with a name.
+    /// Bytes that continue a name.
     Inner,
-    /// What may stand in quotes.
+    /// Bytes that may stand in quotes.
     Quotable,
-    /// What may stand in angle brackets.
+    /// Bytes that may stand in angle brackets.
     Prose,
-    /// What a comment holds.
+    /// Bytes of a comment.
     Inside,
     /// Digits of that base.
     Digit(u8),
@@ -204,7 +204,8 @@ fn equals_token(tail: &[u8]) -> (AbnfKind, &[u8])
     }
 }
 
-// Returns the token of a text after `%s` or `%i`.
+/// Scans a text with a case mark (RFC 7405). `tail` follows `%s` or `%i`; either mark gives the same kind, so the mark
+/// is no parameter. Returns the kind and what follows the text. `None` if no text in quotes begins the tail.
 fn cased_token(tail: &[u8]) -> Option<(AbnfKind, &[u8])>
     ensures { (c : ℕ) → is_case_letter c ≡ true → MatchOption result (NoToken Stands (37 ∷ c ∷ tail.now))
         (λ token. Longest Stands token.0 (37 ∷ c ∷ tail.now) token.1.now) }

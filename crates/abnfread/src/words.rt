@@ -1,4 +1,4 @@
-//! What tokens say to a grammar.
+//! The words that tokens stand for.
 ghost use Rattle.std.specs.Prelude.{◌≡◌, ◌≢◌, ℕ, ◌≤◌, ◌||◌, ◌==◌, Bool, true, List, ◌∷◌, ◌++◌, [], None, Ok};
 ghost use Rattle.std.specs.Prelude.{MatchResult};
 ghost use Rattle.abnfread.specs.declared.kind.AbnfKind.TheVariants.{Bad};
@@ -37,7 +37,7 @@ pub(crate) enum Said<'a> {
     End,
 }
 
-/// Returns what a token says, and `None` for `Bad`, which says nothing.
+/// Reads the word that a token stands for; `None` for `Bad`, which stands for none.
 ///
 /// # Errors
 /// - `TooLarge` for a number over its limit.

@@ -23,25 +23,25 @@ use toolrun::{Status, run_tool};
 ///   on that are written on `err`, `Refused`. Nothing is read, and no other check is made.
 /// - Else the notes on it are written on `err`. If they reject it, or it is only to be checked, that is all: `Refused`,
 ///   or `Done`, and nothing is read.
-/// - If the settings ask for explanations, a note on a rule that is defined again, extended early, or not used, is
-///   followed by the lines of its definitions; others by the first use of a name that is not defined, and the first
-///   prose of a rule, with the names of the rules by which the judged rule reaches these. All notes are followed by
-///   hints on rules that derive nothing, on reversed ranges, and on a judged rule that derives no line, unless the
-///   grammar is to be printed.
-/// - A line ends before an LF, or before a NUL byte if the settings say so, and a last piece without an end is a line
-///   if it is not empty; all other bytes belong to their line. It is answered by `yes` exactly if the judged rule
-///   derives it: the rule named in the settings, or else the first. The letters of a line are its bytes; or, if the
-///   settings say so, its code points in UTF-8, and then a line that is not UTF-8 is not derived. The run ends after
-///   the last line with `Done` if all answers are `yes`, else with `NoMatch`.
-/// - The settings may ask for other things than the answers: the lines that are derived, or those that are not, each
-///   with its end; how many there are of both, at the end of the input; or nothing. If they ask for numbers, the number
-///   of a line from 1 and a colon stand before what is written for it.
+/// - If the settings ask for explanations, further lines follow each note. After one on a rule that is defined again,
+///   extended early, or not used, come the lines of its definitions. After one on a name that is not defined comes its
+///   first use, and after one on prose the first prose of the rule. Both have the names of the rules by which the
+///   judged rule reaches them. After all notes come hints on rules that derive nothing, on reversed ranges, and on a
+///   judged rule that derives no line, unless the grammar is to be printed.
+/// - A line ends before an LF, or before a NUL byte if the settings say so. A last piece without an end is a line if it
+///   is not empty. All other bytes belong to their line. It is answered by `yes` exactly if the judged rule derives it:
+///   the rule named in the settings, or else the first. The symbols of a line are its bytes, or, if the settings say
+///   so, its code points in UTF-8. Then a line that is not UTF-8 is not derived. The run ends after the last line with
+///   `Done` if all answers are `yes`, else with `NoMatch`.
+/// - The settings may ask for other output than the answers: the lines that are derived, or those that are not, each
+///   with its end; the counts of both, at the end of the input; or nothing. If they ask for numbers, the number of a
+///   line from 1 and a colon stand before its output.
 /// - A line that is not derived is answered by `no`. If the settings ask for the longest viable prefix, it is answered
-///   by `no N`, where that prefix has N letters. Of a line that is not UTF-8 these letters are those of its longest
+///   by `no N`, where that prefix has N symbols. Of a line that is not UTF-8 these symbols are those of its longest
 ///   prefix that is.
-/// - If the settings ask for explanations, `err` gets, before the message in which the run ends: for each of the first
-///   16 lines that are not derived, where it is rejected and which letters can follow there, all of them and no other,
-///   and whether the line can end there; and how many more there are.
+/// - If the settings ask for explanations, `err` reports the first 16 lines that are not derived, before the message in
+///   which the run ends. Of each it says where it is rejected, which symbols can follow there, all of them and no
+///   other, and whether the line can end there. Then it says how many more there are.
 /// - A line of more than `limit` bytes is not answered: `line K longer than L bytes`, `Overlong`; K counts from 1.
 /// - After a fault of the reader a line is judged only if its end was read: else `read error`, `Fault`. So is an input
 ///   of 9,223,372,036,854,775,807 bytes taken to end.

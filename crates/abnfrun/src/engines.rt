@@ -1,4 +1,4 @@
-//! The two judges of letters: an automaton, which is asked first, and a chart. Both judge by a flat grammar.
+//! The two judges of symbols: an automaton, which is asked first, and a chart. Both judge by a flat grammar.
 ghost use Rattle.std.specs.Prelude.{◌≡◌, ◌↔◌, ◌≤◌, length, map, IfOk, IfSome, IsTrue};
 ghost use Rattle.flatgrammar.specs.FlatVerdicts.{DerivesLine, IsFlatVerdict};
 
@@ -8,10 +8,12 @@ use lazydfa::Automaton;
 use letters::Letter;
 use ruletable::Memory;
 
-/// The memory that letters are judged in: that of a chart, and the automaton that is asked first, if there is one.
+/// The two judges of a flat grammar. The automaton is fast, but may give no answer; then the chart answers.
 #[derive(Drop)]
 pub(crate) struct Engines {
+    /// The Earley judge.
     pub(crate) chart: Chart,
+    /// The lazy automaton, if the grammar has one.
     pub(crate) automaton: Option<Automaton>,
 }
 

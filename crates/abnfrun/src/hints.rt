@@ -31,7 +31,8 @@ fn line_end(nul: bool) -> LineEnd
     if nul { LineEnd::Nul } else { LineEnd::Lf }
 }
 
-/// Returns the hints on the grammar of a text by its places, as settings ask for them. `Memory` if an allocation fails.
+/// Returns the hints on the grammar of a text by its positions, as settings ask for them. `Memory` if an allocation
+/// fails.
 pub(crate) fn hints_of(
     alloc: Global,
     places: &AbnfPlaces,

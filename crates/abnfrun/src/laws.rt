@@ -18,7 +18,7 @@ use abnfread::one_reading;
 use letters::utf8_is_decided;
 use refusedlines::refusal_is_one;
 
-/// A list of rules, a judged rule and settings have at most one reply to an input.
+/// States that a list of rules, a judged rule and settings have at most one reply to an input.
 pub fn one_reply_of_abnf()
     ensures { (rules : List Rule) (judged : ℕ) (settings : AbnfSettings) (input : Input) (a b : Reply) →
         JudgeReplies rules judged settings input a → JudgeReplies rules judged settings input b → a ≡ b }
@@ -28,9 +28,10 @@ pub fn one_reply_of_abnf()
     refusal_is_one();
 }
 
-/// A text in ABNF is a grammar of at most one list of definitions, or has at most one fault, and never both; but an
-/// allocation may fail in reading it. A text, settings and an input have at most one list of notes and one reply, but
-/// for those after a failed allocation, status 5. A text that is too long is reported as that, whatever allocations do.
+/// States that a text in ABNF is a grammar of at most one list of definitions, or has at most one fault, and never
+/// both; but an allocation may fail in reading it. A text, settings and an input have at most one list of notes and one
+/// reply, but for those after a failed allocation, status 5. A text that is too long is reported as that, whatever
+/// allocations do.
 pub fn one_statement_of_abnf()
     ensures definitions { (text : List ℕ) (a b : List Definition) → Reads text a → Reads text b → a ≡ b }
     ensures no_fault { (text : List ℕ) (definitions : List Definition) (fault : ReadFault) →

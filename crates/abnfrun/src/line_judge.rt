@@ -26,25 +26,33 @@ use refusedlines::{Explainer, RefusedLine, explain_refused};
 use ruletable::Memory;
 use std::alloc::Global;
 
-/// Answers lines by a grammar: whether its judged rule derives them, and the length of their longest viable prefix if
-/// that is asked for. It explains rejected lines by the flat grammar for lines of one letter more, if there is one.
+/// A judge of lines by a grammar: it answers whether the judged rule derives a line. It borrows all that it needs, and
+/// changes nothing; the memory of the judges is in `Work`.
 #[derive(Drop)]
 pub struct LineJudge<'a> {
+    /// The grammar.
     pub(crate) grammar: &'a SoundAbnf,
+    /// The alphabet of lines.
     pub(crate) letters: Alphabet,
+    /// Whether a rejection reports the length of the longest viable prefix.
     pub(crate) viable: bool,
+    /// The lowered grammar: with `viable`, its productive parts alone.
     pub(crate) flat: &'a Flat,
+    /// The flat grammar for lines of one symbol more, by which rejected lines are explained, if they are.
     pub(crate) explainer: Option<&'a Flat>,
     ghost lowered: { viable ≡ false → ∥ IsLowered (rules_of grammar.now.rules) grammar.now.judged flat.now ∥₁ },
     ghost tells: { viable ≡ true → ∥ TellsBeginnings (has letters) (rules_of grammar.now.rules) grammar.now.judged
         flat.now ∥₁ },
 }
 
-/// The memory that lines are judged in: that of the judges of their letters, and their code points.
+/// The memory in which lines are judged. It is kept from line to line.
 #[derive(Drop)]
 pub struct Work {
+    /// Allocates the explanations.
     alloc: Global,
+    /// The two judges of symbols.
     pub(crate) engines: Engines,
+    /// The code points of the line, if its symbols are code points.
     points: Vec<CodePoint>,
 }
 
@@ -74,7 +82,7 @@ pub fn lines_have_answers()
     utf8_is_decided();
 }
 
-/// Returns the answer to the letters of a line, no more than the flat grammar serves. `Memory` if an allocation fails.
+/// Returns the answer to the symbols of a line, no more than the flat grammar serves. `Memory` if an allocation fails.
 fn judge_letters<L: Letter>(
     judges: &LineJudge<'_>,
     engines: &mut Engines,
@@ -101,7 +109,7 @@ fn judge_letters<L: Letter>(
     if yes { Ok(Answer::Yes) } else { Ok(Answer::No) }
 }
 
-/// Returns the answer to a line by the answer to its longest prefix that is UTF-8, of so many letters, where that is
+/// Returns the answer to a line by the answer to its longest prefix that is UTF-8, of so many symbols, where that is
 /// not the whole line.
 fn torn_by(said: Answer, count: usize) -> Answer
     ensures { result ≡ torn count said }
@@ -150,7 +158,7 @@ fn judge_points(judges: &LineJudge<'_>, work: &mut Work, line: &[u8]) -> Result<
     Ok(Answer::No)
 }
 
-/// Returns the lines that explain a rejected line of that number, by the flat grammar for lines of one letter more.
+/// Returns the lines that explain a rejected line of that number, by the flat grammar for lines of one symbol more.
 /// `Memory` if an allocation fails.
 fn explain_line(
     judges: &LineJudge<'_>,
@@ -243,7 +251,7 @@ pub(crate) fn lowered(
     lower(alloc, grammar, settings.limit)
 }
 
-/// Lowers a grammar for lines of one letter more than settings allow, by which rejected lines are explained, if
+/// Lowers a grammar for lines of one symbol more than settings allow, by which rejected lines are explained, if
 /// settings ask for that. `Memory` if an allocation fails.
 pub(crate) fn explainer_of(
     alloc: Global,

@@ -1,4 +1,4 @@
-//! What explains notes on a grammar in ABNF.
+//! Explanations of notes on a grammar in ABNF.
 ghost use Rattle.std.specs.Prelude.{◌≡◌, ◌++◌, ℕ, List, Option, IfOk, OnOk, option_copied};
 ghost use Rattle.ruletable.specs.Notes.{said_of};
 ghost use Rattle.abnfread.specs.AbnfReading.{Reads};
@@ -15,10 +15,12 @@ use abnfread::{Elem, read_abnf};
 use ruletable::{Memory, Note, NoteKind, RuleTable};
 use std::alloc::Global;
 
-// The rules of a text, and then the core rules that it leaves alone; and how many the text has.
+/// The rules of a text with the core rules.
 #[derive(Drop)]
 struct AllRules {
+    /// The rules of the text, and then the core rules that it leaves alone.
     rules: RuleTable<Elem>,
+    /// How many rules the text has.
     count: usize,
 }
 
@@ -96,7 +98,7 @@ fn push_behind(
     }
 }
 
-/// Returns the lines that explain a note: those of places, and by which rules the judged one reaches a name that no
+/// Returns the lines that explain a note: those of positions, and by which rules the judged one reaches a name that no
 /// rule has, or a rule that holds prose.
 ///
 /// `Memory` if an allocation fails.

@@ -14,8 +14,8 @@ ghost use Rattle.toolrun.specs.ToldNotes.{HintedNotes};
 ghost use Rattle.toolrun.specs.declared.settings.Mode.TheVariants.{Run};
 ghost use Rattle.abnfrun.specs.AbnfSettings.{AbnfSettings};
 
-/// Returns nothing. Its contract is a law: the answer of an open grammar to a line is what a run of its text states for
-/// that line alone, after its notes and hints, with the explanation of a rejected line if that is asked.
+/// Returns nothing. Its contract is a law: the answer of an open grammar to a line is that of a run on this line alone.
+/// The run writes its notes and hints first, and the explanation of a rejected line if that is asked.
 pub fn answers_as_a_run()
     ensures { (text line : List ℕ) (settings : AbnfSettings) (notes : List Said) (told : List ℕ) (judge : OpenJudge)
         (said : Answer) (why : List ℕ) → settings.mode ≡ Run → IsOpened text settings notes (Some judge) →

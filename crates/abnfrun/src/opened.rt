@@ -18,13 +18,22 @@ use std::alloc::Global;
 use std::marker::Model;
 use toolrun::{Checked, open};
 
-/// A grammar that judges lines, with what settings ask of it. It keeps what it found out of the lines before.
+/// An open grammar, read, checked and lowered once, that judges lines.
+///
+/// `flat` is lowered from `grammar`. With `viable` it has the productive parts alone, for the alphabet: then a prefix
+/// with a symbol is viable exactly if its item set has an item. `work` keeps the automaton of earlier lines; no answer
+/// depends on it.
 #[derive(Drop)]
 pub struct AbnfJudge {
+    /// The grammar.
     grammar: SoundAbnf,
+    /// The alphabet of lines.
     letters: Alphabet,
+    /// Whether a rejection reports the length of the longest viable prefix.
     viable: bool,
+    /// The lowered grammar.
     flat: Flat,
+    /// The chart, the automaton and the code points, which serve line after line.
     work: Work,
 }
 
@@ -68,16 +77,16 @@ impl AbnfJudge {
     }
 }
 
-/// What opening a grammar gave.
+/// The result of opening a grammar.
 #[derive(Drop)]
 pub struct OpenedAbnf {
-    /// What there is to say of the grammar, in order.
+    /// The notes on the grammar, in order.
     pub notes: Vec<Note>,
-    /// What judges lines by it, unless notes reject it.
+    /// Its judge of lines, unless notes reject it.
     pub judge: Option<AbnfJudge>,
 }
 
-/// Returns what judges lines by a grammar as settings ask. `Memory` if an allocation fails.
+/// Makes the judge of lines by a grammar, as settings ask. `Memory` if an allocation fails.
 fn judge_by(
     alloc: Global,
     grammar: SoundAbnf,
@@ -102,7 +111,7 @@ fn judge_by(
 }
 
 /// Reads and checks a grammar's text, and returns the notes on it and what judges lines by it as settings ask: by the
-/// rule that they name, within their limit. They say what letters are, and whether the longest viable prefix is asked
+/// rule that they name, within their limit. They say what symbols are, and whether the longest viable prefix is asked
 /// for; all else of them is not looked at. The text's fault if it is not a grammar, or if an allocation fails.
 pub fn open_abnf(
     alloc: Global,

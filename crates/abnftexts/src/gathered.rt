@@ -1,28 +1,37 @@
-//! What texts give.
+//! The rules and reports that texts give.
 
 use crate::join::GivenRule;
 use abnfblocks::TextLine;
 
-/// A text: its name in reports of positions, and its bytes.
+/// A text with its name.
 #[derive(Clone, Copy)]
 pub struct SourceText<'a> {
+    /// The name in reports of positions.
     pub name: &'a [u8],
+    /// The bytes of the text.
     pub bytes: &'a [u8],
 }
 
-/// Where a rule stands: the name of its text, the margin that is cut, its lines, and how many blank lines follow them.
+/// The position of a rule in a text.
 #[derive(Drop)]
 pub(crate) struct RulePlace<'a> {
+    /// The name of the text.
     pub(crate) name: &'a [u8],
+    /// The margin that is cut off, in bytes.
     pub(crate) margin: usize,
+    /// The lines of the rule.
     pub(crate) lines: Vec<TextLine<'a>>,
+    /// How many blank lines follow them.
     pub(crate) blanks: usize,
 }
 
-/// The rules of texts in order, the lines of each, and the reports on the error output.
+/// The rules of texts, in order.
 #[derive(Drop)]
 pub(crate) struct Gathered<'a> {
+    /// Of each rule its position.
     pub(crate) places: Vec<RulePlace<'a>>,
+    /// The rules.
     pub(crate) rules: Vec<GivenRule>,
+    /// The reports on the error output.
     pub(crate) told: Vec<u8>,
 }

@@ -1,4 +1,4 @@
-//! What becomes of the rules that several texts give: which are the same, which yield to others, and in what order they
+//! Joins the rules that several texts give: decides which are the same, which yield to others, and in what order they
 //! are printed.
 
 mod by_name;

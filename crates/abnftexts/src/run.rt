@@ -19,7 +19,7 @@ use ruletable::{ReadFault, Sink, WriteFault, write_whole};
 use std::alloc::Global;
 use toolrun::{Status, Stop, close_run, end_run};
 
-/// What is written of a joined grammar.
+/// The form in which a joined grammar is written.
 #[derive(Clone, Copy)]
 pub enum JoinForm {
     /// Its rules as their texts have them.

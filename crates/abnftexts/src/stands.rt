@@ -1,4 +1,4 @@
-//! What stands.
+//! Rules that stand.
 ghost use Rattle.std.specs.Prelude.{◌≡◌, IfOk};
 ghost use Rattle.abnftexts.specs.JoinedGrammar.{has_stayed, standing};
 
@@ -13,7 +13,7 @@ fn stands(fate: Fate) -> bool
     matches!(fate, Fate::Stands)
 }
 
-/// Returns what stands beside those fates that say that a rule stands.
+/// Keeps the items of `all` whose fate says that their rule stands.
 ///
 /// # Errors
 /// `Memory` if an allocation fails.

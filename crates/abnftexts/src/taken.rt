@@ -132,7 +132,7 @@ fn take_text<'a>(
     take_found(alloc, gathered, text.name, &kept, &found)
 }
 
-/// Returns what texts give, one after another.
+/// Takes the rules of texts, one text after another.
 ///
 /// # Errors
 /// `Memory` if an allocation fails.

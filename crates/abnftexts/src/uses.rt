@@ -15,11 +15,14 @@ use diagnostics::{Mention, MentionKind};
 use ruletable::Memory;
 use std::alloc::Global;
 
-/// A name that a rule uses: the name of the text, the line, and the name as it is spelled there.
+/// A name that a rule uses.
 #[derive(Drop)]
 pub(crate) struct NameUse<'a> {
+    /// The name of the text.
     pub(crate) text: &'a [u8],
+    /// The number of the line, from 1.
     pub(crate) line: usize,
+    /// The name as it is spelled there.
     pub(crate) name: Vec<u8>,
 }
 

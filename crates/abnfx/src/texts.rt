@@ -17,7 +17,9 @@ const MAX_TEXT: usize = 16_777_216;
 /// A text, and the file that it was read from.
 #[derive(Drop)]
 pub(crate) struct FileText<'a> {
+    /// The path of the file.
     pub(crate) path: &'a str,
+    /// The bytes of the text.
     pub(crate) bytes: Vec<u8>,
 }
 

@@ -8,15 +8,17 @@ use ruletable::Memory;
 use std::alloc::Global;
 use std::marker::Model;
 
-/// A set of numbers below 2^63, seen as the ascending list of its members.
+/// A set of numbers below 2^63. Contracts see the ascending list of its members.
 ///
-/// Bit `k % 64` of word `k / 64` tells whether `k` is a member. The words from the first to the last that has a bit are
-/// kept, so that a set takes a bit for each number between its least and its greatest member.
+/// Bit `k % 64` of word `k / 64` says whether `k` is a member. Only the words from the first to the last that has a bit
+/// are kept. So a set takes a bit for each number between its least and its greatest member.
 #[derive(Drop)]
 pub struct BitRow {
+    /// Allocates the words.
     alloc: Global,
-    // the number of the first word that is kept
+    /// The number of the first word that is kept.
     first: usize,
+    /// The words from that one on.
     words: Vec<u64>,
 }
 
@@ -106,7 +108,7 @@ impl BitRow {
         Ok(())
     }
 
-    /// Tells whether it has each member of another set.
+    /// Returns whether it has each member of another set.
     pub fn has_all(&self, found: &BitRow) -> bool
         ensures { IsTrue result ↔ ((x : ℕ) → Contains found.now x → Contains self.now x) }
     {

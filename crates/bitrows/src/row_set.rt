@@ -9,14 +9,19 @@ use std::alloc::Global;
 use std::marker::Model;
 use std::mem;
 
-/// A set of pairs of a place and a number: a row of numbers for each place. Those that came in since they were last
-/// taken are pending.
+/// A set of pairs of a row and a number, with a worklist.
+///
+/// A number that was added, and not taken yet, is pending. `add` looks for new numbers in a whole row at once, and
+/// `take` takes all that is pending in one row. So a fixed point is found with few operations on words.
 #[derive(Drop)]
 pub struct RowSet {
+    /// Allocates the rows.
     alloc: Global,
+    /// Of each row its numbers, with those that are pending.
     rows: Vec<BitRow>,
+    /// Of each row the numbers that are pending.
     pending: Vec<BitRow>,
-    // the places of what is pending
+    /// The rows that have pending numbers.
     queue: Vec<usize>,
 }
 
@@ -58,7 +63,7 @@ pub fn empty_rows(alloc: Global, places: usize) -> Result<Vec<BitRow>, Memory>
 }
 
 impl RowSet {
-    /// Returns a set of so many places, of which each has no number. `Memory` if an allocation fails.
+    /// Returns a set of so many rows, of which each has no number. `Memory` if an allocation fails.
     pub fn new(alloc: Global, places: usize) -> Result<RowSet, Memory>
         ensures { IfOk result (λ set. set ≡ no_items places) }
     {
@@ -72,7 +77,7 @@ impl RowSet {
         })
     }
 
-    /// Returns the row of a place.
+    /// Returns a row by its index.
     pub fn row(&self, place: usize) -> &BitRow
         requires { place < length self.now.all }
         ensures { result.now ≡ slice_index_or self.now.all place [] }
@@ -80,7 +85,7 @@ impl RowSet {
         &self.rows[place]
     }
 
-    /// Adds numbers to a place. Those that it had not are pending. `Memory` if an allocation fails.
+    /// Adds numbers to a row. Those that it had not are pending. `Memory` if an allocation fails.
     pub fn add(&mut self, place: usize, found: &BitRow) -> Result<(), Memory>
         requires { place < length self.old.all }
         ensures { IfOk result (λ done. AddsAt place (λ k. Contains found.now k) self.old self.new) }
@@ -93,7 +98,7 @@ impl RowSet {
         Ok(())
     }
 
-    /// Takes what is pending at a place, which has nothing pending then. `None` if nothing is pending.
+    /// Takes what is pending in a row, which has nothing pending then. `None` if nothing is pending.
     pub fn take(&mut self) -> Option<(usize, BitRow)>
         ensures some { IfSome result (λ taken. TakesAt taken.0 taken.1 self.old self.new) }
         ensures none { IfNone result ((p k : ℕ) → HasAt self.old.pending p k → ⊥) }
@@ -104,7 +109,7 @@ impl RowSet {
         Some((place, row))
     }
 
-    /// Returns the rows, place by place.
+    /// Returns the rows, in order.
     pub fn into_rows(self) -> Vec<BitRow>
         ensures { result.items ≡ self.all }
     {

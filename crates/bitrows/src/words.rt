@@ -1,4 +1,4 @@
-//! Windows of words: word `first` of a row, and those behind it. All other words are 0.
+//! Windows of words: word `first` of a row, and those after it. All other words are 0.
 ghost use Rattle.std.specs.Prelude.{◌≡◌, ◌+◌, ◌-◌, ◌*◌, ◌<◌, ◌≤◌, ◌^◌, ◌↔◌, ◌⊎◌, ℕ, length, slice_index_or, IfOk};
 ghost use Rattle.std.specs.Prelude.{IsTrue, OnOk, OnErr, IfSome, IfNone, bit_and, bit_or, count_ones};
 ghost use Rattle.std.specs.List.{sum_by};
@@ -103,7 +103,7 @@ pub(crate) fn or_missing(words: &mut [u64], at: usize, more: &[u64], known: &[u6
     }
 }
 
-/// Returns the place of the lowest bit of a word from bit `from` on.
+/// Returns the index of the lowest bit of a word from bit `from` on.
 pub(crate) fn lowest_bit(word: u64, from: u32) -> Option<u32>
     requires { from < 64 }
     ensures found { IfSome result (λ bit. (from ≤ bit) × (bit < 64) × (bit_at word bit ≡ 1)) }
@@ -117,7 +117,7 @@ pub(crate) fn lowest_bit(word: u64, from: u32) -> Option<u32>
     Some(from + high.trailing_zeros())
 }
 
-/// Returns the place of the highest bit of a word.
+/// Returns the index of the highest bit of a word.
 pub(crate) fn highest_bit(word: u64) -> Option<u32>
     ensures found { IfSome result (λ bit. (bit < 64) × (bit_at word bit ≡ 1)) }
     ensures last { IfSome result (λ bit. (i : ℕ) → bit < i → bit_at word i ≡ 0) }

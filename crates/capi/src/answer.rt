@@ -10,14 +10,14 @@ use toolrun::Status;
 #[repr(C)]
 #[derive(Clone, Copy)]
 pub struct CAnswer {
-    /// How many letters the longest viable prefix of a rejected line has, if the settings ask for that; else 0.
+    /// How many symbols the longest viable prefix of a rejected line has, if the settings ask for that; else 0.
     pub reached: usize,
     /// 0: the line is derived; 1: it is not; 3: it is longer than the limit; 5: an allocation failed; `BAD_SETTINGS`:
     /// there is no judge.
     pub status: u8,
 }
 
-/// Returns an answer that has a status alone.
+/// Returns the answer of a call that judged no line: this status, and a viable prefix of length 0.
 pub fn without_answer(status: u8) -> CAnswer
     ensures { result ≡ c_status status }
 {

@@ -24,13 +24,13 @@ pub struct CSettings {
     pub limit: usize,
     /// 0: the grammar is run on the input; 1: it is checked alone; 2: it is printed in its canonical form.
     pub mode: u8,
-    /// What the lines of the ABNF tool are made of. 0: bytes; 1: code points of UTF-8.
+    /// The alphabet of the ABNF tool's lines. 0: bytes; 1: code points of UTF-8.
     pub letters: u8,
     /// Whether the start rule, or the rule that judges lines, is named; else it is the first rule.
     pub named: bool,
     /// Whether the peg tool prints actions verbatim.
     pub raw: bool,
-    /// Whether the ABNF tool reports how many letters the longest viable prefix of a rejected line has.
+    /// Whether the ABNF tool reports how many symbols the longest viable prefix of a rejected line has.
     pub viable: bool,
     /// Whether a NUL byte ends a line of the ABNF tool, in place of LF.
     pub nul: bool,

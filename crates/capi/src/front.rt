@@ -10,10 +10,12 @@ use ruletable::{Memory, ReadFault, SinkOf, write_fault};
 use std::alloc::Global;
 use toolrun::{First, Plan, Status, Stop, write_first};
 
-/// The messages that stand once for all windows, and the plan for each window.
+/// The common part of the runs of all windows.
 #[derive(Drop)]
 pub struct Front<G, S> {
+    /// The messages that are written once.
     pub told: Vec<u8>,
+    /// The plan for each window.
     pub plan: Plan<G, S>,
 }
 

@@ -1,4 +1,4 @@
-//! What C holds of a grammar that was opened.
+//! The judge of lines that C holds.
 ghost use Rattle.std.specs.Prelude.{◌≡◌, is_some, None, Some, true};
 
 use crate::judge_box::JudgeBox;
@@ -18,7 +18,7 @@ pub struct CJudge {
     ghost right: { is_open ≡ is_some judge.held },
 }
 
-/// Puts a judge into C's place.
+/// Puts a judge into C's handle.
 pub(crate) fn put_judge(judge: Box<AbnfJudge>, place: &mut CJudge)
     ensures { place.new.judge.held ≡ Some judge.value }
 {
@@ -28,7 +28,7 @@ pub(crate) fn put_judge(judge: Box<AbnfJudge>, place: &mut CJudge)
     };
 }
 
-/// Takes the judge out of C's place, where there is one.
+/// Takes the judge out of C's handle, where there is one.
 pub(crate) fn take_judge(alloc: Global, place: &mut CJudge) -> Box<AbnfJudge>
     requires { place.old.is_open ≡ true }
     ensures judge { place.old.judge.held ≡ Some result.value }

@@ -11,11 +11,14 @@ use std::alloc::Global;
 use std::marker::Model;
 use std::ptr::null_mut;
 
-/// The pointer of a judge's box, or none. C sees a pointer alone. Letting it go frees nothing.
+/// The pointer of a judge's box, or none. C sees a pointer alone. Dropping it frees nothing: C frees the judge by a
+/// call.
 #[repr(C)]
 #[derive(Drop)]
 pub struct JudgeBox {
+    /// The address of the box, or null.
     at: *mut u8,
+    /// The allocator of the box.
     alloc: Global,
     /// The judge, if there is one.
     pub ghost held: { Option OpenJudge } by { coded_option the_row.coded },

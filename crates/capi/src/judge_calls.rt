@@ -14,12 +14,12 @@ use crate::told::lay_told;
 use abnfrun::AbnfOptions;
 use std::alloc::Global;
 
-/// Reads and checks a grammar in ABNF, and puts a judge of lines by it into an empty place. Lays the notes on it into
-/// the buffer, as much as there is room for. A rejected grammar leaves the place empty. A text that is no grammar gives
-/// its fault in place of notes, explained if the settings ask for that. The mode must be valid, and has no other
+/// Reads and checks a grammar in ABNF, and puts a judge of lines by it into an empty handle. Lays the notes on it into
+/// the buffer, as much as there is room for. A rejected grammar leaves the handle empty. A text that is no grammar
+/// gives its fault in place of notes, explained if the settings ask for that. The mode must be valid, and has no other
 /// effect.
 ///
-/// Returns `BAD_SETTINGS` and does nothing where the settings are invalid or the place is not empty. Settings are
+/// Returns `BAD_SETTINGS` and does nothing where the settings are invalid or the handle is not empty. Settings are
 /// invalid if the size is unknown, a number is out of its range, or the name is not UTF-8.
 pub fn abnf_open(
     alloc: Global,
@@ -59,7 +59,7 @@ pub fn abnf_judge(alloc: Global, place: &mut CJudge, line: &[u8]) -> CAnswer
     told
 }
 
-/// Frees the judge, if the place is not empty, and leaves the place empty.
+/// Frees the judge, if the handle is not empty, and leaves the handle empty.
 pub fn abnf_close(alloc: Global, place: &mut CJudge)
     ensures { place.new.judge.held ≡ None }
 {

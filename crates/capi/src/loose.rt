@@ -5,9 +5,11 @@ ghost use Rattle.std_alloc.specs.Box.Ownership.{box_owns};
 use std::alloc::Allocator;
 use std::marker::Model;
 
-/// A box as its pointer.
+/// A box as its parts. It still owns the value; `into_box` makes it a box again.
 pub(crate) struct Loose<T, A: Allocator> {
+    /// The address of the value.
     pub(crate) at: *mut T,
+    /// The allocator of the box.
     pub(crate) alloc: A,
     pub(crate) ghost value: { T },
 }

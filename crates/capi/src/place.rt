@@ -1,4 +1,4 @@
-//! What C holds of a grammar of peg(1) that was opened.
+//! The open grammar of peg(1) that C holds.
 ghost use Rattle.std.specs.Prelude.{◌≡◌, is_some, None, Some, true};
 
 use crate::loose::Loose;
@@ -18,7 +18,7 @@ pub struct CRunner {
     ghost right: { is_open ≡ is_some runner.held },
 }
 
-/// Puts an open grammar into C's place.
+/// Puts an open grammar into C's handle.
 pub(crate) fn put_runner(runner: Box<Runner>, place: &mut CRunner)
     ensures { place.new.runner.held ≡ Some runner.value }
 {
@@ -28,7 +28,7 @@ pub(crate) fn put_runner(runner: Box<Runner>, place: &mut CRunner)
     };
 }
 
-/// Takes the open grammar out of C's place, where there is one.
+/// Takes the open grammar out of C's handle, where there is one.
 pub(crate) fn take_runner(alloc: Global, place: &mut CRunner) -> Box<Runner>
     requires { place.old.is_open ≡ true }
     ensures runner { place.old.runner.held ≡ Some result.value }

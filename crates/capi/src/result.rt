@@ -1,9 +1,9 @@
-//! What a call comes to.
+//! Results of calls.
 ghost use Rattle.std.specs.Prelude.{◌≡◌};
 
 use crate::asked::BAD_SETTINGS;
 
-/// What a run came to: its status, and how many bytes it wrote on each output, whether there was room for them or not.
+/// The result of a run: its status, and how many bytes it wrote on each output, whether there was room for them or not.
 #[repr(C)]
 #[derive(Clone, Copy)]
 pub struct CResult {

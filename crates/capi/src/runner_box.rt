@@ -11,11 +11,14 @@ use std::alloc::Global;
 use std::marker::Model;
 use std::ptr::null_mut;
 
-/// The pointer of the box of an open grammar, or none. C sees a pointer alone. Letting it go frees nothing.
+/// The pointer of the box of an open grammar, or none. C sees a pointer alone. Dropping it frees nothing: C frees the
+/// grammar by a call.
 #[repr(C)]
 #[derive(Drop)]
 pub struct RunnerBox {
+    /// The address of the box, or null.
     at: *mut u8,
+    /// The allocator of the box.
     alloc: Global,
     /// The grammar, if there is one.
     pub ghost held: { Option Held } by { coded_option the_row.coded },

@@ -15,11 +15,12 @@ use crate::told::lay_told;
 use pegrun::PegOptions;
 use std::alloc::Global;
 
-/// Reads and checks a grammar of peg(1), and puts a runner of it into an empty place. Lays the notes on it into the
-/// buffer, as much as there is room for. A rejected grammar leaves the place empty. A text that is no grammar gives its
-/// fault in place of notes, explained if the settings ask for that. The mode must be valid, and has no other effect.
+/// Reads and checks a grammar of peg(1), and puts a runner of it into an empty handle. Lays the notes on it into the
+/// buffer, as much as there is room for. A rejected grammar leaves the handle empty. A text that is no grammar gives
+/// its fault in place of notes, explained if the settings ask for that. The mode must be valid, and has no other
+/// effect.
 ///
-/// Returns `BAD_SETTINGS` and does nothing where the settings are invalid or the place is not empty. Settings are
+/// Returns `BAD_SETTINGS` and does nothing where the settings are invalid or the handle is not empty. Settings are
 /// invalid if the size is unknown, a number is out of its range, or the name is not UTF-8.
 pub fn peg_open(
     alloc: Global,
@@ -67,7 +68,7 @@ pub fn peg_run(
     hand_out(&outputs, out, err)
 }
 
-/// Frees the runner, if the place is not empty, and leaves the place empty.
+/// Frees the runner, if the handle is not empty, and leaves the handle empty.
 pub fn peg_close(alloc: Global, place: &mut CRunner)
     ensures { place.new.runner.held ≡ None }
 {

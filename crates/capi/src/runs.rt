@@ -10,7 +10,7 @@ use pegrun::{PegOptions, PegRunner, PegSettings};
 use std::alloc::Global;
 use toolrun::{Mode, Settings};
 
-/// Returns what runs a grammar as settings ask.
+/// Makes the runner of a grammar, as settings ask.
 pub(crate) fn runner_by(peg: PegRunner, settings: &PegSettings<'_>) -> Runner
     ensures grammar { result.peg ≡ peg }
     ensures settings { RunsBy result settings.now }

@@ -7,10 +7,12 @@ use crate::result::CResult;
 use memoryrun::Outputs;
 use toolrun::Status;
 
-/// What the runs of some windows wrote, one run after the other.
+/// The texts that the runs of some windows wrote, one run after the other.
 #[derive(Drop)]
 pub struct Texts {
+    /// The text of the output.
     pub out: Vec<u8>,
+    /// The text of the error output.
     pub err: Vec<u8>,
 }
 

@@ -17,7 +17,7 @@ use ruletable::{Sink, write_whole};
 use std::alloc::{AllocError, Global};
 use toolrun::{Status, Stop, close_run, end_run};
 
-/// What is told of a word that is no UTF-8 text.
+/// The message on a word that is not UTF-8.
 const INVALID_UTF8: &str = "invalid UTF-8 was detected in one or more arguments";
 
 /// What is wrong with a file of the input where no grammar is run.
@@ -109,7 +109,7 @@ fn end_error<O: Sink, E: Sink>(
     }
 }
 
-/// Ends a program of that command, whose words are not all UTF-8 text: that is told on `err`, `Refused`. If an
+/// Ends a program of that command, whose words are not all UTF-8 text: that is reported on `err`, `Refused`. If an
 /// allocation fails, or failed for the command, `out of memory`, `NoMemory`.
 pub fn refuse_invalid_utf8<O: Sink, E: Sink>(
     alloc: Global,

@@ -21,20 +21,20 @@ use toolrun::{Settings, Status};
 
 /// A program that runs grammars of a language.
 pub trait Program {
-    /// What settings ask for in the language alone.
+    /// The settings of the language alone.
     type Options: Drop;
 
     /// The program's command, as a parse reads it.
     ghost is_app: { App → Type 0 };
 
-    /// What the matches of words ask for in the language alone.
+    /// Which settings of the language alone the matches of words ask for.
     ghost asks: { List Row → Self.Options → Type 0 };
 
     /// Which options are read of what is found. It says nothing of a text that the parser of its argument does not
     /// take.
     ghost reads: { Found → Self.Options → Type 0 };
 
-    /// What is stated for a grammar's text, settings and an input: the notes, and what follows them.
+    /// Which notes, and which reply after them, are stated for a grammar's text, settings and an input.
     ghost states: { List ℕ → AllSettings Self.Options → Input → List ℕ → Reply → Type 0 };
 
     /// Returns the command. `AllocError` if an allocation fails.

@@ -1,4 +1,4 @@
-//! What a program is to do: the settings in its words, and its grammar.
+//! Reads the job of a program: the settings in its words, and its grammar.
 ghost use Rattle.std.specs.Prelude.{◌≡◌, ◌≢◌, MatchResult, [], false, map, string_bytes};
 ghost use Rattle.clap.specs.Words.{App, Kinds, fault_of, matches_of};
 ghost use Rattle.cli.specs.Asked.{Ask};
@@ -20,10 +20,12 @@ use std::rt::Files;
 use std::{fs, io};
 use toolrun::{Settings, Status, Stop, end_run};
 
-/// A grammar's text, and how it is run.
+/// The job of a program.
 #[derive(Drop)]
 pub struct Job<'a, O> {
+    /// How the grammar is run.
     pub settings: Settings<'a, O>,
+    /// The text of the grammar.
     pub grammar: Vec<u8>,
 }
 
@@ -38,7 +40,7 @@ pub enum Unready {
     NoMemory,
 }
 
-/// Reads a grammar's file: one byte more than a grammar may have is enough to tell that it is too long.
+/// Reads a grammar's file: one byte more than a grammar may have is enough to show that it is too long.
 fn read_grammar<R: Files + AllocGlobal>(rt: &R, path: &str) -> io::Result<Vec<u8>> {
     let mut bytes = Vec::new(rt.alloc());
     fs::open(rt, path)?

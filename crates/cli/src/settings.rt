@@ -47,7 +47,7 @@ pub fn settings_of<'a, P: Program>(matches: &ArgMatches<'a>) -> Settings<'a, P::
     }
 }
 
-/// What the words of a command line ask for.
+/// A command line, as its words ask.
 #[derive(Drop)]
 pub struct Asked<'a, O> {
     /// How the grammar is run.

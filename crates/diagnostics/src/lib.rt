@@ -1,4 +1,4 @@
-//! What diagnostics are made of: lines of text with a caret below them, and the positions that notes name.
+//! Parts of diagnostics: lines of text with a caret below them, and the positions that notes name.
 #![tactic(auto)]
 
 mod noteplaces;

@@ -19,14 +19,18 @@ const FEW_ITEMS: usize = 4096;
 
 const FEW_FOR_EACH_LETTER: usize = 32;
 
-/// The item sets of a line, seen as a list of lists of items, each a place with its origin.
+/// The Earley sets of a line. Contracts see a list of lists of items, each a dotted rule with its origin.
 ///
-/// The sets of most lines are kept item by item. Those of a line with many items for its letters are kept as rows of
-/// bits, a row of origins for each place.
+/// The sets of most lines are kept item by item, in `items`. A dense line has more than 4,096 items, and more than 32
+/// for each of its symbols, beside the closures. It is judged again by rows of bits: a row of origins for each dotted
+/// rule. Then `rows` has the sets, and `items` is empty. A grammar with too many dotted rules gets no rows.
 #[derive(Drop)]
 pub struct Chart {
+    /// Allocates the sets.
     alloc: Global,
+    /// The sets item by item, if there are no rows. Its memory serves the next line.
     items: earleyitems::Chart,
+    /// The sets as rows, of a dense line.
     rows: Option<RowChart>,
 }
 

@@ -1,4 +1,4 @@
-//! The places of a flat grammar, numbered, with what each does.
+//! The dotted rules of a flat grammar, numbered, with their actions.
 ghost use Rattle.std.specs.Prelude.{◌≡◌, ◌+◌, ℕ, List, Some, IfOk, IfSome, IsTrue, slice_get};
 ghost use Rattle.flatgrammar.specs.Blocks.{spot, item_at, call_at};
 ghost use Rattle.flatgrammar.specs.Places.{AreDifferent};
@@ -17,51 +17,70 @@ use std::rc::Rc;
 // A grammar of more places has no table.
 const MOST_PLACES: usize = 4096;
 
-/// What a place calls: a root, the place after the call, and whether the call can be passed without a letter.
+/// The call of a dotted rule.
 #[derive(Clone, Copy)]
 pub(crate) struct Called {
+    /// The root that it calls.
     pub(crate) root: usize,
+    /// The number of the dotted rule after the call.
     pub(crate) after: usize,
+    /// Whether the call may take no symbol.
     pub(crate) free: bool,
 }
 
-/// What a place does: what it calls, whether its node is done there, and the place after the letter that it reads.
+/// The actions of a dotted rule.
 #[derive(Clone, Copy)]
 pub(crate) struct Step {
+    /// The root that it calls, with the dotted rule after the call.
     pub(crate) called: Option<Called>,
+    /// Whether its node is complete there.
     pub(crate) done: bool,
+    /// The number of the dotted rule after the symbol that it reads.
     pub(crate) read: Option<usize>,
 }
 
-/// A place that calls a root, and the place after the call.
+/// A call site of a root, by the numbers of dotted rules.
 #[derive(Clone, Copy)]
 pub(crate) struct Call {
+    /// The dotted rule that calls.
     pub(crate) from: usize,
+    /// The dotted rule after the call.
     pub(crate) after: usize,
 }
 
-/// Whether the whole can come to a root by calls. If so, the places where the root starts, and those that call it.
+/// The dotted rules at which a root starts, and those that call it.
 #[derive(Drop)]
 pub(crate) struct RootPlaces {
+    /// Whether the augmented start reaches the root by calls. If not, it has no starts.
     pub(crate) reached: bool,
+    /// The numbers of the dotted rules at which the root starts.
     pub(crate) starts: Vec<usize>,
+    /// The call sites of the root.
     pub(crate) calls: Vec<Call>,
 }
 
-/// A grammar with its places by number, what each does, and of each root where it starts and what calls it. Only the
-/// places of nodes that the whole can come to by calls have a number.
+/// A grammar with its dotted rules by number, so that a set can have a row for each.
+///
+/// Only the nodes that the augmented start reaches by calls have numbered dotted rules, so rows of others take no
+/// memory. A grammar with more than 4,096 of them has no table.
 #[derive(Drop)]
 pub(crate) struct PlaceTable {
+    /// The grammar.
     pub(crate) flat: Rc<Tables>,
+    /// The dotted rules, by number.
     pub(crate) spots: Vec<Spot>,
+    /// The actions of each dotted rule, by number.
     pub(crate) steps: Vec<Step>,
+    /// Of each node, as a root, where it starts and its call sites.
     pub(crate) roots: Vec<RootPlaces>,
 }
 
-// The places by number, and of each node the number of its first place.
+/// The numbers of dotted rules. Those of one node are consecutive.
 #[derive(Drop)]
 struct Numbers {
+    /// The dotted rules, by number.
     spots: Vec<Spot>,
+    /// Of each node the number of its first dotted rule.
     firsts: Vec<usize>,
 }
 
@@ -219,7 +238,8 @@ fn read_at(numbers: &Numbers, at: Spot, deed: Deed) -> Option<Option<usize>>
     Some(Some(after))
 }
 
-// Returns what a place does. `None` if the place after it has no number.
+/// Returns the actions of the dotted rule `at`. `None` if its call or its symbol leads to a dotted rule without a
+/// number.
 fn step_at(flat: &Tables, numbers: &Numbers, at: Spot) -> Option<Step>
     ensures { IfSome result (IsStep flat.now numbers.now.spots.items at) }
 {
@@ -385,7 +405,7 @@ fn is_whole_reached(flat: &Tables, roots: &[RootPlaces]) -> bool
     }
 }
 
-/// Returns the table of a grammar's places. `None` if it has too many. `Memory` if an allocation fails.
+/// Returns the table of a grammar's dotted rules. `None` if it has too many. `Memory` if an allocation fails.
 pub(crate) fn place_table(alloc: Global, flat: Rc<Tables>) -> Result<Option<PlaceTable>, Memory>
     ensures same { IfOk result (λ table. IfSome table (λ t. t.flat ≡ flat)) }
     ensures table { IfOk result (λ table. IfSome table IsPlaceTable) }

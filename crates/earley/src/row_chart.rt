@@ -29,10 +29,12 @@ use std::rc::Rc;
 // A longer line is not judged by rows.
 const LONGEST: usize = 1 << 32;
 
-/// The sets of a line, and whether the last holds the whole's end with origin 0.
+/// The sets of a line with the answer.
 #[derive(Drop)]
 pub(crate) struct JudgedRows {
+    /// The sets.
     pub(crate) chart: RowChart,
+    /// Whether the last set has the end of the augmented start, with origin 0.
     pub(crate) yes: bool,
 }
 
@@ -258,8 +260,8 @@ fn judge_by_table<L: Letter>(
     Ok(JudgedRows { chart, yes })
 }
 
-/// Judges a line by rows: returns its sets, and whether the last holds the whole's end with origin 0. `None` if the
-/// line is too long, or the grammar has too many places. `Memory` if an allocation fails.
+/// Judges a line by rows: returns its sets, and whether the last holds the augmented start's end with origin 0. `None`
+/// if the line is too long, or the grammar has too many dotted rules. `Memory` if an allocation fails.
 pub(crate) fn judge_rows<L: Letter>(
     alloc: Global,
     flat: Rc<Tables>,

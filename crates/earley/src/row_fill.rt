@@ -27,7 +27,7 @@ pub(crate) fn row_of(alloc: Global, number: usize) -> Result<BitRow, Memory>
     Ok(row)
 }
 
-/// Works on what is pending at one place. Returns whether nothing was.
+/// Works on the pending row of one dotted rule. Returns whether nothing was pending.
 fn work_once(
     table: &PlaceTable,
     filled: &FilledSets,

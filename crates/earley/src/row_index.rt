@@ -1,4 +1,4 @@
-//! The filled sets of a line, in kinds by the rows of a place.
+//! The filled sets of a line, indexed by dotted rule.
 ghost use Rattle.std.specs.Prelude.{◌≡◌, ◌↔◌, ◌⊎◌, ◌+◌, ◌<◌, ◌≤◌, ◌^◌, ◌++◌, ◌∷◌, ℕ, [], length};
 ghost use Rattle.std.specs.Prelude.{IsTrue, IfOk, Contains};
 ghost use Rattle.bitrows.specs.RowSets.{HasAt};
@@ -9,17 +9,24 @@ use bitrows::{BitRow, empty_rows};
 use ruletable::Memory;
 use std::alloc::Global;
 
-/// The filled sets of a line. Of each place, `own` has the sets whose row at that place has the set's number alone,
-/// `rest` the other sets whose row is not empty, and `union` all numbers of the rows of these.
+/// The filled sets of a line, with an index by dotted rule.
+///
+/// A completion goes back to the sets of many origins, and joins their rows of a dotted rule. Most of these rows have
+/// the set's own number alone: `own` joins them all at once. The others are joined one by one, unless `union` shows
+/// that they add nothing.
 #[derive(Drop)]
 pub(crate) struct FilledSets {
+    /// The sets, by number.
     pub(crate) sets: Vec<KeptRows>,
+    /// Of each dotted rule the sets whose row has the set's number alone.
     pub(crate) own: Vec<BitRow>,
+    /// Of each dotted rule the other sets whose row is not empty.
     pub(crate) rest: Vec<BitRow>,
+    /// Of each dotted rule all numbers in the rows of the sets in `rest`.
     pub(crate) union: Vec<BitRow>,
 }
 
-/// Returns no sets, for so many places. `Memory` if an allocation fails.
+/// Returns no sets, for `places` dotted rules. `Memory` if an allocation fails.
 pub(crate) fn no_sets(alloc: Global, places: usize) -> Result<FilledSets, Memory>
     ensures none { IfOk result (λ filled. filled.sets.items ≡ []) }
     ensures indexed { IfOk result (λ filled. AreIndexed places filled) }
@@ -132,7 +139,8 @@ fn index_rows(
     Ok(())
 }
 
-/// Puts a set after the others. `Memory` if an allocation fails.
+/// Appends a filled set to `filled`, and indexes each of its rows. The number `places` of dotted rules is for the
+/// contract alone. `Memory` if an allocation fails.
 pub(crate) fn keep_set(places: usize, kept: KeptRows, filled: &mut FilledSets) -> Result<(), Memory>
     requires indexed { AreIndexed places filled.old }
     requires count { length kept.rows.items ≤ places }

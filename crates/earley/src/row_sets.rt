@@ -8,17 +8,21 @@ use crate::place_table::PlaceTable;
 use bitrows::{BitRow, RowSet};
 use ruletable::Memory;
 
-/// A filled set: of each place its origins, and the number of its items.
+/// A filled set.
 #[derive(Drop)]
 pub(crate) struct KeptRows {
+    /// Of each dotted rule the origins of its items.
     pub(crate) rows: Vec<BitRow>,
+    /// The number of items.
     pub(crate) size: usize,
 }
 
-/// The sets of a line, with the places that their rows are of.
+/// The sets of a line as rows.
 #[derive(Drop)]
 pub(crate) struct RowChart {
+    /// The dotted rules that the rows are of, by number.
     pub(crate) table: PlaceTable,
+    /// The sets: one before the first symbol, and one after each.
     pub(crate) sets: Vec<KeptRows>,
 }
 

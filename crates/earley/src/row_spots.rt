@@ -28,8 +28,8 @@ fn has_some(rows: &[BitRow], place: usize) -> bool
     }
 }
 
-/// Returns the dotted rules of the places with a number, each once where the dotted rules are different. `Memory` if an
-/// allocation fails.
+/// Returns the dotted rules that have a number, each once where the dotted rules are different. `Memory`
+/// if an allocation fails.
 pub(crate) fn row_spots(alloc: Global, spots: &[Spot], rows: &[BitRow]) -> Result<Vec<Spot>, Memory>
     ensures { IfOk result (λ found. AreSpotsBelow spots.now rows.now (length spots.now) found.items) }
 {

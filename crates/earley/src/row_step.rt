@@ -1,4 +1,4 @@
-//! What the items of a row predict, advance and complete.
+//! Prediction, advance and completion for the items of a row.
 ghost use Rattle.std.specs.Prelude.{◌≡◌, ◌↔◌, ◌<◌, ℕ, List, [], IsTrue, IfOk, length, Contains};
 ghost use Rattle.bitrows.specs.RowSets.{HasAt};
 ghost use Rattle.earleyitems.specs.ItemSets.{IsPredicted, IsCompleted};
@@ -17,7 +17,7 @@ use crate::row_sets::KeptRows;
 use bitrows::{BitRow, RowSet};
 use ruletable::Memory;
 
-/// Predicts a root that is reached: adds the numbers of a row to the places where it starts.
+/// Predicts a root that is reached: adds the numbers of a row to the dotted rules where it starts.
 pub(crate) fn predict_root(
     table: &PlaceTable,
     root: usize,
@@ -40,7 +40,7 @@ pub(crate) fn predict_root(
     Ok(())
 }
 
-/// Predicts what a place calls, for its row, which is not empty.
+/// Predicts the root that a dotted rule calls, for its row, which is not empty.
 fn predict_row(
     table: &PlaceTable,
     place: usize,
@@ -64,7 +64,7 @@ fn predict_row(
     }
 }
 
-/// Advances the row of a place over what it calls, if that can be passed without a letter.
+/// Advances the row of a dotted rule over what it calls, if that can be passed without a symbol.
 fn advance_row(
     table: &PlaceTable,
     place: usize,
@@ -86,7 +86,7 @@ fn advance_row(
     }
 }
 
-/// Advances the row of a place over a call.
+/// Advances the row of a dotted rule over a call.
 pub(crate) fn advance_call(rows: &[BitRow], call: Call, set: &mut RowSet) -> Result<(), Memory>
     requires { call.after < length set.old.all }
     ensures { IfOk result (λ done. (spots : List code_spot) → Gains spots (IsAfterCall spots call rows.now) set.old
@@ -257,7 +257,7 @@ fn complete_all(
     Ok(())
 }
 
-/// Completes the row of a place, if its node is done there.
+/// Completes the row of a dotted rule, if its node is done there.
 fn complete_row(
     table: &PlaceTable,
     filled: &FilledSets,
@@ -280,8 +280,8 @@ fn complete_row(
     Ok(())
 }
 
-/// Works on the row of a place, which is not empty: predicts what the place calls, advances and completes. The other
-/// row has the number of the set alone.
+/// Works on the row of a dotted rule, which is not empty: predicts what the dotted rule calls, advances and completes.
+/// The other row has the number of the set alone.
 pub(crate) fn work_row(
     table: &PlaceTable,
     filled: &FilledSets,

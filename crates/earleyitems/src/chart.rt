@@ -33,20 +33,31 @@ use std::marker::Model;
 use std::mem;
 use std::rc::Rc;
 
-/// The item sets of a line, seen as a list of lists of items, each a place with its origin.
+/// The Earley sets of a line. Contracts see a list of lists of items, each a dotted rule with its origin.
+///
+/// A set stores the roots that it predicts, and the items beside their closures. The closures are precomputed in the
+/// grammar's tables, so `tables` and `sets` together give the items. A chart that is empty, or whose last line failed,
+/// has no tables and no set. `kept` has the memory of the set under way, which the next line uses again.
 #[derive(Drop)]
 pub struct Chart {
+    /// Allocates the sets.
     alloc: Global,
+    /// The grammar that filled the sets, if there are any.
     tables: Option<Rc<Tables>>,
+    /// The sets of the last line.
     sets: Sets,
+    /// The work tables of the set under way.
     kept: Kept,
 }
 
-// Holds the tables of a set that is filled, which are kept from line to line.
+/// The work tables of the set under way. They are kept from line to line, so that a line allocates little.
 #[derive(Drop)]
 struct Kept {
+    /// The predictions of the set.
     heads: Heads,
+    /// The items beside the closures.
     items: Items,
+    /// Those items of the last set that call or read.
     postdot: Postdot,
 }
 
@@ -317,11 +328,11 @@ fn judge_by<L: Letter>(
     Ok(None)
 }
 
-/// Fills the chart with the item sets of a line, and returns whether the last set holds the whole's end with origin 0.
-/// The line may have at most `flat.limit()` letters.
+/// Fills the chart with the item sets of a line, and returns whether the last set holds the augmented start's end with
+/// origin 0. The line may have at most `flat.limit()` symbols.
 ///
-/// It gives up once more than `most` items are kept one by one, as those of blocks are not. It returns `None` then: the
-/// sets of the line have more than `most` items, and the chart is empty.
+/// It gives up once more than `most` items are kept one by one, as those of closures are not. It returns `None` then:
+/// the sets of the line have more than `most` items, and the chart is empty.
 ///
 /// `Memory` if an allocation fails; the chart is empty then.
 pub fn judge_within<L: Letter>(

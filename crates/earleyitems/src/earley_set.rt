@@ -6,12 +6,15 @@ use crate::sets::{Bounds, Record, Stores};
 use flatgrammar::Item;
 use std::marker::Model;
 
-/// Shows an item set, whose lists stand among those of the line's other sets: the heads, which are the roots that were
-/// predicted in it and whose blocks stand in it, and the items beside their blocks. The records of the heads hold
-/// where the waiting list of each begins.
+/// A view of one Earley set, whose lists stand among those of the line's other sets.
+///
+/// A set has predictions and items. A prediction is a root; the items of its precomputed closure are not stored. The
+/// record of a prediction says where its waiting list begins.
 #[derive(Drop)]
 pub(crate) struct EarleySet<'a> {
+    /// The lists of all sets.
     pub(crate) stores: &'a Stores,
+    /// Where the lists of this set stand.
     pub(crate) bounds: &'a Bounds,
 }
 
@@ -26,7 +29,7 @@ impl<'a> Model for EarleySet<'a> {
 }
 
 impl<'a> EarleySet<'a> {
-    /// Returns the records of the heads.
+    /// Returns the records of the predictions.
     #[inline(always)]
     pub(crate) fn records(&self) -> &'a [Record]
         ensures heads { heads_of result.now ≡ self.now.heads }
@@ -35,7 +38,7 @@ impl<'a> EarleySet<'a> {
         &self.stores.records[self.bounds.records.from..self.bounds.records.to]
     }
 
-    /// Returns the items beside the blocks.
+    /// Returns the items beside the closures.
     #[inline(always)]
     pub(crate) fn items(&self) -> &'a [Item]
         ensures { result.now ≡ self.now.items }
@@ -43,7 +46,7 @@ impl<'a> EarleySet<'a> {
         &self.stores.items[self.bounds.items.from..self.bounds.items.to]
     }
 
-    /// Returns the number of its items, those of the blocks counted.
+    /// Returns the number of its items, those of the closures counted.
     #[inline(always)]
     pub(crate) fn size(&self) -> usize
         ensures { result ≡ self.now.size }

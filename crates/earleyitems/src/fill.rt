@@ -48,8 +48,8 @@ fn complete_listed(waiters: &[Waiter], first: usize, set: &mut Items) -> Result<
     Ok(())
 }
 
-/// Completes an item's root: advances the one place that alone calls the root, or else the root's waiting list in the
-/// set of the item's origin. Where that is the set in work, nothing waits.
+/// Completes an item's root: advances the one dotted rule that alone calls the root, or else the root's waiting list in
+/// the set of the item's origin. Where that is the set in work, nothing waits.
 #[inline(always)]
 fn complete_root(flat: &Tables, sets: &Sets, at: HomedItem, set: &mut Items) -> Result<(), Memory>
     requires alone { AreAlone flat.now }
@@ -120,7 +120,7 @@ fn predict(called: Option<(usize, usize)>, heads: &mut Heads) -> Result<(), Memo
     Ok(())
 }
 
-/// Advances an item over a nullable root that it calls, which is given, but for a turn that takes a letter, as is
+/// Advances an item over a nullable root that it calls, which is given, but for an iteration that takes a symbol, as is
 /// given.
 fn advance_nullable(
     flat: &Tables,
@@ -151,7 +151,7 @@ fn advance_nullable(
     Ok(())
 }
 
-/// Advances an item over a nullable root, and completes one that is done. What its place does is given.
+/// Advances an item over a nullable root, and completes one that is done. What its dotted rule does is given.
 fn advance(
     flat: &Tables,
     sets: &Sets,
@@ -179,7 +179,7 @@ fn advance(
     Ok(())
 }
 
-/// Predicts heads.
+/// Adds predictions, each once. `Memory` if an allocation fails.
 fn predict_all(calls: &[usize], heads: &mut Heads) -> Result<(), Memory>
     ensures { IfOk result (λ done. Adds (λ t. In t calls.now) heads.old heads.new) }
 {
@@ -252,7 +252,7 @@ fn process_item(
     Ok(())
 }
 
-/// Works on one head: predicts what its block calls, and adds what its block advances over nullable roots.
+/// Works on one prediction: predicts what its closure calls, and adds what its closure advances over nullable roots.
 fn process_head(
     flat: &Tables,
     head: usize,
@@ -273,10 +273,9 @@ fn process_head(
     Ok(())
 }
 
-/// Predicts, completes and advances over nullable roots until nothing can be added; each item and head is worked on
-/// once.
-/// Returns the number of items of its blocks.
-/// `Memory` if that is no number of 64 bits, or if an allocation fails.
+/// Predicts, completes and advances over nullable roots until nothing can be added; each item and prediction is worked
+/// on once. Returns the number of items of its closures. `Memory` if that is no number of 64 bits, or if an allocation
+/// fails.
 pub(crate) fn fill(
     flat: &Tables,
     sets: &Sets,

@@ -1,4 +1,4 @@
-//! The heads of a set, found at once.
+//! The predictions of a set, found at once.
 ghost use Rattle.std.specs.Prelude.{◌≡◌, ◌<◌, ◌++◌, ◌∷◌, ℕ, [], length, slice_get, Some, IfOk, IfSome, IfNone};
 ghost use Rattle.flatgrammar.specs.Places.{In};
 ghost use Rattle.earleyitems.specs.HeadTables.{IsTable};
@@ -8,13 +8,15 @@ use ruletable::Memory;
 use std::alloc::Global;
 use std::marker::Model;
 
-/// The heads of a set, in the order in which they were predicted, seen as a list.
+/// The predictions of a set, in the order in which they were added. Contracts see that list.
 ///
-/// Each has its index in a table by head. The table may say anything of what is no head, so that emptying takes no
-/// time.
+/// A prediction is the number of a root. The two vectors are a sparse set: `table[head]` counts only if `list` has
+/// `head` at that index. So emptying it clears the list alone.
 #[derive(Drop)]
 pub(crate) struct Heads {
+    /// The predictions, each once.
     list: Vec<usize>,
+    /// Of each root its index in `list`, if it is a prediction.
     table: Vec<usize>,
 }
 
@@ -79,7 +81,7 @@ fn push(list: &mut Vec<usize>, table: &mut [usize], head: usize) -> Result<(), M
 }
 
 impl Heads {
-    /// Returns no heads. It takes no memory.
+    /// Returns no predictions. It takes no memory.
     pub(crate) fn new(alloc: Global) -> Heads
         ensures { result ≡ [] }
     {
@@ -89,14 +91,14 @@ impl Heads {
         }
     }
 
-    /// Returns the number of heads.
+    /// Returns the number of predictions.
     pub(crate) fn len(&self) -> usize
         ensures { result ≡ length self.now }
     {
         self.list.len()
     }
 
-    /// Returns the head at that index.
+    /// Returns the prediction at that index.
     pub(crate) fn at(&self, index: usize) -> usize
         requires { index < length self.now }
         ensures { slice_get self.now index ≡ Some result }
@@ -104,14 +106,14 @@ impl Heads {
         self.list[index]
     }
 
-    /// Returns the heads.
+    /// Returns the predictions.
     pub(crate) fn list(&self) -> &[usize]
         ensures { result.now ≡ self.now }
     {
         &self.list
     }
 
-    /// Returns the index of a head.
+    /// Returns the index of a prediction.
     #[inline(always)]
     pub(crate) fn find(&self, head: usize) -> Option<usize>
         ensures found { IfSome result (λ index. slice_get self.now index ≡ Some head) }
@@ -122,7 +124,7 @@ impl Heads {
         index_of(&self.list, &self.table, head)
     }
 
-    /// Adds a head unless it is there. `Memory` if an allocation fails.
+    /// Adds a prediction unless it is there. `Memory` if an allocation fails.
     #[inline(always)]
     pub(crate) fn add(&mut self, head: usize) -> Result<(), Memory>
         ensures { IfOk result (λ done. Adds (λ a. a ≡ head) self.old self.new) }

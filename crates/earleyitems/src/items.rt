@@ -24,24 +24,29 @@ const LINEAR: usize = 5;
 // The buckets of a first growth.
 const BUCKETS: usize = 64;
 
-/// The items of a set beside its blocks, in the order in which they were added, seen as a list of them and
-/// one of their homes.
+/// The items of a set beside its closures, in the order in which they were added. Contracts see a list of the items,
+/// and one of their homes. A home is the index of an item's prediction in the set of its origin.
 ///
-/// Before an item is sought among more than a few, all are linked: those of one bucket with one another, the last one
-/// first. They stay linked while there is room for them in the buckets. A bucket holds the number of an item, counted
-/// from a base. The base grows past all numbers in buckets whenever the items are linked anew or go. So emptying takes
-/// no time, and an item is pushed without a link.
+/// `links` and `buckets` are a hash table over `list`. Fewer than five items are compared one by one, without links.
+/// More are linked before the first search: each with the last one before it in its bucket. They stay linked while
+/// there are fewer than `room`.
+///
+/// A bucket has the number of an item, counted from `base`. The base grows past all numbers in buckets whenever the
+/// items are linked anew or removed. Then an old number counts as 0. So emptying takes no time, and `push` adds an item
+/// without a link.
 #[derive(Drop)]
 pub(crate) struct Items {
+    /// The items, each once.
     list: Vec<Item>,
-    // of each item one more than the index of the last one before it in its bucket, or 0
+    /// Of each item one more than the index of the last one before it in its bucket, or 0.
     links: Vec<usize>,
-    // of each bucket one more than the index of its last item, and the base
+    /// Of each bucket the sum of `base`, the index of its last item, and 1; at most `base` if the bucket is empty.
     buckets: Vec<usize>,
-    // of each item the index of its head among the heads of the set of its origin
+    /// Of each item the index of its prediction in the set of its origin.
     homes: Vec<usize>,
+    /// Subtracted from the number in a bucket.
     base: usize,
-    // the links and buckets are those of the items while there are fewer of these
+    /// The links serve while there are fewer items than this; 0 if the items are not linked.
     room: usize,
 }
 

@@ -1,4 +1,4 @@
-//! The items of a set by what comes after their dot: a call, or letters.
+//! The items of a set by what comes after their dot: a call, or symbols.
 ghost use Rattle.std.specs.Prelude.{◌≡◌, ◌++◌, ◌∷◌, ℕ, List, [], IsTrue, IfOk};
 ghost use Rattle.flatgrammar.specs.TableViews.{call_of};
 ghost use Rattle.flatgrammar.specs.declared.flat_item.Item as code_item;
@@ -10,25 +10,32 @@ use flatgrammar::Item;
 use ruletable::Memory;
 use std::alloc::Global;
 
-/// An item with its home: the index of its head among the heads of the set of its origin.
+/// An item with its home.
 #[derive(Clone, Copy)]
 pub(crate) struct HomedItem {
+    /// The item.
     pub(crate) item: Item,
+    /// The index of its prediction in the set of its origin.
     pub(crate) home: usize,
 }
 
-/// An item that calls a root: the root, and the step after the call.
+/// An item that calls a root.
 #[derive(Clone, Copy)]
 pub(crate) struct Caller {
+    /// The item.
     pub(crate) at: HomedItem,
+    /// The root that it calls.
     pub(crate) root: usize,
+    /// The step after the call.
     pub(crate) next: usize,
 }
 
-/// Holds of the items of a set those with a call after the dot, and those with letters.
+/// The items of a set by the symbol after their dot. An item that only completes is in neither list.
 #[derive(Drop)]
 pub(crate) struct Postdot {
+    /// The items that call a root.
     pub(crate) callers: Vec<Caller>,
+    /// The items that may read a symbol.
     pub(crate) readers: Vec<HomedItem>,
 }
 
@@ -64,7 +71,7 @@ pub(crate) fn keep_caller(
     }
 }
 
-/// Adds an item if it may read a letter, as is given.
+/// Adds an item if it may read a symbol, as is given.
 pub(crate) fn keep_reader(
     at: HomedItem,
     reads: bool,

@@ -1,4 +1,4 @@
-//! Scans a letter.
+//! Scans a symbol.
 ghost use Rattle.std.specs.Prelude.{◌≡◌, ◌↔◌, ◌+◌, ◌^◌, ◌<◌, ◌≤◌, ℕ, true, IsTrue, IfOk, length, map, slice_get, []};
 ghost use Rattle.std.specs.Prelude.{List, slice_index_or};
 ghost use Rattle.std.specs.Prelude.{◌∷◌};
@@ -22,7 +22,7 @@ use flatgrammar::{Item, Spot, Tables, readers, reads};
 use letters::Letter;
 use ruletable::Memory;
 
-/// Scans a letter for an item.
+/// Scans a symbol for an item.
 fn scan_item(
     flat: &Tables,
     value: u32,
@@ -47,7 +47,7 @@ fn scan_item(
     Ok(())
 }
 
-/// Scans a letter for some items.
+/// Scans a symbol for some items.
 fn scan_items(flat: &Tables, value: u32, from: &[HomedItem], set: &mut Items) -> Result<(), Memory>
     ensures added { IfOk result (λ done. AreScannedItems flat.now value (items_of from.now) set.old.items
         set.new.items) }
@@ -60,7 +60,7 @@ fn scan_items(flat: &Tables, value: u32, from: &[HomedItem], set: &mut Items) ->
     Ok(())
 }
 
-/// Scans a letter for the dotted rules of a block.
+/// Scans a symbol for the dotted rules of a closure.
 fn scan_spots(
     flat: &Tables,
     value: u32,
@@ -91,7 +91,7 @@ fn scan_spots(
     Ok(())
 }
 
-/// Scans a letter for the blocks of heads.
+/// Scans a symbol for the closures of predictions.
 fn scan_heads(
     flat: &Tables,
     value: u32,
@@ -113,7 +113,7 @@ fn scan_heads(
     Ok(())
 }
 
-/// Scans a letter: adds the items that a set has after it, where there are none. Of its items those that read are
+/// Scans a symbol: adds the items that a set has after it, where there are none. Of its items those that read are
 /// given.
 pub(crate) fn scan<L: Letter>(
     flat: &Tables,

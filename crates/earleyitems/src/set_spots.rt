@@ -8,7 +8,7 @@ use crate::sets::Record;
 use flatgrammar::{Item, Spot, Tables, spots};
 use ruletable::Memory;
 
-/// Adds the dotted rules of the blocks of heads.
+/// Adds the dotted rules of the closures of predictions.
 pub(crate) fn push_heads(
     flat: &Tables,
     records: &[Record],

@@ -18,52 +18,68 @@ use ruletable::Memory;
 use std::alloc::Global;
 use std::marker::Model;
 
-/// A part of a vector.
+/// The entries of a vector from index `from` to before index `to`.
 #[derive(Clone, Copy)]
 pub(crate) struct Part {
     pub(crate) from: usize,
     pub(crate) to: usize,
 }
 
-/// A head of a set: its root, and one more than the index of its waiting list's first entry, or 0.
+/// A prediction of a set, with its waiting list.
 #[derive(Clone, Copy)]
 pub(crate) struct Record {
+    /// The root that is predicted.
     pub(crate) head: usize,
+    /// One more than the index of the first entry of its waiting list, or 0 for an empty list.
     pub(crate) first: usize,
 }
 
-/// Where the lists of a set stand, and the number of its items. The waiting lists of its heads stand among the
-/// first `waiters` entries.
+/// Where the lists of a set stand in `Stores`.
 #[derive(Clone, Copy)]
 pub(crate) struct Bounds {
+    /// Its predictions.
     pub(crate) records: Part,
+    /// Its items beside the closures.
     pub(crate) items: Part,
+    /// The entries of its waiting lists stand before this index.
     pub(crate) waiters: usize,
+    /// The number of its items, with those of closures.
     pub(crate) size: usize,
 }
 
-/// A set as it was filled: its heads, the items beside their blocks, of these the ones that call, and the number of
-/// items of the blocks.
+/// A set as it was filled, before it is stored.
 #[derive(Clone, Copy)]
 pub(crate) struct Filled<'a> {
+    /// Its predictions.
     pub(crate) heads: &'a Heads,
+    /// Its items beside the closures.
     pub(crate) items: &'a [Item],
+    /// Those of the items that call.
     pub(crate) callers: &'a [Caller],
+    /// The number of items of the closures.
     pub(crate) blocks: usize,
 }
 
-/// Holds the lists of all sets, those of one kind one after another.
+/// The lists of all sets, one vector for each kind, so that a set needs no vector of its own.
 #[derive(Drop)]
 pub(crate) struct Stores {
+    /// The predictions, set after set.
     pub(crate) records: Vec<Record>,
+    /// The items beside the closures, set after set.
     pub(crate) items: Vec<Item>,
+    /// The entries of waiting lists, set after set.
     pub(crate) waiters: Vec<Waiter>,
 }
 
-/// Holds the sets of a line, seen as a list of them.
+/// The Earley sets of a line. Contracts see a list of sets.
+///
+/// The lists of all sets share three vectors, and `bounds` says where those of a set stand. Emptying keeps the vectors'
+/// memory, so that the next line allocates little.
 #[derive(Drop)]
 pub(crate) struct Sets {
+    /// Of each set where its lists stand.
     bounds: Vec<Bounds>,
+    /// The lists of all sets.
     stores: Stores,
 }
 
@@ -216,8 +232,8 @@ impl Sets {
         &self.stores.waiters
     }
 
-    /// Adds a set as it was filled, with the waiting lists of its heads. `Memory` if its items are 2 ^ 64 or more, or
-    /// if an allocation fails; there is no set then.
+    /// Adds a set as it was filled, with the waiting lists of its predictions. `Memory` if its items are 2 ^ 64 or
+    /// more, or if an allocation fails; there is no set then.
     #[inline(always)]
     pub(crate) fn push(&mut self, flat: &Tables, filled: Filled<'_>) -> Result<(), Memory>
         requires lists { AreSpotLists flat.now }

@@ -1,4 +1,4 @@
-//! The waiting lists of a set: for each head the items that its completion adds.
+//! The waiting lists of a set: for each prediction the items that its completion adds.
 ghost use Rattle.std.specs.Prelude.{◌≡◌, ◌+◌, ◌++◌, ◌∷◌, ℕ, List, [], length, map, drop, slice_index_or, Some, IfOk};
 ghost use Rattle.flatgrammar.specs.Blocks.{block_of, AreAsks, AreHomes, AreSpotLists};
 ghost use Rattle.flatgrammar.specs.Places.{In};
@@ -19,12 +19,15 @@ use crate::sets::{Part, Record};
 use flatgrammar::{Ask, Item, Tables, asks};
 use ruletable::Memory;
 
-/// An entry of the waiting list of a head: the item that the completion of the head adds, its home, and one more than
-/// the index of the next entry, or 0.
+/// An entry of the waiting list of a prediction. A completion of the predicted root adds the item, and looks for no
+/// callers (Aycock and Horspool 2002).
 #[derive(Clone, Copy)]
 pub(crate) struct Waiter {
+    /// The item after the call.
     pub(crate) item: Item,
+    /// The index of the item's prediction in the set of its origin.
     pub(crate) home: usize,
+    /// One more than the index of the next entry, or 0.
     pub(crate) next: usize,
 }
 
@@ -193,8 +196,8 @@ fn add_records(heads: &[usize], records: &mut Vec<Record>) -> Result<(), Memory>
     Ok(())
 }
 
-/// Adds the records of a set's heads, and fills the waiting list of each, after those of other sets. Returns where the
-/// records stand. `callers` are those items that call.
+/// Adds the records of a set's predictions, and fills the waiting list of each, after those of other sets. Returns
+/// where the records stand. `callers` are those items that call.
 #[inline(always)]
 pub(crate) fn list_waiters(
     flat: &Tables,

@@ -19,19 +19,26 @@ use std::alloc::Global;
 /// After so many bytes of input no more is asked for, and the reader is taken to have failed.
 const INPUT_LIMIT: usize = 9_223_372_036_854_775_807;
 
-/// The bytes of a reader from a place on, as many as are held. It borrows the reader, and reads only in `fill`.
+/// A window on the bytes of a reader, from a position on. It borrows the reader, and reads only in `fill`.
+///
+/// The ring has the bytes of the window, in one or two pieces. Taken bytes leave it at the front, and read bytes join
+/// it at the end. It never grows, so a run takes constant memory. Once `flow` says that the reader ended or failed, the
+/// window asks it for nothing more.
 #[derive(Drop)]
 pub struct Feed<'a, R> {
+    /// The bytes that were read and not taken.
     ring: HeapCircularBuffer<u8>,
     /// How many more bytes the reader may be asked for.
     left: usize,
+    /// Whether the reader may have more.
     flow: Flow,
+    /// The reader.
     reader: &'a mut R,
 }
 
 impl<'a, R: Source> Feed<'a, R> {
-    /// Makes the room for a window of at most `limit` + 1 bytes. It is made before the reader is lent, so that a
-    /// refused allocation leaves the reader as it was.
+    /// Makes the room for a window of at most `limit` + 1 bytes. It is made before the reader is lent, so that an
+    /// allocation that fails leaves the reader as it was.
     pub fn room(alloc: Global, limit: usize) -> Result<HeapCircularBuffer<u8>, Memory>
         requires { limit ≤ 16777216 }
         ensures { IfOk result (λ ring. ring ≡ buffer [] (limit + 1)) }
@@ -42,7 +49,7 @@ impl<'a, R: Source> Feed<'a, R> {
         }
     }
 
-    /// Makes a window over a reader that has neither failed nor told its end. Nothing is read.
+    /// Makes a window over a reader that has neither failed nor reported its end. Nothing is read.
     pub fn new(ring: HeapCircularBuffer<u8>, reader: &'a mut R) -> Feed<'a, R>
         requires not_failed { R.failed reader.old ≡ false }
         requires not_ended { R.ended reader.old ≡ false }

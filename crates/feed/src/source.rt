@@ -12,19 +12,19 @@ use thiserror::Error;
 #[error("read error")]
 pub struct Broken;
 
-/// What gives bytes.
+/// A reader of bytes.
 pub trait Source {
-    /// The bytes still to come, where the inner reader tells them.
+    /// The bytes still to come, where the inner reader's contract states them.
     ghost remaining: { Self → Option (List ℕ) };
 
     /// Whether a call has failed.
     ghost failed: { Self → Bool };
 
-    /// Whether a call has told the end.
+    /// Whether a call has reported the end.
     ghost ended: { Self → Bool };
 
     /// Puts the next bytes at the front of `buffer` and answers how many, or fails and takes nothing.
-    /// 0 into a buffer that is not empty tells the end: none is to come. Nothing is asked behind a failure or the end.
+    /// 0 into a buffer that is not empty reports the end: none is to come. Nothing is asked after a failure or the end.
     fn read(&mut self, buffer: &mut [u8]) -> Result<usize, Broken>
         requires not_failed { failed self.old ≡ false }
         requires not_ended { ended self.old ≡ false }
@@ -41,13 +41,16 @@ pub trait Source {
 /// A source over a reader of `std`. Each error of that reader is a failure, an interrupted call too.
 #[derive(Drop)]
 pub struct SourceOf<R> {
+    /// The reader.
     inner: R,
+    /// Whether a call has failed.
     failed: bool,
+    /// Whether a call has reported the end.
     ended: bool,
 }
 
 impl<R: io::Read> SourceOf<R> {
-    /// Returns a source that has neither failed nor told its end.
+    /// Returns a source that has neither failed nor reported its end.
     pub fn new(inner: R) -> SourceOf<R>
         ensures remaining { ⟦<SourceOf<R> as Source>⟧.remaining result ≡ R.remaining inner }
         ensures failed { ⟦<SourceOf<R> as Source>⟧.failed result ≡ false }

@@ -1,4 +1,4 @@
-//! Numbers that come back to themselves by steps, and ranks that all other steps lower.
+//! Numbers on cycles of steps, and ranks that all other steps lower.
 //!
 //! The search keeps a path whose numbers each lead to the next, and divides it into parts whose numbers lead to each
 //! other (Gabow, "Path-based depth-first search for strong and biconnected components", 2000). It has no recursion: the
@@ -26,31 +26,32 @@ enum Place {
     Done,
 }
 
-// A part of the path. Its numbers all lead to each other.
+/// A part of the path. Its numbers all lead to each other.
 #[derive(Clone, Copy)]
 struct Part {
-    // The index on the path at which it begins.
+    /// The index on the path at which it begins.
     first: usize,
-    // The index in `ahead` at which the targets of its steps begin.
+    /// The index in `ahead` at which the targets of its steps begin.
     rest: usize,
 }
 
-// The state of the search.
+/// The state of a depth-first search for strongly connected components (Gabow 2000): the components of the path stand
+/// on a stack, and a step back to the path joins them. All stacks are vectors, so a long path takes no call stack.
 #[derive(Drop)]
 struct Search {
-    // One place for each number.
+    /// Of each number where the search has it.
     places: Vec<Place>,
-    // Numbers that each lead to the next.
+    /// Numbers that each lead to the next.
     path: Vec<usize>,
-    // The targets of steps from the path that the search has not looked at.
+    /// The targets of steps from the path that the search has not looked at.
     ahead: Vec<usize>,
-    // The parts of the path, in its order.
+    /// The parts of the path, in its order.
     parts: Vec<Part>,
-    // One mark for each number: set if the number comes back to itself.
+    /// Of each number whether it is on a cycle.
     marks: Vec<bool>,
-    // For each number that is done, how many parts were done before its part.
+    /// Of each number that is done, how many parts were done before its part.
     ranks: Vec<usize>,
-    // The number of parts that are done.
+    /// The number of parts that are done.
     done: usize,
 }
 
@@ -237,7 +238,7 @@ impl Search {
     }
 }
 
-/// The numbers that come back to themselves, and ranks that steps from all others lower.
+/// The numbers on cycles, and ranks that steps from all others lower.
 #[derive(Drop)]
 pub struct Cycles {
     /// One mark for each number: set if a chain of steps leads from it back to it.

@@ -1,4 +1,4 @@
-//! Least sets over numbers: what comes in by needs, what steps reach, and which numbers come back to themselves. And
+//! Least sets over numbers: what comes in by needs, what steps reach, and which numbers are on cycles. And
 //! distances by steps, and shortest chains of steps from one number.
 //!
 //! A table of rows gives each number the numbers that its steps lead to. Of the shortest chains to a number the library

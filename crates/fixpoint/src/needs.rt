@@ -12,7 +12,7 @@ use crate::marks::marks_of;
 use crate::rows::are_below;
 use std::alloc::{AllocError, Global};
 
-/// What a number needs before it enters the set.
+/// The condition on which a number enters the set: the body of a Horn clause (Dowling and Gallier 1984).
 #[derive(Clone, Copy)]
 pub enum Need<'a> {
     /// All of these numbers must be in the set.
@@ -65,22 +65,22 @@ fn counts(alloc: Global, needs: &[Need]) -> Result<Vec<usize>, AllocError>
     Ok(counts)
 }
 
-// An entry of a list.
+/// An entry of a list.
 #[derive(Clone, Copy)]
 struct Link {
-    // The number that stands in the list.
+    /// The number that stands in the list.
     user: usize,
-    // One more than the index of the next entry, or 0 at the end of the list.
+    /// One more than the index of the next entry, or 0 at the end of the list.
     next: usize,
 }
 
-// For each number the list of the numbers that need it, as often as they name it. The lists share one vector: a vector
-// for each of them would take several times the memory.
+/// For each number the list of the numbers that need it, as often as they name it. The lists share one vector: a vector
+/// for each of them would take several times the memory.
 #[derive(Drop)]
 struct Users {
-    // For each number one more than the index of its list's first entry, or 0 if its list is empty.
+    /// Of each number one more than the index of its list's first entry, or 0 if its list is empty.
     firsts: Vec<usize>,
-    // The entries of all lists.
+    /// The entries of all lists.
     links: Vec<Link>,
 }
 

@@ -5,10 +5,12 @@ ghost use Rattle.fixpoint.specs.Fills.{IsLess, IsNearestIfAny};
 
 use crate::chains::told;
 
-// A number, and how far it is.
+/// A number with its distance.
 #[derive(Clone, Copy)]
 pub(crate) struct Near {
+    /// The number.
     pub(crate) number: usize,
+    /// The number of steps to it.
     pub(crate) far: usize,
 }
 

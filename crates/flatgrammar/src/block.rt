@@ -1,18 +1,24 @@
-//! What the prediction of a root implies.
+//! Precomputed closures of predictions.
 
-/// A node and a step of it.
+/// A dotted rule: a node, and the step at which the dot stands.
 #[derive(Clone, Copy)]
 pub struct Spot {
+    /// The number of the node.
     pub node: usize,
+    /// The step.
     pub step: usize,
 }
 
-/// Holds what follows from a root's prediction, whatever the line: the dotted rules where something begins, the roots
-/// with blocks of their own that these call, and the dotted rules after calls of nullable roots that need not take a
-/// letter.
+/// The closure of a root's prediction: all that follows from it, whatever the line.
+///
+/// A node that one dotted rule alone calls may be inlined (`Inner`): it is part of its caller's closure, and has no
+/// closure of its own.
 #[derive(Drop)]
 pub struct Block {
+    /// The dotted rules at which the root and the nodes inlined into it begin.
     pub spots: Vec<Spot>,
+    /// The roots with closures of their own that these call.
     pub calls: Vec<usize>,
+    /// The dotted rules after calls of nullable roots that may take no symbol.
     pub passes: Vec<Spot>,
 }

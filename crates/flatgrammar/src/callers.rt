@@ -1,4 +1,4 @@
-//! What calls each node.
+//! The callers of each node.
 ghost use Rattle.std.specs.Prelude.{◌≡◌, ◌<◌, ℕ, Some, IfOk, length, slice_get};
 ghost use Rattle.flatgrammar.specs.TableViews.{root_in};
 ghost use Rattle.flatgrammar.specs.Blocks.{spot, call_at};
@@ -11,14 +11,14 @@ use crate::tables::{Tables, call};
 use ruletable::Memory;
 use std::alloc::Global;
 
-/// What calls a node.
+/// The callers of a node.
 #[derive(Clone, Copy)]
 pub(crate) enum Caller {
-    /// No place.
+    /// No dotted rule.
     Nobody,
-    /// This place alone.
+    /// This dotted rule alone.
     One(Spot),
-    /// Any places.
+    /// Several dotted rules, or a repetition.
     Many,
 }
 
@@ -112,7 +112,7 @@ fn mark_node(flat: &Tables, node: usize, callers: &mut [Caller])
     }
 }
 
-/// Returns what calls each node.
+/// Returns the callers of each node. `Memory` if an allocation fails.
 pub(crate) fn find_callers(alloc: Global, flat: &Tables) -> Result<Vec<Caller>, Memory>
     ensures { IfOk result (λ callers. AreCallers flat.now callers.items) }
 {

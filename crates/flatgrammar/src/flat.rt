@@ -19,13 +19,14 @@ use std::alloc::Global;
 use std::marker::Model;
 use std::rc::Rc;
 
-/// A grammar as numbered nodes: of each rule the node of its body, and the whole, a concatenation of the judged rule's
-/// body alone. It serves lines of at most `limit` letters.
+/// A grammar as numbered nodes, for lines of at most `limit` symbols. Contracts see the nodes, the rules' bodies and
+/// the augmented start, which is a concatenation of the judged rule's body alone.
 ///
-/// It keeps what judging looks up by node: where a node starts and ends, whether it is nullable, and what its
-/// prediction implies.
+/// `new` computes once, by node, what judging looks up: where a node starts and ends, whether it is nullable, and the
+/// closure of its prediction. Nothing changes later, so that the judges share the tables.
 #[derive(Drop)]
 pub struct Flat {
+    /// The grammar, and what was computed of its nodes.
     tables: Rc<Tables>,
 }
 
@@ -43,7 +44,7 @@ impl Model for Flat {
 
 impl Flat {
     /// Returns the flat grammar of these nodes, of which the nullable ones are marked, for lines of at most `limit`
-    /// letters. `Memory` if an allocation fails.
+    /// symbols. `Memory` if an allocation fails.
     pub fn new(
         alloc: Global,
         nodes: Vec<Node>,
@@ -112,7 +113,7 @@ impl Flat {
         }
     }
 
-    /// Returns whether that node is passed without a letter.
+    /// Returns whether that node is passed without a symbol.
     pub fn is_nullable(&self, n: usize) -> bool
         ensures { IsTrue result ↔ Nullable self.now.nodes self.now.bodies n }
     {
@@ -122,14 +123,14 @@ impl Flat {
         }
     }
 
-    /// Returns the number of the whole.
+    /// Returns the number of the augmented start.
     pub fn whole(&self) -> usize
         ensures { result ≡ self.now.whole }
     {
         self.tables.whole
     }
 
-    /// Returns how many letters a line may have.
+    /// Returns how many symbols a line may have.
     pub fn limit(&self) -> usize
         ensures { result ≡ self.now.limit }
     {

@@ -6,21 +6,21 @@ ghost use Rattle.flatgrammar.specs.FlatViews.{set_of, node_of};
 ghost use Rattle.flatgrammar.specs.NodeSteps.{begin_count, is_done, callee, call_count, turned, takes, read_at};
 ghost use Rattle.flatgrammar.specs.NodeSteps.{IfSomeSet};
 
-/// A set of letters.
+/// A set of symbols.
 #[derive(Clone, Copy)]
 pub enum Set {
-    /// This letter.
+    /// This symbol.
     Exactly(u32),
-    /// This letter and its other case.
+    /// This symbol and its other case.
     EitherCase(u32),
-    /// The letters from `low` to `high`.
+    /// The symbols from `low` to `high`.
     Between { low: u32, high: u32 },
 }
 
 /// An element with the numbers of its operands in their place.
 #[derive(Drop)]
 pub enum Node {
-    /// One letter of each set, in order.
+    /// One symbol of each set, in order.
     Letters(Vec<Set>),
     /// All of them, in order.
     Concat(Vec<usize>),
@@ -32,7 +32,7 @@ pub enum Node {
         most: Option<u32>,
         operand: usize,
     },
-    /// At most `most` turns of it where that is there, each of at least one letter.
+    /// At most `most` iterations of it where that is there, each of at least one symbol.
     Turns {
         most: Option<u32>,
         operand: usize,
@@ -41,7 +41,7 @@ pub enum Node {
     Opt(usize),
     /// The rule of that id; the number of rules stands for a rule that is not there.
     Name(usize),
-    /// What derives nothing.
+    /// The empty set: it derives no line.
     Nothing,
 }
 
@@ -55,7 +55,7 @@ fn small(value: u32) -> u32
     }
 }
 
-/// Returns whether a set holds a letter.
+/// Returns whether a set holds a symbol.
 pub(crate) fn has(set: &Set, value: u32) -> bool
     ensures { IsTrue result ↔ Has (set_of set.now) value }
 {
@@ -66,7 +66,7 @@ pub(crate) fn has(set: &Set, value: u32) -> bool
     }
 }
 
-/// The least and the greatest letter of some; there are none if the greatest is below the least.
+/// A range of symbols, from `least` to `greatest`. It is empty if the greatest is below the least.
 #[derive(Clone, Copy)]
 pub struct Ends {
     pub least: u32,
@@ -85,7 +85,7 @@ fn ends_of_set(set: &Set) -> Ends
     Ends { least, greatest }
 }
 
-/// Returns ends between which the letter that a step reads is too.
+/// Returns ends between which the symbol that a step reads is too.
 pub(crate) fn widened(node: &Node, step: usize, ends: Ends) -> Ends
     ensures wider { (result.least ≤ ends.least) × (ends.greatest ≤ result.greatest) }
     ensures held { (c : ℕ) → IfSomeSet (read_at (node_of node.now) step) c
@@ -106,7 +106,7 @@ pub(crate) fn widened(node: &Node, step: usize, ends: Ends) -> Ends
     }
 }
 
-/// Returns in how many steps a node begins: those from 0 on.
+/// Returns the number of steps at which a node begins: those from 0 on.
 pub(crate) fn begins(node: &Node) -> usize
     ensures { result ≡ begin_count (node_of node.now) }
 {
@@ -150,14 +150,16 @@ fn is_enough(least: u32, most: Option<u32>, step: usize) -> bool
     }
 }
 
-/// What a node does at a step: the node that it calls with the step after it, and whether the node is done there.
+/// The actions of a node at a step.
 #[derive(Clone, Copy)]
 pub(crate) struct NodeDeed {
+    /// The node that it calls, and the step after the call.
     pub(crate) called: Option<(usize, usize)>,
+    /// Whether the node is complete there.
     pub(crate) done: bool,
 }
 
-/// Returns what a node does at a step.
+/// Returns the actions of a node at a step.
 #[inline(always)]
 pub(crate) fn node_deed(node: &Node, step: usize) -> NodeDeed
     ensures called { result.called ≡ callee (node_of node.now) step }
@@ -215,7 +217,7 @@ pub(crate) fn callee(node: &Node, step: usize) -> Option<(usize, usize)>
     node_deed(node, step).called
 }
 
-/// Returns how many of a node's first steps may call something, its turns left out.
+/// Returns how many first steps of a node may call something, its iterations left out.
 pub(crate) fn call_count(node: &Node) -> usize
     ensures { result ≡ call_count (node_of node.now) }
 {
@@ -226,7 +228,7 @@ pub(crate) fn call_count(node: &Node) -> usize
     }
 }
 
-/// Returns the operand whose turns a node repeats.
+/// Returns the operand that a node repeats.
 pub(crate) fn turned(node: &Node) -> Option<usize>
     ensures { result ≡ turned (node_of node.now) }
 {
@@ -236,7 +238,7 @@ pub(crate) fn turned(node: &Node) -> Option<usize>
     }
 }
 
-/// Returns whether each turn of a node takes a letter.
+/// Returns whether each iteration of a node takes a symbol.
 #[inline(always)]
 pub(crate) fn takes(node: &Node) -> bool
     ensures { result ≡ takes (node_of node.now) }
@@ -247,7 +249,7 @@ pub(crate) fn takes(node: &Node) -> bool
     }
 }
 
-/// Returns whether a step may read a letter.
+/// Returns whether a step may read a symbol.
 #[inline(always)]
 pub(crate) fn may_read(node: &Node, step: usize) -> bool
     ensures { IsTrue result ↔ (read_at (node_of node.now) step ≢ None) }
@@ -258,7 +260,7 @@ pub(crate) fn may_read(node: &Node, step: usize) -> bool
     }
 }
 
-/// Returns whether a step reads a letter.
+/// Returns whether a step reads a symbol.
 pub(crate) fn reads(node: &Node, step: usize, value: u32) -> bool
     ensures value { IsTrue result ↔ IfSomeSet (read_at (node_of node.now) step) value }
     ensures fits { IsTrue result → step + 1 < 2 ^ 64 }

@@ -1,4 +1,4 @@
-//! Blocks of heads: where they and the nodes that they alone call begin.
+//! Closures of roots: where they and the nodes inlined into them begin.
 ghost use Rattle.std.specs.Prelude.{◌≡◌, ◌↔◌, ◌⊎◌, ◌<◌, ℕ, Some, None, IfOk, length, slice_get};
 ghost use Rattle.flatgrammar.specs.declared.block.Spot as spots;
 ghost use Rattle.flatgrammar.specs.declared.inner.Inner as inner;
@@ -116,7 +116,7 @@ fn empty_blocks(alloc: Global, count: usize) -> Result<Vec<Block>, Memory>
     Ok(blocks)
 }
 
-/// Returns for each head its block, and for each other node one with nothing in it.
+/// Returns of each root its closure, and of each inlined node an empty one.
 pub(crate) fn head_blocks(
     alloc: Global,
     flat: &Tables,

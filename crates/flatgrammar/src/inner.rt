@@ -1,4 +1,4 @@
-//! Nodes that one place alone calls, where another node begins.
+//! Inlined nodes: one dotted rule alone calls each, where another node begins.
 ghost use Rattle.std.specs.Prelude.{◌≡◌, ◌↔◌, ℕ, Some, IsTrue, IfOk, IfSome};
 ghost use Rattle.flatgrammar.specs.Blocks.{spot, begin_count, call_at};
 ghost use Rattle.flatgrammar.specs.TableViews.{whole_root as the_whole};
@@ -11,17 +11,20 @@ use crate::tables::{Tables, call, whole_root};
 use ruletable::Memory;
 use std::alloc::Global;
 
-/// The place that alone calls a node, where another node begins: the head in whose block it stands, the node and the
-/// step of the place, and the step after it.
+/// The only call site of an inlined node. It stands where its own node begins, so the callee is predicted with it.
 #[derive(Clone, Copy)]
 pub struct Inner {
+    /// The root whose closure has the call site.
     pub head: usize,
+    /// The node of the call site.
     pub node: usize,
+    /// The step of the call.
     pub step: usize,
+    /// The step after the call.
     pub next: usize,
 }
 
-/// Returns in how many steps a node begins, which are those from 0 on.
+/// Returns the number of steps at which a node begins: those from 0 on.
 pub fn begin_steps(flat: &Tables, node: usize) -> usize
     ensures { result ≡ begin_count flat.now node }
 {
@@ -31,7 +34,7 @@ pub fn begin_steps(flat: &Tables, node: usize) -> usize
     }
 }
 
-/// Returns the place that alone calls a node, if the node stands in the block of another.
+/// Returns the only call site of a node, if the node is inlined.
 pub(crate) fn inner_at(inners: &[Option<Inner>], node: usize) -> Option<Inner>
     ensures { result ≡ the_inner inners.now node }
 {
@@ -41,7 +44,7 @@ pub(crate) fn inner_at(inners: &[Option<Inner>], node: usize) -> Option<Inner>
     }
 }
 
-/// Returns the head in whose block a node stands.
+/// Returns the root whose closure has a node.
 pub(crate) fn home(inners: &[Option<Inner>], node: usize) -> usize
     ensures { result ≡ home_in inners.now node }
 {
@@ -96,7 +99,7 @@ fn inner_of(flat: &Tables, caller: Caller, inners: &[Option<Inner>], node: usize
     }
 }
 
-/// Returns for each node the place that alone calls it, if the node stands in the block of another.
+/// Returns of each inlined node its only call site, and `None` of other nodes. `Memory` if an allocation fails.
 pub(crate) fn find_inners(alloc: Global, flat: &Tables) -> Result<Vec<Option<Inner>>, Memory>
     ensures { IfOk result (λ inners. AreInners flat.now inners.items) }
 {

@@ -1,4 +1,4 @@
-//! Grammars as numbered nodes, with tables of what judging looks up by node.
+//! Grammars as numbered nodes, with the tables that judging looks up by node.
 #![tactic(auto)]
 
 mod block;

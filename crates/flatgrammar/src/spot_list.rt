@@ -1,4 +1,4 @@
-//! Of the dotted rules of a block those that call, and those that read.
+//! The dotted rules of a closure that call or read.
 ghost use Rattle.std.specs.Prelude.{◌≡◌, ◌≤◌, ℕ, Some, IsTrue, IfOk, IfSome, IfNone, slice_get};
 ghost use Rattle.flatgrammar.specs.Blocks.{block_of, call_at, spots_of, Asks, AreAsks, Reads, ReadsAny, Picks};
 ghost use Rattle.flatgrammar.specs.Blocks.{AreByLetter, AreEnds, lists_in, IsSpotList};
@@ -13,21 +13,27 @@ use std::alloc::Global;
 // Fewer dotted rules that read are walked without a table by letter.
 const FEW: usize = 4;
 
-/// A dotted rule that calls a root with a block of its own: the root, and the step after the call.
+/// A dotted rule that calls a root with a closure of its own.
 #[derive(Clone, Copy)]
 pub struct Ask {
+    /// The dotted rule.
     pub spot: Spot,
+    /// The root that it calls.
     pub root: usize,
+    /// The step after the call.
     pub next: usize,
 }
 
-/// Holds of the dotted rules of a block those that call a root with a block of its own, and those that read: all, and
-/// where they are many those of each letter below 256. All letters that they read are between the ends.
+/// The dotted rules of a closure that matter in a set: those that call, and those that read.
 #[derive(Drop)]
 pub struct SpotList {
+    /// The dotted rules that call a root with a closure of its own.
     pub asks: Vec<Ask>,
+    /// The dotted rules that may read a symbol.
     pub readers: Vec<Spot>,
+    /// Of each symbol below 256 its readers; empty if at most four dotted rules read.
     pub by_letter: Vec<Vec<Spot>>,
+    /// A range that has all symbols that are read.
     pub ends: Ends,
 }
 
@@ -172,7 +178,7 @@ fn list_of(alloc: Global, flat: &Tables, from: &[Spot]) -> Result<SpotList, Memo
     })
 }
 
-/// Returns of each block its lists.
+/// Returns of each closure its lists.
 pub(crate) fn spot_lists(alloc: Global, flat: &Tables) -> Result<Vec<SpotList>, Memory>
     ensures { IfOk result (λ lists. (h : ℕ) → IsSpotList flat.now (block_of flat.now h).spots
         (lists_in (slice_get lists.items h))) }

@@ -11,19 +11,29 @@ use crate::flat_node::{Node, callee, may_read, node_deed, takes};
 use crate::inner::{Inner, inner_at};
 use crate::spot_list::{Ask, SpotList};
 
-/// Holds the nodes of a lowered grammar, of each rule the node of its body, of each node its root, a mark of what is
-/// nullable, the place that alone calls it if it stands in the block of another, its block and the lists of its block,
-/// the whole's node, and how many letters a line may have.
+/// A lowered grammar, with all that judging looks up by node.
+///
+/// `nodes`, `bodies`, `whole` and `limit` are the grammar. The other vectors have an entry for each node and follow
+/// from it.
 #[derive(Drop)]
 pub struct Tables {
+    /// The nodes, by number.
     pub nodes: Vec<Node>,
+    /// Of each rule the node of its body.
     pub bodies: Vec<usize>,
+    /// Of each node its root: the node where it starts and ends. A name's root is that of its rule's body.
     pub roots: Vec<Option<usize>>,
+    /// Of each node whether it derives the empty line.
     pub nulls: Vec<bool>,
+    /// Of each inlined node its only call site.
     pub inners: Vec<Option<Inner>>,
+    /// Of each node the closure of its prediction; empty for an inlined node.
     pub blocks: Vec<Block>,
+    /// Of each closure the dotted rules that call or read.
     pub lists: Vec<SpotList>,
+    /// The node of the augmented start.
     pub whole: usize,
+    /// The most symbols of a line.
     pub limit: usize,
 }
 
@@ -39,7 +49,7 @@ fn rooted(flat: &Tables, called: Option<(usize, usize)>) -> Option<(usize, usize
     }
 }
 
-/// Returns the root that an item's place calls, and the step after it.
+/// Returns the root that an item's dotted rule calls, and the step after it.
 #[inline(always)]
 pub fn call(flat: &Tables, item: Item) -> Option<(usize, usize)>
     ensures { result ≡ call_of flat.now item }
@@ -48,7 +58,7 @@ pub fn call(flat: &Tables, item: Item) -> Option<(usize, usize)>
     rooted(flat, callee(node, item.step))
 }
 
-/// Returns whether what an item's place calls has to take a letter.
+/// Returns whether what an item's dotted rule calls has to take a symbol.
 pub fn takes_letter(flat: &Tables, item: Item) -> bool
     ensures { result ≡ takes_of flat.now item }
 {
@@ -58,17 +68,20 @@ pub fn takes_letter(flat: &Tables, item: Item) -> bool
     }
 }
 
-/// What an item's place does: the root that it calls with the step after it, whether its node is done there, whether
-/// what it calls has to take a letter, and whether it may read a letter.
+/// The actions of an item's dotted rule.
 #[derive(Clone, Copy)]
 pub struct Deed {
+    /// The root that it calls, and the step after the call.
     pub called: Option<(usize, usize)>,
+    /// Whether its node is complete there.
     pub done: bool,
+    /// Whether what it calls has to take a symbol.
     pub takes: bool,
+    /// Whether it may read a symbol.
     pub reads: bool,
 }
 
-/// Returns what an item's place does. It looks the node up once.
+/// Returns the actions of an item's dotted rule. It looks the node up once.
 #[inline(always)]
 pub fn deed_of(flat: &Tables, item: Item) -> Deed
     ensures called { result.called ≡ call_of flat.now item }
@@ -105,7 +118,7 @@ pub fn null(flat: &Tables, root: usize) -> bool
     }
 }
 
-/// Returns the dotted rules of a root's block.
+/// Returns the dotted rules of a root's closure.
 pub fn spots(flat: &Tables, head: usize) -> &[Spot]
     ensures { result.now ≡ (block_of flat.now head).spots }
 {
@@ -115,7 +128,7 @@ pub fn spots(flat: &Tables, head: usize) -> &[Spot]
     }
 }
 
-/// Returns of the dotted rules of a root's block at least those that call a root with a block of its own, with what
+/// Returns of the dotted rules of a root's closure at least those that call a root with a closure of its own, with what
 /// they ask for.
 pub fn asks(flat: &Tables, head: usize) -> &[Ask]
     ensures { result.now ≡ (lists_of flat.now head).asks }
@@ -126,7 +139,7 @@ pub fn asks(flat: &Tables, head: usize) -> &[Ask]
     }
 }
 
-/// Returns of the dotted rules of a root's block at least those that read a letter.
+/// Returns of the dotted rules of a root's closure at least those that read a symbol.
 pub fn readers(flat: &Tables, head: usize, value: u32) -> &[Spot]
     ensures { result.now ≡ the_readers_of flat.now head value }
 {
@@ -142,7 +155,7 @@ pub fn readers(flat: &Tables, head: usize, value: u32) -> &[Spot]
     }
 }
 
-/// Returns the roots with blocks of their own that the dotted rules of a root's block call.
+/// Returns the roots with closures of their own that the dotted rules of a root's closure call.
 pub fn calls(flat: &Tables, head: usize) -> &[usize]
     ensures { result.now ≡ (block_of flat.now head).calls }
 {
@@ -152,7 +165,7 @@ pub fn calls(flat: &Tables, head: usize) -> &[usize]
     }
 }
 
-/// Returns the dotted rules after the nullable calls of a root's block.
+/// Returns the dotted rules after the nullable calls of a root's closure.
 pub fn passes(flat: &Tables, head: usize) -> &[Spot]
     ensures { result.now ≡ (block_of flat.now head).passes }
 {
@@ -162,14 +175,14 @@ pub fn passes(flat: &Tables, head: usize) -> &[Spot]
     }
 }
 
-/// Returns the place that alone calls a root, if the root stands in the block of another.
+/// Returns the only call site of a root, if the root is inlined.
 pub fn sole_caller(flat: &Tables, root: usize) -> Option<Inner>
     ensures { result ≡ inner_of flat.now root }
 {
     inner_at(&flat.inners, root)
 }
 
-/// Returns the root of the whole.
+/// Returns the root of the augmented start.
 pub fn whole_root(flat: &Tables) -> Option<usize>
     ensures { result ≡ whole_root flat.now }
 {
@@ -179,7 +192,7 @@ pub fn whole_root(flat: &Tables) -> Option<usize>
     }
 }
 
-/// Returns whether an item's place reads a letter.
+/// Returns whether an item's dotted rule reads a symbol.
 pub fn reads(flat: &Tables, item: Item, value: u32) -> bool
     ensures value { IsTrue result ↔ IfSomeSet (read_of flat.now item) value }
     ensures fits { IsTrue result → item.step + 1 < 2 ^ 64 }

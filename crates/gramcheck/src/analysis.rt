@@ -1,4 +1,4 @@
-//! What is known of a grammar's rules and nodes before it is run.
+//! Static analysis of a grammar's rules and nodes.
 ghost use Rattle.std.specs.Prelude.{◌≡◌, List, length, IfOk};
 ghost use Rattle.pegread.specs.Pattern.{Rule};
 ghost use Rattle.pegread.specs.PegViews.{rules_of};

@@ -34,10 +34,15 @@ pub struct Checked<S> {
 /// Checks a grammar. Returns the notes on it, and, if none of them rejects it, the grammar ready to run from its start
 /// rule: the rule with the name `start`, or else the first.
 ///
-/// The notes are, each kind by the order of the rules: rules that are defined again; names that no rule has, by first
-/// use, where `start` is a use before all others; rules that are not used; left-recursive rules, which may call
-/// themselves without taking a byte (Ford 2004, section 3.6); and rules that repeat what may take nothing. All but "not
-/// used" reject the grammar.
+/// The notes are, each kind by the order of the rules:
+///
+/// - rules that are defined again;
+/// - names that no rule has, by first use, where `start` is a use before all others;
+/// - rules that are not used;
+/// - left-recursive rules, which may call themselves without taking a byte (Ford 2004, section 3.6);
+/// - rules that repeat what may take nothing.
+///
+/// All but "not used" reject the grammar.
 ///
 /// The grammar has one node for each occurrence of an expression in the rules' bodies, and one more for each `+`.
 ///
@@ -93,11 +98,14 @@ pub fn judge_peg(alloc: Global, peg: Peg, start: Option<&str>) -> Result<Checked
     })
 }
 
-// The notes on a grammar, its nodes, and their ranks.
+/// The analysis of a grammar.
 #[derive(Drop)]
 struct Judged {
+    /// The notes, in order.
     notes: Vec<Note>,
+    /// The rules' bodies, cut into numbered nodes.
     cut: Cut,
+    /// Of each node its rank.
     ranks: Vec<usize>,
 }
 

@@ -116,7 +116,7 @@ pub(crate) struct Left {
 
 /// Finds the left-recursive rules, and ranks the nodes.
 ///
-/// A rule is left-recursive exactly where a node of its name comes back to itself by left steps.
+/// A rule is left-recursive exactly where left steps lead from a node of its name back to it.
 ///
 /// # Errors
 /// `Memory` if an allocation fails.

@@ -18,9 +18,8 @@ use rulenames::{marks_at, note_marked, note_undefined, opposites};
 use ruletable::{Memory, NameCase, Note, NoteKind, RuleTable};
 use std::alloc::Global;
 
-/// Returns the notes on a grammar, in order: on rules that are defined again, which are those with the ids in
-/// `redefined`, on names that no rule has, on rules that are not used, and on those marked as left-recursive and as
-/// looping.
+/// Returns the notes on a grammar, in order: on rules that are defined again, on names that no rule has, on rules that
+/// are not used, on left-recursive rules, and on looping rules. `redefined` has the ids of the first.
 ///
 /// `Memory` if an allocation fails.
 pub(crate) fn notes(
@@ -117,7 +116,7 @@ pub(crate) fn refused(notes: &[Note]) -> bool
     false
 }
 
-/// A law: there is at most one list of notes on a grammar.
+/// States that there is at most one list of notes on a grammar.
 pub fn one_list_of_notes()
     ensures { (rules : List Rule) (again : List (List ℕ)) (start : Option (List ℕ)) (a b : List Said) →
         AreNotes rules again start a → AreNotes rules again start b → a ≡ b }

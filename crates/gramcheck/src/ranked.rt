@@ -22,13 +22,19 @@ use ruletable::{Memory, RuleTable};
 use std::alloc::Global;
 use std::marker::Model;
 
-/// A grammar that no note rejects: its rules, a start rule, the rules' bodies cut into numbered nodes, and of each node
-/// a rank. It has none of the tables that a run needs.
+/// A grammar that no note rejects. It has none of the tables that a run needs.
+///
+/// The ranks show that the grammar is well-formed (Ford 2004, section 3.6): a left step leads to a node of lower rank,
+/// so no evaluation goes in a circle.
 #[derive(Drop)]
 pub struct RankedPeg {
+    /// The rules, by id.
     rules: RuleTable<Expr>,
+    /// The id of the start rule.
     start: usize,
+    /// The rules' bodies, cut into numbered nodes.
     cut: Cut,
+    /// Of each node its rank.
     ranks: Vec<usize>,
 }
 

@@ -28,26 +28,34 @@ pub(crate) struct Tables {
     pub(crate) templates: Templates,
     /// Which nodes, and which tails of sequences, are keys.
     pub(crate) keys: Keys,
-    /// What each byte decides of the operands of repetitions.
+    /// The outcomes that one byte decides, of the operands of repetitions.
     pub(crate) stars: StarTables,
 }
 
-/// A grammar that can be run: its rules, their bodies cut into numbered nodes, a start rule, of each node a rank, and
-/// which nodes and tails are keys.
+/// A grammar that can be run: checked, and with the tables that a matcher looks up by node.
 ///
-/// Operands have smaller numbers than the nodes that they stand in, and every left step leads to a node of lower rank.
+/// `rules` and `start` are the grammar. `nodes` and `bodies` repeat the rules' bodies as numbered nodes, so that a
+/// matcher can memoize by number. Operands have smaller numbers than the nodes that they stand in. Every left step
+/// leads to a node of lower rank, so a run ends. The other fields follow from the nodes, and never change.
 #[derive(Drop)]
 pub struct SoundPeg {
+    /// The rules, by id.
     rules: RuleTable<Expr>,
+    /// The id of the start rule.
     start: usize,
+    /// The nodes, by number.
     nodes: Vec<Node>,
+    /// Of each rule the node of its body.
     bodies: Vec<usize>,
+    /// Of each node its rank.
     ranks: Vec<usize>,
-    // of each node whether it may print
+    /// Of each node whether it may print.
     printing: Vec<bool>,
+    /// The cuts of the actions' templates.
     templates: Templates,
+    /// Which nodes, and which tails of sequences, are keys.
     keys: Keys,
-    // what each byte decides of the operands of repetitions
+    /// The outcomes that one byte decides, of the operands of repetitions.
     stars: StarTables,
 }
 
@@ -129,7 +137,7 @@ impl SoundPeg {
         }
     }
 
-    /// Returns the rules as they were read.
+    /// Returns the table of the rules, by id, as the reader made it.
     pub fn rules(&self) -> &RuleTable<Expr>
         ensures { result.now ≡ self.now.rules }
     {
@@ -190,9 +198,9 @@ impl SoundPeg {
         self.ranks[n]
     }
 
-    /// Returns whether the node of that number is silent: whether no action and no end of a capture is in it, in its
-    /// operands or in the rules that these name, except those of predicates. The law `silent_leaves_no_event` says what
-    /// that means for a success. The number must be less than `nodes()`.
+    /// Returns whether the node of that number is silent. A silent node has no action and no end of a capture, nor have
+    /// its operands and the rules that these name, those of predicates left out. The law `silent_leaves_no_event`
+    /// states the consequence for a success. The number must be less than `nodes()`.
     pub fn is_silent(&self, n: usize) -> bool
         requires { n < length self.now.nodes }
         ensures { (e : Pattern) → Spells (rules_of self.now.rules) (shapes_of self.now.nodes) n e →

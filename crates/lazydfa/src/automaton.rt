@@ -23,12 +23,21 @@ use std::alloc::Global;
 use std::marker::Model;
 use std::rc::Rc;
 
-/// A flat grammar, seen as that, with what was found out of its lines.
+/// A flat grammar with the part of its automaton that earlier lines needed. Contracts see the grammar alone.
+///
+/// The automaton is a lazy DFA. Its states stand for sets of return stacks, which share their tails as nodes of a graph
+/// (Tomita 1987). The grammar and the classes never change. The memo only grows, until an allocation fails; then it is
+/// emptied. No verdict depends on the memo's contents, so one automaton serves line after line. The memo's budget
+/// bounds its time and memory; where it is spent, the automaton gives no verdict.
 #[derive(Drop)]
 pub struct Automaton {
+    /// Allocates all that the automaton keeps.
     alloc: Global,
+    /// The grammar, shared with the `Flat` from which it was made.
     tables: Rc<Tables>,
+    /// Classes of the symbols that each set of the grammar takes or rejects together.
     classes: Classes,
+    /// The states and transitions known so far, and the shared suffixes of the line that is read.
     memo: Memo,
 }
 
@@ -136,14 +145,14 @@ fn empty_memo(alloc: Global, nodes: usize, room: usize) -> Memo
 
 impl Automaton {
     /// Returns an automaton that judges by a flat grammar; `None` if the grammar counts how often something nullable is
-    /// repeated, or its whole is no concatenation of one. `Memory` if an allocation fails.
+    /// repeated, or its augmented start is no concatenation of one. `Memory` if an allocation fails.
     pub fn new(alloc: Global, flat: &Flat) -> Result<Option<Automaton>, Memory>
         ensures { IfOk result (λ made. IfSome made (λ automaton. automaton ≡ flat.now)) }
     {
         Automaton::with_room(alloc, flat, ROOM)
     }
 
-    /// Returns an automaton as `new` does, which fills no more once it keeps so many tops of states, continuations,
+    /// Returns an automaton as `new` does, which fills no cell once it keeps `room` tops of states, continuations,
     /// cells and unfolds. With no room it answers nothing, and with little it answers for some lines.
     pub fn with_room(alloc: Global, flat: &Flat, room: usize) -> Result<Option<Automaton>, Memory>
         ensures { IfOk result (λ made. IfSome made (λ automaton. automaton ≡ flat.now)) }
@@ -163,7 +172,7 @@ impl Automaton {
     }
 
     /// Returns whether the flat grammar derives a line, as `earley::judge` does; `None` if that takes more time or
-    /// memory than there is for states. `Memory` if an allocation fails; what earlier lines found out may be lost then.
+    /// memory than there is for states. `Memory` if an allocation fails; the states of earlier lines may be lost then.
     pub fn judge<L: Letter>(&mut self, line: &[L]) -> Result<Option<bool>, Memory>
         ensures same { self.new ≡ self.old }
         ensures answer { IfOk result (λ told. IfSome told (λ yes. IsTrue yes ↔ DerivesLine self.old

@@ -1,28 +1,34 @@
-//! What may be spent on filling cells.
+//! The budget for filling cells.
 
-/// So many entries are kept by an automaton of which nothing else is asked: continuations, cells, states and unfolds.
-/// Four tops of a state are one more.
+/// The most entries that an automaton keeps by default: continuations, cells, states and unfolds. Four tops of a state
+/// count as one more.
 pub(crate) const ROOM: usize = 2_000_000;
 
-/// A letter earns so many turns, until so many were earned; then one.
+/// A symbol earns `TURNS` turns until `GIFT` turns were earned, and then one.
 const TURNS: usize = 1024;
 
 const GIFT: usize = 2_097_152;
 
-/// How many ids may still be gone over, how many of them the next letters earn beside one each, how many tops there
-/// are, a state or an unfold as four more, and for how many entries there is room.
+/// Bounds the time and the memory of an automaton.
+///
+/// `turns` bounds time: filling a cell spends one for each id that it visits, and each symbol of a line earns some.
+/// `tops` and `room` bound memory. A cell is filled only if both have enough left; else the line gets no verdict.
 #[derive(Drop)]
 pub(crate) struct Budget {
+    /// How many turns fills may still spend.
     turns: usize,
+    /// How many turns symbols may still earn together, beside one each.
     gift: usize,
+    /// The number of tops of all states, with four more for each state and each unfold.
     tops: usize,
+    /// How many entries may be kept.
     room: usize,
-    /// No state is made any more.
+    /// Whether no state is made any more.
     pub(crate) is_shut: bool,
 }
 
 impl Budget {
-    /// Returns what may be spent by a grammar of so many nodes before a line is read, in room for so many entries.
+    /// Returns the budget of a grammar of `nodes` nodes before a line is read, with room for `room` entries.
     pub(crate) fn of(nodes: usize, room: usize) -> Budget {
         Budget {
             turns: nodes.saturating_mul(128).saturating_add(65_536),
@@ -33,14 +39,14 @@ impl Budget {
         }
     }
 
-    /// Adds what letters earn.
+    /// Adds the earnings of `letters` symbols.
     pub(crate) fn earn(&mut self, letters: usize) {
         let more = letters.saturating_mul(TURNS).min(self.gift);
         self.gift = self.gift.saturating_sub(more);
         self.turns = self.turns.saturating_add(more).saturating_add(letters);
     }
 
-    /// Takes off what was spent.
+    /// Subtracts spent turns.
     pub(crate) fn spend(&mut self, turns: usize) {
         self.turns = self.turns.saturating_sub(turns);
     }

@@ -15,15 +15,20 @@ use crate::transition::Front;
 use flatgrammar::{Item, Tables, reads};
 use ruletable::Memory;
 
-/// Tops of which each reads a letter, and whether the whole may end.
+/// A state of the automaton: the set of return stacks that the symbols so far lead to.
+///
+/// A stack is given by the id of its top continuation. Only the stacks whose top reads a symbol are kept: the others
+/// matter only for the end, which `ended` records. Two states are equal if both fields are.
 #[derive(Drop)]
 pub(crate) struct State {
+    /// The ids of continuations whose top reads a symbol, in the order in which they were found.
     pub(crate) tops: Vec<usize>,
+    /// Whether the augmented start may end here.
     pub(crate) ended: bool,
 }
 
-/// What a letter of a class leads to from a state: not known yet, more than there may be, nothing, a state, or a state
-/// and a part that is pushed below it.
+/// A transition from a state by the symbols of a class. `Unknown`: not filled yet. `Over`: it exceeds a bound. `Dead`:
+/// no symbol of the class can follow. `To`: the next state. `Push`: the next state, and the shared suffix to push.
 #[derive(Clone, Copy)]
 pub(crate) enum Cell {
     Unknown,
@@ -33,15 +38,24 @@ pub(crate) enum Cell {
     Push(usize, usize),
 }
 
-/// Holds continuations, states of them, cells by state and class, and what may be spent on more of them. The first
-/// state is the start.
+/// The states known so far with their transitions, and the budget for more. State 0 is the start.
+///
+/// `cells` is a table by state and class: the cell of state `s` and class `c` is entry `s * classes + c`. A state is
+/// added with a row of cells that are `Unknown`. A cell is filled when a line first needs it. `forget` empties all
+/// together, since states name continuations, and cells name states.
 #[derive(Drop)]
 pub(crate) struct Cache {
+    /// The continuations that states, suffixes and cells name by id.
     pub(crate) conts: Conts,
+    /// The worklist of the fill under way.
     pub(crate) ids: Ids,
+    /// The states, by number; no two are equal.
     pub(crate) states: Vec<State>,
+    /// Hash chains that find an equal state.
     pub(crate) chains: Chains,
+    /// The transitions, by state and class.
     pub(crate) cells: Vec<Cell>,
+    /// How much more may be filled.
     pub(crate) budget: Budget,
 }
 
@@ -58,7 +72,7 @@ pub(crate) fn forget(cache: &mut Cache)
     cache.cells.clear();
 }
 
-/// Returns whether a continuation reads a letter.
+/// Returns whether a continuation reads a symbol.
 fn cont_reads(tables: &Tables, id: usize, value: u32, conts: &Conts) -> bool
     requires within { id ≤ length conts.now.items.items }
     requires older { AreOlder conts.now.items.items }
@@ -82,7 +96,7 @@ fn cont_reads(tables: &Tables, id: usize, value: u32, conts: &Conts) -> bool
     )
 }
 
-/// Returns whether one of the continuations reads a letter.
+/// Returns whether one of the continuations reads a symbol.
 pub(crate) fn any_reads(tables: &Tables, tops: &[usize], value: u32, conts: &Conts) -> bool
     requires within { (id : ℕ) → Contains tops.now id → id ≤ length conts.now.items.items }
     requires older { AreOlder conts.now.items.items }
@@ -105,7 +119,7 @@ fn is_same(state: &State, tops: &[usize], ended: bool) -> bool
     state.ended == ended && state.tops.as_slice() == tops
 }
 
-/// Returns whether the whole may end where a state is.
+/// Returns whether the augmented start may end in a state.
 #[inline(always)]
 pub(crate) fn has_ended(cache: &Cache, state: usize) -> bool
     ensures { (got : State) → slice_get cache.now.states.items state ≡ Some got → result ≡ got.ended }

@@ -1,12 +1,17 @@
-//! Chains of numbers, in which entries are found again by what they hash to. No contract relies on them: whoever finds
+//! Chains of numbers, in which entries are found by their hash. No contract relies on them: whoever finds
 //! a number there compares the entry.
 use ruletable::Memory;
 use std::alloc::Global;
 
-/// For each entry, numbered from 1 on, the entry before it in its chain, and for each chain its last entry. 0 is none.
+/// Hash chains of entries that are numbered from 1 on; 0 is none.
+///
+/// The entries themselves stand in a vector of the caller. A chain has the entries with one hash slot, each linked to
+/// the one before it. `heads` has a power of two of slots, or none before the first `restart`.
 #[derive(Drop)]
 pub(crate) struct Chains {
+    /// Of each entry the entry before it in its chain, or 0.
     links: Vec<usize>,
+    /// Of each chain its last entry, or 0.
     heads: Vec<usize>,
 }
 
@@ -27,7 +32,7 @@ impl Chains {
         }
     }
 
-    /// Returns the last entry in the chain of what hashes to that.
+    /// Returns the last entry in the chain of a hash.
     pub(crate) fn last(&self, hash: usize) -> usize {
         self.heads.get(self.slot(hash)).copied().unwrap_or(0)
     }
@@ -41,7 +46,7 @@ impl Chains {
         }
     }
 
-    /// Adds the next entry, which hashes to that. `Memory` if an allocation fails.
+    /// Adds the next entry, which has that hash. `Memory` if an allocation fails.
     pub(crate) fn add(&mut self, hash: usize) -> Result<(), Memory> {
         let slot = self.slot(hash);
         let last = self.heads.get(slot).copied().unwrap_or(0);

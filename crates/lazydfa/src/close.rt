@@ -1,4 +1,4 @@
-//! Where one continuation goes on without a letter.
+//! Where one continuation goes on without a symbol.
 ghost use Rattle.std.specs.Prelude.{◌≡◌, ◌↔◌, ◌||◌, ◌<◌, ◌≤◌, ◌∷◌, ◌+◌, ℕ, true, List, [], IsTrue, IfOk, IfSome};
 ghost use Rattle.std.specs.Prelude.{length, slice_get, Some, Contains};
 ghost use Rattle.flatgrammar.specs.Flat.{Place};
@@ -10,11 +10,17 @@ use crate::conts::{Cont, Conts, id_of};
 use flatgrammar::{Item, Tables, begin_steps, deed_of};
 use ruletable::Memory;
 
-/// Ids, in order, where each of them stands, and over how many of them one may go. These places are not relied on.
+/// A set of ids of continuations, which is also the worklist of a closure.
+///
+/// It is a sparse set: `spots[id]` may say anything unless `items` has `id` at that index. So emptying it clears
+/// `items` alone. No contract relies on `spots`.
 #[derive(Drop)]
 pub(crate) struct Ids {
+    /// The members, in the order in which they were added.
     pub(crate) items: Vec<usize>,
+    /// Of each id where it may stand in `items`.
     pub(crate) spots: Vec<usize>,
+    /// The most members that a closure may visit.
     pub(crate) most: usize,
 }
 
@@ -89,7 +95,7 @@ pub(crate) fn enter(
     Ok(())
 }
 
-/// Returns whether nothing is left to do at a place.
+/// Returns whether nothing is left to do at a dotted rule.
 fn is_last(tables: &Tables, node: usize, step: usize) -> bool
     ensures { result ≡ last_of tables.now (Place.at node step) }
 {
@@ -131,7 +137,7 @@ fn after(
     )
 }
 
-/// Adds the continuations where what a place calls begins, before what is left to do after it.
+/// Adds the continuations where what a dotted rule calls begins, before what is left to do after it.
 fn call_on(tables: &Tables, cont: Cont, conts: &mut Conts, ids: &mut Ids) -> Result<(), Memory>
     requires within { cont.next ≤ length conts.old.items.items }
     requires older { AreOlder conts.old.items.items }
@@ -166,7 +172,8 @@ pub(crate) fn cont_at(conts: &Conts, id: usize) -> Cont
     conts.items[id - 1]
 }
 
-/// Adds what a continuation goes on to without a letter, and returns whether it is a place alone whose node is done.
+/// Adds the continuations that follow one without a symbol, and returns whether that one completes the bottom of a
+/// stack. `Memory` if an allocation fails.
 fn expand(tables: &Tables, id: usize, conts: &mut Conts, ids: &mut Ids) -> Result<bool, Memory>
     requires within { id ≤ length conts.old.items.items }
     requires older { AreOlder conts.old.items.items }
@@ -204,8 +211,9 @@ fn either(a: bool, b: bool) -> bool
     a || b
 }
 
-/// Adds all that ids go on to without a letter, and returns whether one of them is a place alone whose node is done;
-/// `None` if that goes over more of them than there may be. `Memory` if an allocation fails.
+/// Closes a set of ids under calls and returns: adds all continuations that follow without a symbol. Returns whether
+/// one of them completes the bottom of a stack; `None` if the set has more ids than a closure may visit. `Memory` if an
+/// allocation fails.
 pub(crate) fn close(
     tables: &Tables,
     conts: &mut Conts,

@@ -7,11 +7,17 @@ ghost use Rattle.lazydfa.specs.Conts.{AreKept, AreOlder, IsIdOf, stack_of};
 use crate::chains::Chains;
 use ruletable::Memory;
 
-/// A place where one goes on, and the id of what comes after it. The id of the entry k is k + 1; 0 is that of nothing.
+/// A continuation: a dotted rule to go on with, on top of the return stack `next`.
+///
+/// Continuations are nodes of a graph-structured stack. Stacks with equal tails share them by id. The id of entry `k`
+/// is `k + 1`, and 0 is the id of the empty stack. An entry's `next` is lower than its own id.
 #[derive(Clone, Copy)]
 pub(crate) struct Cont {
+    /// The node of the dotted rule.
     pub(crate) node: usize,
+    /// The step at which the node goes on.
     pub(crate) step: usize,
+    /// The id of the continuation to return to, or 0.
     pub(crate) next: usize,
 }
 
@@ -21,7 +27,7 @@ fn same(a: Cont, b: Cont) -> bool
     a.node == b.node && a.step == b.step && a.next == b.next
 }
 
-/// Returns what a continuation hashes to.
+/// Returns the hash of a continuation.
 pub(crate) fn hash_of_cont(cont: Cont) -> usize {
     let mixed = cont.node.wrapping_mul(0x9E37_79B9).wrapping_add(cont.next);
     mixed.wrapping_mul(0x85EB_CA6B).wrapping_add(cont.step)
@@ -44,10 +50,12 @@ fn find(conts: &[Cont], chains: &Chains, cont: Cont) -> Option<usize>
     None
 }
 
-/// Holds continuations, by id, and the chains in which equal ones are found.
+/// The continuations by id, each once. They are hash-consed, so equal stacks have equal ids.
 #[derive(Drop)]
 pub(crate) struct Conts {
+    /// The continuation of id `k + 1` is entry `k`.
     pub(crate) items: Vec<Cont>,
+    /// Hash chains that find an equal continuation.
     pub(crate) chains: Chains,
 }
 

@@ -70,7 +70,8 @@ fn write(
     }
 }
 
-/// Returns what a letter leads to from a state; the states that it needs are added, and no cell is written.
+/// Computes the cell of a state and a class. It adds the states that the cell needs, but writes no cell. `Memory` if
+/// an allocation fails.
 fn lead(
     alloc: Global,
     tables: &Tables,

@@ -1,4 +1,4 @@
-//! A run over letters while no cell is filled and no part is pushed or put back.
+//! The inner loop of a run: it fills no cell, and pushes or puts back no part.
 ghost use Rattle.std.specs.Prelude.{◌≡◌, ◌≤◌, ◌<◌, ◌+◌, ◌^◌, IsTrue, length, map};
 ghost use Rattle.lazydfa.specs.Memos.{GlidesOver};
 ghost use Rattle.lazydfa.specs.Hops.{StaysBy, StaysOver};
@@ -8,13 +8,15 @@ use crate::memo::Memo;
 use letterclasses::class_of;
 use letters::Letter;
 
-/// In lines of so many letters it is tried whether a state stays over four of them.
+/// In lines of at least this many symbols, the loop tries whether a state stays over four symbols.
 const LONG: usize = 256;
 
-/// The row of a run's state, by its place, and how many letters led to that state.
+/// How far a run over a line has come.
 #[derive(Clone, Copy)]
 pub(crate) struct Track {
+    /// The index of the first word of the state's row in `hops`.
     pub(crate) row: usize,
+    /// How many symbols of the line led to that state.
     pub(crate) at: usize,
 }
 
@@ -78,7 +80,7 @@ fn stay_on<L: Letter>(
     at
 }
 
-/// Goes over letters of a line while what their classes lead to is known and no part is pushed or put back, and returns
+/// Runs over symbols of a line while their transitions are cached and no part is pushed or put back, and returns
 /// where that stops.
 pub(crate) fn glide<L: Letter>(
     memo: &Memo,

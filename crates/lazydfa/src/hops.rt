@@ -1,4 +1,4 @@
-//! Known cells that lead to states, so that a run goes over them fast.
+//! Cached transitions that lead to states, one word each, so that a run is fast.
 ghost use Rattle.std.specs.Prelude.{◌≡◌, ◌+◌, IsTrue, IfOk, IfSome, Some, slice_get};
 ghost use Rattle.lazydfa.specs.Hops.{AreHopsAdded, AreHopsNoted, IsHopPut, IsTaken, LeadsBack, last_word};
 

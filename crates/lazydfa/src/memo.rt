@@ -1,4 +1,4 @@
-//! What was found out of lines, with the parts of the line that is read.
+//! The states and transitions known so far, with the shared suffixes of the line that is read.
 ghost use Rattle.std.specs.Prelude.{◌≡◌, ◌≤◌, ◌<◌, ℕ, true, List, [], IfOk, IfSome, length, slice_get, Some};
 ghost use Rattle.lazydfa.specs.Cached.{IsCache, Grows};
 ghost use Rattle.lazydfa.specs.Memos.{IsKnown, IsMemo, IsUnfold};
@@ -12,22 +12,36 @@ use flatgrammar::Tables;
 use ruletable::Memory;
 use std::alloc::Global;
 
-/// A state that has ended, the part that stood below it, and the state of both.
+/// A resumed state: a state that ended is put back on a shared suffix.
 #[derive(Clone, Copy)]
 pub(crate) struct Unfold {
+    /// The number of the state that ended.
     pub(crate) state: usize,
+    /// The id of the shared suffix below it.
     pub(crate) part: usize,
+    /// The number of the state of both.
     pub(crate) to: usize,
 }
 
-/// Holds a cache, the words of its cells that lead to states (`hops.rt`), its unfolds, and of the line that is read the
-/// parts below its state, the topmost last.
+/// All that an automaton keeps between lines, and the stack of shared suffixes of the line that is read.
+///
+/// `cache` has the states and transitions. `hops` repeats its transitions that lead to a state, in one word each, so
+/// that a run reads a single vector (`hops.rt`).
+///
+/// A recursive rule would give a state for each depth. So a suffix that all stacks of a state share goes onto `parts`
+/// if it has a dotted rule twice, and deep states become equal. Once the state above a suffix has ended, the run pops
+/// the suffix, and looks up the resumed state in `unfolds`.
 #[derive(Drop)]
 pub(crate) struct Memo {
+    /// The states and transitions.
     pub(crate) cache: Cache,
+    /// The cached transitions: a row for each state, with a word for each class and one for the end.
     pub(crate) hops: Vec<u32>,
+    /// The resumed states known so far.
     pub(crate) unfolds: Vec<Unfold>,
+    /// Hash chains that find a resumed state.
     pub(crate) chains: Chains,
+    /// The ids of the shared suffixes below the state of this line, the topmost last.
     pub(crate) parts: Vec<usize>,
 }
 

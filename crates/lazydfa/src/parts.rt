@@ -1,4 +1,5 @@
-//! Parts of stacks: what all tops of a state stand on is split off, and put back where one of them has ended.
+//! Shared suffixes of stacks: the suffix of all stacks of a state is split off, and put back when one of them has
+//! ended.
 ghost use Rattle.std.specs.Prelude.{◌≡◌, ◌≤◌, ◌<◌, ℕ, false, List, [], IsTrue, IfOk, IfSome, length, Contains};
 ghost use Rattle.lazydfa.specs.Conts.{AreKept, AreOlder, TopReads, stack_of};
 ghost use Rattle.lazydfa.specs.StackParts.{IsSplitOff, PutsBack};
@@ -11,13 +12,15 @@ use flatgrammar::Tables;
 use ruletable::Memory;
 use std::alloc::Global;
 
-/// How many places of a part are looked at for one that stands there twice.
+/// How many dotted rules of a part are looked at for one that stands there twice.
 const DEPTH: usize = 64;
 
-/// Tops, and the id of the part that they stood on.
+/// Stacks whose shared suffix was split off.
 #[derive(Drop)]
 pub(crate) struct Split {
+    /// The ids of the stacks without the suffix.
     pub(crate) tops: Vec<usize>,
+    /// The id of the suffix.
     pub(crate) part: usize,
 }
 
@@ -115,7 +118,7 @@ fn may_split(conts: &Conts, front: &Front, part: usize) -> bool
     !front.ended && 0 < part && part <= conts.items.len()
 }
 
-/// Splits off what all tops stand on, if a place stands there twice and none of them has ended. `Memory` if an
+/// Splits off what all tops stand on, if a dotted rule stands there twice and none of them has ended. `Memory` if an
 /// allocation fails.
 pub(crate) fn split_off(
     alloc: Global,
@@ -149,8 +152,8 @@ pub(crate) fn split_off(
     Ok(Some(Split { tops, part }))
 }
 
-/// Returns tops put on a part, beside what the part goes on to without a letter; `None` if that goes over more ids
-/// than there may be. `Memory` if an allocation fails.
+/// Returns tops put on a part, beside the continuations that follow from the part without a symbol; `None` if that goes
+/// over more ids than there may be. `Memory` if an allocation fails.
 pub(crate) fn put_back(
     alloc: Global,
     tables: &Tables,

@@ -24,7 +24,7 @@ use letters::Letter;
 use ruletable::Memory;
 use std::alloc::Global;
 
-/// Returns what the whole begins with; `None` if that goes over more ids than there may be. `Memory` if an allocation
+/// Returns the closure of the augmented start; `None` if that visits more ids than it may. `Memory` if an allocation
 /// fails.
 fn first_front(
     alloc: Global,
@@ -49,7 +49,7 @@ fn first_front(
     Ok(Some(Front { tops, ended }))
 }
 
-/// Returns the number of the start, which is made if there is no state.
+/// Returns the number of the start state, and makes it on first use; `None` if the budget does not allow it.
 fn begin(
     alloc: Global,
     tables: &Tables,
@@ -132,7 +132,7 @@ fn settle(
     Ok(Some(now))
 }
 
-/// What a letter leads to: a state, nothing, or more than there may be.
+/// A step of a run. `To`: the next state. `Dead`: the symbol cannot follow. `Over`: a bound is exceeded.
 #[derive(Clone, Copy)]
 pub(crate) enum Step {
     To(usize),
@@ -140,7 +140,7 @@ pub(crate) enum Step {
     Over,
 }
 
-/// Returns what a letter of a class leads to from a state over the parts. `Memory` if an allocation fails.
+/// Takes a transition from a state by a class, and pushes or pops shared suffixes. `Memory` if an allocation fails.
 #[inline(always)]
 fn take_step(
     alloc: Global,
@@ -174,7 +174,7 @@ fn take_step(
     }
 }
 
-/// Makes a memo ready for a line of so many letters.
+/// Prepares a memo for a line of `letters` symbols.
 fn prepare(memo: &mut Memo, letters: usize)
     ensures conts { memo.new.cache.conts.items ≡ memo.old.cache.conts.items }
     ensures states { memo.new.cache.states ≡ memo.old.cache.states }
@@ -209,8 +209,8 @@ fn ends_at(memo: &Memo, samples: &[u32], row: usize) -> bool
     }
 }
 
-/// Goes over a line, and returns whether the whole may end after it, or else how many of its letters lead to something;
-/// `None` if that takes more than there may be. `Memory` if an allocation fails.
+/// Runs over a line. Returns `Yes` if the augmented start may end after it, or else the length of its longest viable
+/// prefix in symbols; `None` if that exceeds a bound. `Memory` if an allocation fails.
 fn follow<L: Letter>(
     alloc: Global,
     tables: &Tables,
@@ -259,7 +259,7 @@ fn follow<L: Letter>(
     Ok(Some(verdict_at_end(ends_at(memo, samples, track.row), line.len())))
 }
 
-/// Returns what `follow` returns. It forgets all if an allocation fails.
+/// Runs over a line as `follow` does. If an allocation fails, it empties the memo and returns `Memory`.
 pub(crate) fn run<L: Letter>(
     alloc: Global,
     tables: &Tables,

@@ -1,4 +1,4 @@
-//! Continuations that are taken off what is below them, and put on something else.
+//! Continuations that are moved from one suffix to another.
 ghost use Rattle.std.specs.Prelude.{◌≡◌, ◌≤◌, ◌++◌, ◌∷◌, ℕ, true, List, [], IfOk, length, Contains};
 ghost use Rattle.lazydfa.specs.Conts.{AreKept, AreOlder, IsIdOf, stack_of};
 ghost use Rattle.lazydfa.specs.Spines.{AreMoved, IsMoveOn, MovesOn, places_of};
@@ -7,15 +7,17 @@ use crate::close::cont_at;
 use crate::conts::{Cont, Conts, id_of};
 use ruletable::Memory;
 
-/// What continuations are taken off, and what they are put on, both by id.
+/// A change of the suffix below continuations.
 #[derive(Clone, Copy)]
 pub(crate) struct Move {
+    /// The id of the suffix that they stand on.
     pub(crate) off: usize,
+    /// The id of the suffix to put them on.
     pub(crate) on: usize,
 }
 
-/// Takes the places of a continuation down to one below it, from the top on; returns whether it stands on that one.
-/// `Memory` if an allocation fails.
+/// Takes the dotted rules of a continuation down to one below it, from the top on; returns whether it stands on that
+/// one. `Memory` if an allocation fails.
 fn take_spine(conts: &Conts, top: usize, off: usize, spine: &mut Vec<Cont>) -> Result<bool, Memory>
     requires within { top ≤ length conts.now.items.items }
     requires older { AreOlder conts.now.items.items }
@@ -38,7 +40,7 @@ fn take_spine(conts: &Conts, top: usize, off: usize, spine: &mut Vec<Cont>) -> R
     Ok(id == off)
 }
 
-/// Puts places on what is below, and returns the id of what comes of that. `Memory` if an allocation fails.
+/// Puts dotted rules on a suffix, and returns the id of the new continuation. `Memory` if an allocation fails.
 fn put_spine(conts: &mut Conts, spine: &mut Vec<Cont>, on: usize) -> Result<usize, Memory>
     requires within { on ≤ length conts.old.items.items }
     requires older { AreOlder conts.old.items.items }
@@ -60,7 +62,7 @@ fn put_spine(conts: &mut Conts, spine: &mut Vec<Cont>, on: usize) -> Result<usiz
     Ok(id)
 }
 
-/// Moves a continuation, and adds the id of what comes of it; returns whether it stands on what it is to be taken off.
+/// Moves a continuation to another suffix, and adds its new id; returns whether it stands on the suffix `off`.
 /// `Memory` if an allocation fails.
 fn move_one(
     conts: &mut Conts,
@@ -84,8 +86,8 @@ fn move_one(
     Ok(true)
 }
 
-/// Moves continuations, and adds the ids of what comes of them; returns whether all stand on what they are to be taken
-/// off. `Memory` if an allocation fails.
+/// Moves continuations to another suffix, and adds their new ids; returns whether all stand on the suffix `off`.
+/// `Memory` if an allocation fails.
 pub(crate) fn move_all(
     conts: &mut Conts,
     tops: &[usize],

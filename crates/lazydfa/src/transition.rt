@@ -10,14 +10,16 @@ use flatgrammar::{Item, Tables, deed_of, reads};
 use ruletable::Memory;
 use std::alloc::Global;
 
-/// The ids on whose top something is read, and whether the whole may end.
+/// A closure: the stacks that a transition leads to, closed under calls and returns.
 #[derive(Drop)]
 pub(crate) struct Front {
+    /// The ids of the stacks whose top reads a symbol.
     pub(crate) tops: Vec<usize>,
+    /// Whether the augmented start may end.
     pub(crate) ended: bool,
 }
 
-/// Adds what a continuation comes to by a letter.
+/// Adds the continuation after one, if that reads the symbol.
 fn read_on(
     tables: &Tables,
     id: usize,
@@ -58,7 +60,7 @@ fn read_on(
     Ok(())
 }
 
-/// Adds what continuations come to by a letter.
+/// Adds the continuations after those that read a symbol.
 fn read_all(
     tables: &Tables,
     tops: &[usize],
@@ -128,7 +130,7 @@ pub(crate) fn readers(
     Ok(tops)
 }
 
-/// Returns what tops come to by a letter; `None` if that goes over more ids than there may be. `Memory` if an
+/// Returns the closure after stacks read a symbol; `None` if that visits more ids than it may. `Memory` if an
 /// allocation fails.
 pub(crate) fn transition(
     alloc: Global,

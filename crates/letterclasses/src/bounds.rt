@@ -1,14 +1,16 @@
-//! Numbers where classes of letters begin.
+//! Numbers where classes of symbols begin.
 ghost use Rattle.std.specs.Prelude.{IsTrue, IfOk, Contains};
 ghost use Rattle.letterclasses.specs.ClassBounds.{IsBoundAdded};
 
 use ruletable::Memory;
 use std::alloc::Global;
 
-/// Numbers, and of those below 256 where each of them stands. These places are not relied on.
+/// The numbers at which classes begin. One below 256 is added once; a greater one may repeat until they are sorted.
 #[derive(Drop)]
 pub(crate) struct Bounds {
+    /// The numbers, in the order in which they were added.
     pub(crate) numbers: Vec<u32>,
+    /// Of each number below 256 the index where it may stand in `numbers`. No contract relies on it.
     spots: [usize; 256],
 }
 

@@ -1,4 +1,4 @@
-//! Classes of letters that each set of a grammar takes or rejects together.
+//! Classes of symbols that each set of a grammar takes or rejects together.
 ghost use Rattle.std.specs.Prelude.{IfOk, map};
 ghost use Rattle.std.specs.List.Sorted.{IsNonDecreasing};
 ghost use Rattle.flatgrammar.specs.Flat.{Flat, EitherCase};
@@ -13,10 +13,13 @@ use flatgrammar::{Node, Set, Tables};
 use ruletable::Memory;
 use std::alloc::Global;
 
-/// Of each number below 256 its class, and of each class its first number, in ascending order.
+/// Classes of symbols that each set of a grammar takes or rejects together. A class is a range of numbers: it ends
+/// before the first number of the next class.
 #[derive(Drop)]
 pub struct Classes {
+    /// Of each number below 256 its class, so that bytes need no search.
     pub low: Vec<usize>,
+    /// Of each class its first number, in ascending order.
     pub samples: Vec<u32>,
 }
 
@@ -142,7 +145,7 @@ pub fn class_of(low: &[usize], samples: &[u32], value: u32) -> usize
     }
 }
 
-/// Returns classes of letters that each set of a grammar takes or rejects together. `Memory` if an allocation fails.
+/// Returns classes of symbols that each set of a grammar takes or rejects together. `Memory` if an allocation fails.
 pub fn find_classes(alloc: Global, tables: &Tables) -> Result<Classes, Memory>
     ensures { IfOk result (λ classes. AreClasses (flat_of tables.now) classes.low.items classes.samples.items) }
 {

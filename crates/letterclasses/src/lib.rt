@@ -1,4 +1,4 @@
-//! Classes of letters that each set of a flat grammar takes or rejects together. An automaton has one transition for a
+//! Classes of symbols that each set of a flat grammar takes or rejects together. An automaton has one transition for a
 //! whole class.
 #![tactic(auto)]
 

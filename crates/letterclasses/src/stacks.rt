@@ -1,4 +1,4 @@
-//! Laws of stacks of places.
+//! Laws of stacks of dotted rules.
 
 mod laws;
 

@@ -1,8 +1,8 @@
-//! What a line is made of.
+//! Alphabets of lines.
 ghost use Rattle.std.specs.Prelude.{◌≡◌, ◌↔◌, IsTrue};
 ghost use Rattle.letters.specs.Letters.{has, HasLetter};
 
-/// What a line is made of.
+/// The alphabet of a line.
 #[derive(Clone, Copy, Debug, PartialEq, Eq)]
 pub enum Alphabet {
     /// Bytes.
@@ -12,7 +12,7 @@ pub enum Alphabet {
 }
 
 impl Alphabet {
-    /// Returns whether a value is that of a letter: 0 to 255 for bytes, for code points 0 to 1,114,111 outside 55,296
+    /// Returns whether a value is that of a symbol: 0 to 255 for bytes, for code points 0 to 1,114,111 outside 55,296
     /// to 57,343.
     pub fn has(self, value: u32) -> bool
         ensures { result ≡ has self value }
@@ -23,7 +23,7 @@ impl Alphabet {
         }
     }
 
-    /// Returns whether one of the values from `low` to `high` is that of a letter.
+    /// Returns whether one of the values from `low` to `high` is that of a symbol.
     pub fn has_between(self, low: u32, high: u32) -> bool
         ensures { IsTrue result ↔ HasLetter (has self) low high }
     {

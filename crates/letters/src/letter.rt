@@ -1,4 +1,4 @@
-//! Letters of a line.
+//! Symbols of a line.
 ghost use Rattle.std.specs.Prelude.{◌≡◌, ◌≤◌, ℕ, true};
 ghost use Rattle.letters.specs.declared.alphabet.Alphabet.{Alphabet};
 ghost use Rattle.letters.specs.declared.alphabet.Alphabet.TheVariants.{Bytes};
@@ -6,7 +6,7 @@ ghost use Rattle.letters.specs.Letters.{has};
 
 use crate::alphabet::Alphabet;
 
-/// A letter of a line, seen as a number, its value. Two letters are equal exactly if their values are.
+/// A symbol of a line, seen as a number, its value. Two symbols are equal exactly if their values are.
 pub trait Letter: Copy {
     ghost number: { Self → ℕ };
 
@@ -14,13 +14,13 @@ pub trait Letter: Copy {
 
     ghost ALPHABET: { Alphabet };
 
-    /// The greatest value of a letter.
+    /// The greatest value of a symbol.
     const GREATEST: u32;
 
-    /// The alphabet that the letters are of.
+    /// The alphabet that the symbols are of.
     const ALPHABET: Alphabet;
 
-    /// Returns the letter's value, at most `GREATEST`. `ALPHABET` has it.
+    /// Returns the symbol's value, at most `GREATEST`. `ALPHABET` has it.
     fn value(self) -> u32
         ensures number { result ≡ number self }
         ensures greatest { result ≤ GREATEST }

@@ -1,4 +1,4 @@
-//! The letters of lines: bytes, or the code points of UTF-8.
+//! The symbols of lines: bytes, or the code points of UTF-8.
 #![tactic(auto)]
 
 mod alphabet;

@@ -8,9 +8,11 @@ ghost use Rattle.letters.specs.Utf8Text.{number};
 use crate::alphabet::Alphabet;
 use crate::letter::Letter;
 
-/// A code point outside the surrogates: a number from 0 to 1,114,111 that is not one from 55,296 to 57,343.
+/// A code point outside the surrogates: a number from 0 to 1,114,111 that is not one from 55,296 to 57,343. Contracts
+/// see the number.
 #[derive(Clone, Copy)]
 pub struct CodePoint {
+    /// The code point. A `char` has just these numbers.
     point: char,
 }
 

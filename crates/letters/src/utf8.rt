@@ -39,7 +39,7 @@ pub fn decode(line: &[u8], points: &mut Vec<CodePoint>) -> Result<bool, Memory>
     }
 }
 
-/// Returns the length, in bytes, of the longest beginning of a line that is UTF-8. It takes no memory.
+/// Returns the length, in bytes, of the longest prefix of a line that is UTF-8. It takes no memory.
 pub fn utf8_len(line: &[u8]) -> usize
     ensures { IsLongestText line.now result }
 {

@@ -2,7 +2,7 @@
 ghost use Rattle.std.specs.Prelude.{◌≡◌, ℕ, List, [], ◌∷◌, ◌++◌, MatchOption};
 ghost use Rattle.lexer.specs.SliceEnds.{Lacks};
 
-/// Returns what follows the byte `b`, if that begins the text.
+/// Returns the bytes after the byte `b`, if that begins the text.
 pub fn after_byte(text: &[u8], b: u8) -> Option<&[u8]>
     ensures { MatchOption result (Lacks b text.now) (λ rest. text.now ≡ b ∷ rest.now) }
 {
@@ -10,7 +10,7 @@ pub fn after_byte(text: &[u8], b: u8) -> Option<&[u8]>
     if *first == b { Some(tail) } else { None }
 }
 
-/// Returns what stands between the first and the last byte of a slice.
+/// Returns the bytes between the first and the last byte of a slice.
 pub fn inside(slice: &[u8]) -> &[u8]
     ensures { (first last : ℕ) (text : List ℕ) → slice.now ≡ first ∷ (text ++ last ∷ []) → result.now ≡ text }
 {

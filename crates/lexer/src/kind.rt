@@ -1,4 +1,4 @@
-//! What a text is cut into.
+//! Kinds of tokens.
 ghost use Rattle.std.specs.Prelude.{◌≡◌, ℕ, ◌<◌, ◌⊎◌, Bool, true, false, List, [], length};
 ghost use Rattle.lexer.specs.SliceEnds.{IsEnd, Longest, NoToken, StandsAlone};
 

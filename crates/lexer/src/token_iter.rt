@@ -8,18 +8,25 @@ use std::marker::PhantomData;
 /// A token, with its slice of the text.
 #[derive(Clone, Copy)]
 pub struct Token<'a, K> {
+    /// The kind of the token.
     pub kind: K,
+    /// The bytes of the token.
     pub slice: &'a [u8],
-    /// Where the slice lies in the text.
+    /// The span of these bytes in the text.
     pub span: Span,
 }
 
-/// The tokens of a text, the last one the end.
+/// An iterator over the tokens of a text. The last one is the end. It takes a token when it is asked for one, so a text
+/// needs no list of tokens.
 #[derive(Drop)]
 pub struct TokenIter<'a, K> {
+    /// The bytes after the last token.
     rest: &'a [u8],
+    /// Where these begin, in bytes from the front of the text.
     start: usize,
+    /// Whether the end was given.
     ended: bool,
+    /// The kinds of tokens, by type.
     kinds: PhantomData<K>,
     ghost fits: { start + length rest.now < 2 ^ 64 },
 }

@@ -27,13 +27,13 @@ pub enum Answer {
     NoAfter(usize),
 }
 
-/// What answers lines. W is the memory that it works in.
+/// A judge of lines. `W` is the memory that it works in.
 pub trait Judge<W> {
     /// Which answer is that of a line.
     ghost told: { Self → List ℕ → Answer → Type 0 };
     /// Whether rejected lines are explained.
     ghost explains: { Self → Bool };
-    /// What explains a rejected line that has a number.
+    /// Which lines explain a rejected line that has a number.
     ghost refusal: { Self → List ℕ → ℕ → List ℕ → Type 0 };
     /// How many bytes a line may have that is answered.
     ghost served: { Self → ℕ };
@@ -59,7 +59,7 @@ pub trait Judge<W> {
         ensures work { works_in self.now work.new }
         ensures told { IfOk result (λ why. refusal self.now line.now number why.items) };
 
-    /// A law: each line has an answer. It does nothing.
+    /// States that each line has an answer. It does nothing.
     fn decided(&self)
         ensures { (line : List ℕ) → (said : Answer) × told self.now line said };
 }
@@ -125,11 +125,14 @@ fn tell_line<W, J: Judge<W>>(
     Ok(())
 }
 
-/// A line of an input, its position, and the form of the lines.
+/// A line of an input.
 #[derive(Clone, Copy)]
 struct FoundLine<'a> {
+    /// Its bytes, without its end.
     bytes: &'a [u8],
+    /// The position before it.
     at: At,
+    /// The form of the input's lines.
     form: LineForm,
 }
 

@@ -14,9 +14,8 @@ use memchr::memchr;
 const MAX_ANSWER: usize = 45;
 
 /// Judges the whole lines at the front of some bytes in turn, from a position on, and returns the position after them.
-/// What is printed for them is put into `text`, in place of what that holds. It stops before a line that is too long or
-/// has no end there, where an allocation fails, and where the text has some `BATCH` bytes. No line is judged if
-/// rejected lines are explained.
+/// `text` is replaced by what is printed for them. It stops before a line that is too long or has no end there, where
+/// an allocation fails, and where the text has some `BATCH` bytes. No line is judged if rejected lines are explained.
 pub(crate) fn judge_front<W, J: Judge<W>>(
     judge: &J,
     work: &mut W,

@@ -15,12 +15,13 @@ pub struct LineForm {
     pub limit: usize,
     /// The byte that ends a line.
     pub end: u8,
+    /// The output for each line.
     pub printed: Printed,
     /// Whether the number of a line and a colon stand before what is printed for it.
     pub numbered: bool,
 }
 
-/// What stands at the front of the rest of an input.
+/// The line at the front of the rest of an input, or why there is none.
 #[derive(Clone, Copy)]
 pub enum Line {
     /// A line of so many bytes, and its end.
@@ -35,7 +36,7 @@ pub enum Line {
     Broken,
 }
 
-/// Returns what stands at the front where so many bytes and no line's end are held.
+/// Returns the line at the front, of `len` bytes that are held without a line's end.
 fn without_end(held: Held, len: usize) -> Line
     ensures { result ≡ line_without held len }
 {
@@ -46,8 +47,8 @@ fn without_end(held: Held, len: usize) -> Line
     }
 }
 
-/// Returns what stands at the front, where the lines have that form. Nothing is read if the end of a line is held; else
-/// it reads until the window is full, the input ends or a read fails. The window has room for one byte more than a line
+/// Finds the line at the front, where the lines have that form. It reads nothing if the end of a line is held. Else it
+/// reads until the window is full, the input ends or a read fails. The window has room for one byte more than a line
 /// may have; a line that is returned has fewer bytes than there is room for.
 pub fn next_line<R: Source>(feed: &mut Feed<'_, R>, form: LineForm) -> Line
     requires { IsTrueOfReader R.remaining R.failed R.ended feed.old }

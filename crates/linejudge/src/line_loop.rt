@@ -26,7 +26,7 @@ use ruletable::{Memory, Sink, WriteFault, write_whole};
 use std::alloc::Global;
 use toolrun::{Ending, Stop, ToldRefusals};
 
-/// What follows at a place: a line that takes so many bytes was answered, or a stop.
+/// The next step of a run: the answer to a line that takes so many bytes, or a stop.
 #[derive(Clone, Copy)]
 pub enum Step {
     Answers { said: Answer, len: usize },
@@ -141,7 +141,7 @@ fn told_ending(reached: Reached, stop: Stop) -> Ending
     }
 }
 
-/// Returns how a run ends that stopped so, explained if that is asked.
+/// Wraps the stop of a run as its ending. If `asked`, it adds the explanations of rejected lines and of the stop.
 fn ending_at(asked: bool, reached: Reached, stop: Stop) -> Ending
     ensures plain { asked ≡ false → result ≡ Ending.Plain stop }
     ensures told { asked ≡ true → IsToldEnding (reached.told.items
@@ -214,11 +214,12 @@ fn answer_lines<W, J: Judge<W>, R: Source, O: Sink>(
     }
 }
 
-/// Judges the lines of what a reader gives, and writes what is printed for them: the answer to each, `yes`, `no`, or
-/// `no` and a number; the lines that are derived or rejected, each with its end; how many there are of both, at the end
-/// of the input; or nothing. The reader may neither have failed nor have given its end before, and the judge must serve
-/// lines of `form.limit` bytes and be able to work in that memory.
+/// Judges the lines that a reader gives, and writes the output that `form.printed` asks for. The reader may neither
+/// have failed nor have given its end before. The judge must serve lines of `form.limit` bytes, and be able to work in
+/// that memory.
 ///
+/// - An answer is `yes`, `no`, or `no` and a number. Lines that are printed keep their ends. Counts of lines are
+///   printed at the end of the input.
 /// - If lines are numbered, a line's number from 1 and a colon stand before its answer, or before the line.
 /// - A line ends before a byte `form.end`, and a last piece without one is a line if it is not empty. All other bytes
 ///   belong to their line, a CR too.
@@ -228,9 +229,9 @@ fn answer_lines<W, J: Judge<W>, R: Source, O: Sink>(
 /// - After the last line the run ends with `Done` if all answers are yes, else with `NoMatch`.
 /// - If the judge explains rejected lines, the ending has the explanations of the first `MAX_TOLD` of them, and how
 ///   many more there are. For a line that is too long it has the greatest length that `-l` allows.
-/// - `NoMemory` if an allocation fails; what is printed for the lines before stands whole, and so do the explanations
-///   of those lines.
-///   `WriteFault` if the output fails; then a prefix is written.
+/// - `NoMemory` if an allocation fails. The output for the lines before stands whole, and so do the explanations of
+///   those lines.
+/// - `WriteFault` if the output fails; then a prefix is written.
 pub fn run_lines<W, J: Judge<W>, R: Source, O: Sink>(
     alloc: Global,
     judge: &J,

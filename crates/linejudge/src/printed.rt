@@ -1,4 +1,4 @@
-//! What is printed for the lines of an input, and at its end.
+//! The output for the lines of an input, and at its end.
 ghost use Rattle.std.specs.Prelude.{◌≡◌, ◌++◌, ◌∷◌, [], OnOk, codes, decimal, false};
 ghost use Rattle.ruletable.specs.Writing.{Flags, Writes};
 ghost use Rattle.linejudge.specs.InputLines.{answer_text, count_text, is_line_printed, printed_last};
@@ -10,7 +10,7 @@ use crate::reached::At;
 use itoa::Buffer;
 use ruletable::{Memory, Sink, WriteFault, write_pieces};
 
-/// What is printed for the lines of an input.
+/// The output for the lines of an input.
 #[derive(Clone, Copy)]
 pub enum Printed {
     /// The answer to each line.

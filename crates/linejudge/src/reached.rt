@@ -13,7 +13,7 @@ pub const MAX_TOLD: usize = 16;
 /// How many bytes the text of a batch has, or little more.
 pub(crate) const BATCH: usize = 8192;
 
-/// A position after some lines, how many they are, and how many of them were rejected.
+/// A position between two lines of an input.
 #[derive(Clone, Copy)]
 pub struct At {
     /// How many bytes stand before it.
@@ -24,15 +24,19 @@ pub struct At {
     pub refused: usize,
 }
 
-/// A position after some lines, and the explanations of those that were rejected.
+/// The state of a run after some lines: its position, the explanations so far, and two buffers that serve line after
+/// line.
 #[derive(Drop)]
 pub struct Reached {
+    /// Allocates the explanations and the buffers.
     pub alloc: Global,
+    /// The position after the last line.
     pub at: At,
+    /// The explanations of the rejected lines, of at most the first `MAX_TOLD`.
     pub told: Vec<u8>,
     /// The copy of a line that lies in two pieces.
     pub line: Vec<u8>,
-    /// What is printed for a line, or for a batch of lines.
+    /// The output for a line, or for a batch of lines.
     pub text: Vec<u8>,
 }
 

@@ -1,11 +1,11 @@
-//! A law of letters.
+//! A law of symbols.
 ghost use Rattle.std.specs.Prelude.{map};
 ghost use Rattle.abnfcheck.specs.Derivable.{AreLetters};
 ghost use Rattle.letters.specs.Letters.{has};
 
 use letters::Letter;
 
-/// Returns nothing. Its contract is a law: the alphabet of a line's letters has each of their values.
+/// Returns nothing. Its contract is a law: the alphabet of a line's symbols has each of their values.
 pub fn values_are_letters<L: Letter>(line: &[L])
     ensures { AreLetters (has L.ALPHABET) (map L.number line.now) }
 {

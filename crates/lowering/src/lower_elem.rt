@@ -18,10 +18,12 @@ use flatgrammar::{Node, Set};
 use ruletable::{Memory, NameCase, RuleTable};
 use std::alloc::Global;
 
-/// Holds numbered nodes, and of each whether what it spells derives the empty list.
+/// The numbered nodes so far. A node is added after its operands.
 #[derive(Drop)]
 pub(crate) struct Numbered {
+    /// The nodes, by number.
     pub(crate) nodes: Vec<Node>,
+    /// Of each node whether it derives the empty line.
     pub(crate) nulls: Vec<bool>,
 }
 
@@ -101,18 +103,23 @@ fn range_set(alloc: Global, low: u32, high: u32) -> Result<Vec<Set>, Memory>
     Ok(sets)
 }
 
-/// The node of an element, and whether the element derives the empty list.
+/// The node of an element.
 #[derive(Clone, Copy)]
 pub(crate) struct Made {
+    /// The number of the node.
     pub(crate) number: usize,
+    /// Whether the element derives the empty line.
     pub(crate) empty: bool,
 }
 
-// The nodes of elements, whether all of these derive the empty list, and whether one does.
+/// The nodes of a list of elements.
 #[derive(Drop)]
 struct Members {
+    /// The numbers of the nodes, in order.
     numbers: Vec<usize>,
+    /// Whether all of the elements derive the empty line.
     all: bool,
+    /// Whether one of the elements derives the empty line.
     any: bool,
 }
 

@@ -25,7 +25,7 @@ fn alone(alloc: Global, n: usize) -> Result<Vec<usize>, Memory>
     Ok(numbers)
 }
 
-/// Lowers rules to numbered nodes, for lines of at most `limit` letters. There must be as many as the grammar has, and
+/// Lowers rules to numbered nodes, for lines of at most `limit` symbols. There must be as many as the grammar has, and
 /// the same must derive the empty list. The rule that the grammar judges is judged. `Memory` if an allocation fails.
 pub fn lower_rules(
     alloc: Global,

@@ -1,4 +1,4 @@
-//! The plain packrat machine: it evaluates each node at each place at most once, one frame or one cell a step, with
+//! The plain packrat machine: it evaluates each node at each position at most once, one frame or one cell a step, with
 //! frames of its own in place of recursion.
 
 mod advance;

@@ -23,15 +23,17 @@ pub(crate) enum Ending {
     Ended,
 }
 
-/// What was found: how an evaluation ended, and where, or 0 if it failed.
+/// An outcome in 32 bits.
 #[derive(Clone, Copy)]
 pub(crate) struct Outcome {
+    /// Whether the evaluation failed.
     pub(crate) ending: Ending,
+    /// The position where a success ends; 0 for a failure.
     pub(crate) end: u32,
 }
 
 impl Outcome {
-    /// Returns what was found, in 32 bits.
+    /// Packs an outcome into 32 bits.
     ///
     /// # Errors
     /// `Memory` if it does not fit.
@@ -52,10 +54,10 @@ impl Outcome {
     }
 }
 
-/// One entry of the log: a key, or keys of a node at places in a row.
+/// One entry of the log: a key, or keys of a node at positions in a row.
 #[derive(Clone, Copy)]
 pub(crate) enum Entry {
-    /// The tail of a node from a member on, at a place.
+    /// The tail of a node from a member on, at a position.
     Member {
         ending: Ending,
         node: u32,
@@ -64,7 +66,7 @@ pub(crate) enum Entry {
         end: u32,
         events: u32,
     },
-    /// A node at the places from `from` to `to`, all with one outcome.
+    /// A node at the positions from `from` to `to`, all with one outcome.
     Run {
         ending: Ending,
         node: u32,
@@ -73,7 +75,7 @@ pub(crate) enum Entry {
         end: u32,
         events: u32,
     },
-    /// A node at the places from `from` on, short of `to`, at each of which it takes one byte.
+    /// A node at the positions from `from` on, short of `to`, at each of which it takes one byte.
     Steps {
         node: u32,
         from: u32,
@@ -84,12 +86,16 @@ pub(crate) enum Entry {
 // An entry is to stay small: a long match is slowed by the memory that it writes.
 const _: () = prove!(size_of::<Entry>() <= 24);
 
-/// The keys of an entry: their row, their highest place, how many they are, and the number of the first one.
+/// The keys of an entry. Their numbers are consecutive.
 #[derive(Clone, Copy)]
 pub(crate) struct Extent {
+    /// The node whose row they are in.
     pub(crate) row: usize,
+    /// The greatest position of a key.
     pub(crate) highest: u32,
+    /// The number of keys.
     pub(crate) count: usize,
+    /// The number of the first key.
     pub(crate) first: usize,
 }
 
@@ -119,7 +125,7 @@ impl Entry {
         }
     }
 
-    /// Returns an entry of a node at the places from `from` to `to`.
+    /// Returns an entry of a node at the positions from `from` to `to`.
     ///
     /// # Errors
     /// `Memory` if a number does not fit into 32 bits.
@@ -139,7 +145,7 @@ impl Entry {
         })
     }
 
-    /// Returns an entry of a node that takes one byte at each place from `from` on, short of `to`.
+    /// Returns an entry of a node that takes one byte at each position from `from` on, short of `to`.
     ///
     /// # Errors
     /// `Memory` if a number does not fit into 32 bits.
@@ -197,7 +203,7 @@ impl Entry {
         }
     }
 
-    /// Returns what it says of a key, if it has it.
+    /// Returns the stored outcome of a key, if the entry has the key.
     #[inline(always)]
     pub(crate) fn given_for(self, spot: Spot) -> Option<Given>
         ensures some { IfSome result (λ g. IsIn (record { spot = spot; given = g }) (pairs_of self)) }
@@ -316,7 +322,8 @@ fn given(ending: Ending, end: u32, events: u32) -> Given
     }
 }
 
-/// Returns what an entry of the log says of a key, if it has it.
+/// Returns the stored outcome of the key `spot` from entry `at`, counted from 0. `None` if there is no such entry, or
+/// the entry lacks the key.
 pub(crate) fn given_in(entries: &[Entry], at: u32, spot: Spot) -> Option<Given>
     ensures some { IfSome result (λ g. (e : Entry) × (slice_get entries.now at ≡ Some e)
         × IsIn (record { spot = spot; given = g }) (pairs_of e)) }

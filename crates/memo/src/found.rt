@@ -1,6 +1,6 @@
-//! What a node gave at a place.
+//! Outcomes of nodes.
 
-/// What a node gave at a place.
+/// The outcome of a node at a position (Ford 2004, section 3.3).
 #[derive(Clone, Copy, PartialEq, Eq)]
 pub enum Found {
     /// It failed.

@@ -15,20 +15,26 @@ use ruletable::Memory;
 use std::alloc::Global;
 use std::marker::Model;
 
-/// A cell of the index: the number of a key, an entry that has the key, and one more than the index of the last cell
-/// before it in its bucket, or 0.
+/// A cell of the index.
 #[derive(Clone, Copy)]
 pub(crate) struct IndexCell {
+    /// The number of a key.
     pub(crate) number: usize,
+    /// An entry of the log that has the key.
     pub(crate) entry: u32,
+    /// One more than the index of the last cell before it in its bucket, or 0.
     pub(crate) link: u32,
 }
 
-/// An index of keys by their numbers, seen as the list of its places in the order in which they were put.
+/// A hash index of keys by their numbers. Contracts see the list of its cells, in the order in which they were added.
+///
+/// Cells of one bucket are linked, the last one first. A cell names an entry of the log, not an outcome: an entry has
+/// the keys of a whole run of positions.
 #[derive(Drop)]
 pub(crate) struct Index {
+    /// The cells, in order.
     cells: Vec<IndexCell>,
-    // of each bucket one more than the index of its last cell, or 0
+    /// Of each bucket one more than the index of its last cell, or 0.
     heads: Vec<u32>,
 }
 
@@ -167,7 +173,7 @@ fn add(
 }
 
 impl Index {
-    /// Returns an index without places; it takes no memory.
+    /// Returns an index without cells; it takes no memory.
     pub(crate) fn new(alloc: Global) -> Index
         ensures { result ≡ [] }
     {
@@ -185,10 +191,10 @@ impl Index {
         self.heads.clear();
     }
 
-    /// Adds a place: the number of a key, and the entry that has the key.
+    /// Adds a cell: the number of a key, and the entry that has the key.
     ///
     /// # Errors
-    /// `Memory` if an allocation fails; no place is added.
+    /// `Memory` if an allocation fails; no cell is added.
     pub(crate) fn push(&mut self, number: usize, entry: u32) -> Result<(), Memory>
         ensures added { OnOk result (self.new ≡ self.old ++ record { number = number; entry = entry } ∷ []) }
         ensures unchanged { OnErr result (self.new ≡ self.old) }
@@ -200,7 +206,7 @@ impl Index {
         add(&mut self.cells, &mut self.heads, number, entry)
     }
 
-    /// Returns what an entry says of the key of that number, if the index has the key.
+    /// Looks up the stored outcome of the key of that number, if the index has the key.
     pub(crate) fn find(&self, entries: &[Entry], number: usize, spot: Spot) -> Option<Given>
         ensures some { IfSome result (λ g. (i : ℕ) × (e : Entry) × (slice_get entries.now i ≡ Some e)
             × IsIn (record { spot = spot; given = g }) (pairs_of e)) }

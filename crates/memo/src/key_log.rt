@@ -16,46 +16,57 @@ use ruletable::Memory;
 use std::alloc::Global;
 use std::marker::Model;
 
-/// What was found for a key, and the head of its events in a log of events, or 0 if it has none.
+/// The stored outcome of a key.
 #[derive(Clone, Copy)]
 pub struct Given {
+    /// The outcome.
     pub found: Found,
+    /// The head of its events in a log of events, or 0 if it has none.
     pub events: usize,
 }
 
-/// A key that was evaluated, with what was found.
+/// A key that was evaluated, with its outcome.
 #[derive(Clone, Copy)]
 pub struct Stored {
+    /// The key.
     pub spot: Spot,
+    /// The outcome.
     pub given: Given,
 }
 
-/// The high-water mark of a row: the unit in which a key of the row was stored last, the highest place of the row's
-/// keys in that unit, and the entry that was stored last.
+/// The high-water mark of a row. It counts only in its own unit, so that no mark is reset.
 #[derive(Clone, Copy)]
 pub(crate) struct Mark {
+    /// The unit in which a key of the row was stored last.
     pub(crate) unit: u64,
+    /// The greatest position of the row's keys in that unit.
     pub(crate) highest: u32,
+    /// The entry of the row that was stored last.
     pub(crate) last: u32,
 }
 
-/// The keys that were evaluated in a unit, the last one first. Each row has a high-water mark: no key of the row at the
-/// mark or beyond was stored in the unit. So what is new is seen to be new without a search.
+/// The memo table of a unit, as a log: the keys that were evaluated, with their outcomes. Contracts see the keys, the
+/// last one first, and the number of rows. A row has the keys of one node.
 ///
-/// A mark has the number of its unit, and one of an earlier unit counts for nothing. So no mark is reset where a unit
-/// begins.
+/// Each row has a high-water mark: no key of the row at the mark or after it was stored in this unit. So most keys are
+/// seen to be new without a search. A mark has the number of its unit, and one of an earlier unit counts for nothing.
+/// So no mark is reset when a unit begins.
 ///
-/// An entry takes 24 bytes, and has all places of a run. A key below its row's mark is sought in the row's last entry;
-/// then in an index, into which the entries come only where a key is sought there.
+/// An entry takes 24 bytes, and has all positions of a run. A key below its row's mark is sought in the row's last
+/// entry, and then in the index. The index is filled only when a key is sought there.
 #[derive(Drop)]
 pub struct KeyLog {
+    /// The entries, in the order in which they were stored.
     entries: Vec<Entry>,
-    // so many keys are stored
+    /// How many keys the entries have.
     count: usize,
+    /// Of each row its high-water mark.
     high: Vec<Mark>,
+    /// The number of this unit. It wraps around after 2^64 units.
     unit: u64,
+    /// Finds a key in the first `covered` entries.
     index: Index,
-    // the index has the keys of so many entries
+    /// How many entries the index covers.
     covered: usize,
 }
 
@@ -169,7 +180,7 @@ impl KeyLog {
         Ok(())
     }
 
-    /// Returns the mark of a row: a place that no stored key of the row reaches.
+    /// Returns the mark of a row: a position that no stored key of the row reaches.
     #[inline(always)]
     pub fn mark(&self, row: usize) -> usize
         ensures { (s : Stored) → IsIn s self.now.stored → row_of s.spot ≡ row → place_of s.spot < result }
@@ -195,7 +206,7 @@ impl KeyLog {
         place >= self.mark(row)
     }
 
-    /// Returns what was found for a key, if it is stored.
+    /// Looks up the outcome of a key, if it is stored.
     ///
     /// # Errors
     /// `Memory` if an allocation fails.
@@ -257,8 +268,8 @@ impl KeyLog {
         self.store(entry)
     }
 
-    /// Stores what was found for the pairs of a node at the places from `from` to `to`. The node must be a row that the
-    /// log has.
+    /// Stores what was found for the pairs of a node at the positions from `from` to `to`. The node must be a row that
+    /// the log has.
     ///
     /// # Errors
     /// `Memory` if an allocation fails, or if a number does not fit into 32 bits; nothing is stored.
@@ -279,8 +290,8 @@ impl KeyLog {
         self.store(entry)
     }
 
-    /// Stores that a node takes one byte, with no events, at each place from `from` on, short of `to`. The node must be
-    /// a row that the log has.
+    /// Stores that a node takes one byte, with no events, at each position from `from` on, short of `to`. The node must
+    /// be a row that the log has.
     ///
     /// # Errors
     /// `Memory` if an allocation fails, or if a number does not fit into 32 bits; nothing is stored.

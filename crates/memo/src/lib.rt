@@ -1,4 +1,5 @@
-//! What an evaluation remembers: the log of its keys, and what a few stored keys imply. It knows nothing of grammars.
+//! The memo table of an evaluation: the log of its keys, and what a few stored keys imply. It knows nothing of
+//! grammars.
 #![tactic(auto)]
 
 mod entry;

@@ -1,19 +1,20 @@
-//! What an outcome is stored under.
+//! Tasks, under which outcomes are stored.
 ghost use Rattle.std.specs.Prelude.{◌≡◌, ◌+◌, ◌*◌, ◌<◌, ◌^◌, IfOk, OnErr};
 ghost use Rattle.memo.specs.KeyLog.{row_of, place_of, number_of, IsNarrow};
 
 use crate::narrow::narrow;
 use ruletable::Memory;
 
-/// What is evaluated: a node at a place; or, of a node with members, the tail from one of its members on, at a place.
+/// A task of an evaluation: a node at a position; or, of a node with members, the tail from one of its members on, at a
+/// position.
 #[derive(Clone, Copy)]
 pub enum Spot {
-    /// A node and a place.
+    /// A node and a position.
     Pair {
         node: usize,
         place: usize,
     },
-    /// A node, the index of a member, and a place.
+    /// A node, the index of a member, and a position.
     Tail {
         node: usize,
         index: usize,
@@ -43,7 +44,7 @@ impl Spot {
         }
     }
 
-    /// Returns its place.
+    /// Returns its position.
     #[inline(always)]
     pub fn place(self) -> usize
         ensures { result ≡ place_of self }
@@ -58,7 +59,7 @@ impl Spot {
         }
     }
 
-    /// Returns its number, which is that of the place before and one more.
+    /// Returns its number, which is that of the position before and one more.
     ///
     /// # Errors
     /// `Memory` if it does not fit into 32 bits.
@@ -75,7 +76,7 @@ impl Spot {
     }
 }
 
-/// Returns the number of a node at a place.
+/// Returns the number of a node at a position.
 #[inline(always)]
 pub(crate) fn pair_number(node: u32, place: u32) -> usize
     ensures same { result ≡ node * 668265263 + place }
@@ -84,7 +85,7 @@ pub(crate) fn pair_number(node: u32, place: u32) -> usize
     node as usize * BY_NODE + place as usize
 }
 
-/// Returns the number of a tail at a place.
+/// Returns the number of a tail at a position.
 #[inline(always)]
 pub(crate) fn tail_number(node: u32, index: u32, place: u32) -> usize
     ensures same { result ≡ node * 668265263 + (index + 1) * 374761393 + place }

@@ -6,12 +6,14 @@ use feed::{Broken, Source};
 /// A reader over bytes in memory, which never fails.
 #[derive(Drop)]
 pub struct Bytes<'a> {
+    /// The bytes still to come.
     rest: &'a [u8],
+    /// Whether it reported its end.
     ended: bool,
 }
 
 impl<'a> Bytes<'a> {
-    /// Returns a reader that gives these bytes, and has not told their end.
+    /// Returns a reader that gives these bytes, and has not reported their end.
     pub fn new(bytes: &'a [u8]) -> Bytes<'a>
         ensures remaining { ⟦<Bytes<'a> as Source>⟧.remaining result ≡ Some bytes.entry.now }
         ensures ended { ⟦<Bytes<'a> as Source>⟧.ended result ≡ false }

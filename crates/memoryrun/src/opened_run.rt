@@ -12,8 +12,8 @@ use ruletable::SinkOf;
 use std::alloc::Global;
 use toolrun::conclude_run;
 
-/// Returns what a run of an open grammar writes on an input in memory, behind what is told of the grammar.
-/// `Status::Fault` also if an allocation for one of the outputs fails: it then holds a beginning.
+/// Runs an open grammar on an input in memory, and returns both outputs, after the messages on the grammar.
+/// `Status::Fault` also if an allocation for one of the outputs fails; that output is then cut short.
 pub fn run_opened(
     alloc: Global,
     runner: &mut PegRunner,

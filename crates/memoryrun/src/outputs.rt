@@ -1,11 +1,14 @@
-//! What a run writes.
+//! Outputs of a run.
 
 use toolrun::Status;
 
-/// What a run wrote on both outputs, and its status.
+/// The result of a run in memory.
 #[derive(Drop)]
 pub struct Outputs {
+    /// All of the output.
     pub out: Vec<u8>,
+    /// All of the error output.
     pub err: Vec<u8>,
+    /// The exit status.
     pub status: Status,
 }

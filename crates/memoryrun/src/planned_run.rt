@@ -10,8 +10,8 @@ use ruletable::SinkOf;
 use std::alloc::Global;
 use toolrun::{Language, Plan, Settings, act_on, conclude_run};
 
-/// Returns what is written of a plan on an input in memory, behind what the plan tells first. `Status::Fault` also if
-/// an allocation for one of the outputs fails: it then holds a beginning.
+/// Performs a plan on an input in memory, and returns both outputs, after the plan's first messages. `Status::Fault`
+/// also if an allocation for one of the outputs fails; that output is then cut short.
 pub fn run_plan<L: Language>(
     alloc: Global,
     plan: &Plan<L::Grammar, L::Sound>,

@@ -11,8 +11,8 @@ use pegrun::{PegSettings, run_peg};
 use ruletable::SinkOf;
 use std::alloc::Global;
 
-/// Returns what `run_peg` writes of a grammar on an input in memory. `Status::Fault` also if an allocation
-/// for one of the outputs fails: it then holds a beginning.
+/// Runs a grammar of peg(1) on an input in memory, as `run_peg` does, and returns both outputs. `Status::Fault` also if
+/// an allocation for one of the outputs fails; that output is then cut short.
 pub fn peg_in_memory(
     alloc: Global,
     grammar: &[u8],
@@ -33,8 +33,8 @@ pub fn peg_in_memory(
     }
 }
 
-/// Returns what `run_abnf` writes of a grammar and the lines of an input in memory. `Status::Fault` also if an
-/// allocation for one of the outputs fails: it then holds a beginning.
+/// Judges the lines of an input in memory by a grammar in ABNF, as `run_abnf` does, and returns both outputs.
+/// `Status::Fault` also if an allocation for one of the outputs fails; that output is then cut short.
 pub fn abnf_in_memory(
     alloc: Global,
     grammar: &[u8],

@@ -20,8 +20,8 @@ ghost use Rattle.pegnodes.specs.KeyMarks.{AreMarks};
 ghost use Rattle.packrat.specs.MachineSteps.{Level, Asks, Works, store};
 ghost use Rattle.packrat.specs.SpotGives.{SpotGives};
 
-/// A pair that the byte at its place decides gives just that, without events. Its evaluation stores nothing but itself,
-/// and begins as many pairs as were counted, at places up to the next one.
+/// States that a pair that the byte at its position decides gives just that, without events. Its evaluation stores
+/// nothing but itself, and begins as many pairs as were counted, at positions up to the next one.
 pub fn one_byte_decides()
     ensures gives { (rules : List Rule) (start : ℕ) (nodes : List Shape) (bodies ranks x : List ℕ) →
         IsRanked rules start nodes bodies ranks → (marks : ℕ → Bool) (tails : ℕ → ℕ → Bool) (b n p c : ℕ)
@@ -50,7 +50,7 @@ pub fn one_byte_decides()
         })) (p + 1) c }
 {}
 
-/// Above a place that no stored key of the node reaches, none of its pairs is stored.
+/// States that none of a node's pairs is stored above a position that no stored key of the node reaches.
 pub fn fresh_above_mark()
     ensures { (key : Bool) (m a n mark : ℕ) (stored : List Stored) →
         ((s : Stored) → IsIn s stored → row_of s.spot ≡ m → place_of s.spot < mark) → mark ≤ a →

@@ -7,27 +7,33 @@ use ruletable::Memory;
 use std::alloc::Global;
 use std::marker::Model;
 
-/// Which child the frame awaits: the first one; or the last one, whose result it returns, with the events of this head
-/// before its events; or, of a repetition with an iteration at each position up to this one, its own node after them,
-/// whose result it returns.
+/// The child that a frame awaits.
 #[derive(Clone, Copy)]
 pub enum Wait {
+    /// The first child.
     First,
+    /// The last child. The frame returns its result, with the events of this head before its events.
     Last(usize),
+    /// The frame's own repetition, after one iteration at each position up to this one. The frame returns its result.
     Turned(usize),
 }
 
-/// A task under way, whether its result is memoized, and which child it awaits.
+/// An entry of the parsing stack: a task under way.
 #[derive(Clone, Copy)]
 pub struct Frame {
+    /// The task.
     pub spot: Spot,
+    /// Whether its result is memoized.
     pub key: bool,
+    /// The child that it awaits.
     pub wait: Wait,
 }
 
-/// The frames, the last one first.
+/// The parsing stack. Contracts see its frames, the top first. A task that is not memoized, and that returns the result
+/// of its last child unchanged, has no frame.
 #[derive(Drop)]
 pub(crate) struct Frames {
+    /// The frames, the top last.
     frames: Vec<Frame>,
 }
 

@@ -14,23 +14,23 @@ ghost use Rattle.packrat.specs.View.{AreStored, AreImplied, AreBegun, Evaluates}
 ghost use Rattle.pegmatch.specs.VisitedCells.{AreVisitedCells};
 ghost use Rattle.pegnodes.specs.Width.{Width};
 
-/// A node of a width takes that many bytes wherever it succeeds.
+/// States that a node of a width takes that many bytes wherever it succeeds.
 pub fn one_width()
     ensures { (rules : List Rule) (start : ℕ) (nodes : List Shape) (bodies ranks x : List ℕ) →
         IsRanked rules start nodes bodies ranks → (n w p q : ℕ) → Width nodes bodies n w →
         NodeTakes rules nodes bodies x n p q → q ≡ p + w }
 {}
 
-/// A visited pair of a marked node is asked for by one pair: its asker's, at the fixed distance.
+/// States that a visited pair of a marked node is asked for by one pair: its asker's, at the fixed distance.
 pub fn asked_once()
     ensures { (rules : List Rule) (start : ℕ) (nodes : List Shape) (bodies ranks x : List ℕ) →
         IsRanked rules start nodes bodies ranks → (n d m q : ℕ) → Offset nodes bodies start n d m →
         Visits rules nodes bodies x start m q → IsAskedBy rules start nodes bodies x n d m q }
 {}
 
-/// Where exactly the keys that are reached are stored, the cells that they imply are exactly the pairs that are
-/// visited, each with its outcome and once. They imply some cells if the window is long enough for the outcome of the
-/// start rule's body. All lists of such cells have one length.
+/// States which cells follow if exactly the keys that are reached are stored: exactly the pairs that are visited, each
+/// once and with its outcome. They imply some cells if the window is long enough for the outcome of the start rule's
+/// body. All lists of such cells have one length.
 pub fn implied_cells()
     ensures every { (rules : List Rule) (start : ℕ) (nodes : List Shape) (bodies ranks x : List ℕ) (more : Bool) →
         IsRanked rules start nodes bodies ranks → (root : ℕ) → slice_get bodies start ≡ Some root →
@@ -51,8 +51,9 @@ pub fn implied_cells()
         length cs ≡ length ds }
 {}
 
-/// An evaluation that remembers its keys stores exactly those that are reached, each once, and has begun as many pairs
-/// as there are cells that they imply: exactly the pairs that are visited, each with its outcome and once.
+/// States that an evaluation that memoizes its keys stores exactly those that are reached, each once. It has begun as
+/// many pairs as there are cells that they imply. The cells are exactly the pairs that are visited, each once and with
+/// its outcome.
 pub fn evaluated_once()
     ensures stored { (rules : List Rule) (start : ℕ) (nodes : List Shape) (bodies ranks x : List ℕ) (more : Bool) →
         IsRanked rules start nodes bodies ranks → (root : ℕ) → slice_get bodies start ≡ Some root →
@@ -69,7 +70,7 @@ pub fn evaluated_once()
         AreBegun rules start nodes bodies x more marks tails stored begun }
 {}
 
-/// Stored keys imply one list of cells.
+/// States that stored keys imply one list of cells.
 pub fn one_view()
     ensures { (rules : List Rule) (start : ℕ) (nodes : List Shape) (bodies ranks x : List ℕ) (more : Bool) →
         IsRanked rules start nodes bodies ranks → (marks : ℕ → Bool) (tails : ℕ → ℕ → Bool) (stored : List Spot)

@@ -1,5 +1,5 @@
-//! The packrat matcher: it stores an outcome only where a node can be asked for twice at a place, and evaluates each
-//! node at each place at most once.
+//! The packrat matcher: it stores an outcome only where a node can be asked for twice at a position, and evaluates each
+//! node at each position at most once.
 #![tactic(auto)]
 
 mod byte_laws;

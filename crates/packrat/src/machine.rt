@@ -36,13 +36,16 @@ pub(crate) enum Turn {
     Answer(Given),
 }
 
-/// What a match changes: the keys that are stored, the events, the frames of what is under way, and how many pairs were
-/// begun.
+/// The state of a match: all that an evaluation changes.
 #[derive(Drop)]
 pub(crate) struct Machine {
+    /// The memo table.
     pub(crate) log: KeyLog,
+    /// The events of the successes so far.
     pub(crate) events: EventLog,
+    /// The tasks under way.
     pub(crate) frames: Frames,
+    /// How many pairs of a node and a position were begun.
     pub(crate) begun: u128,
 }
 

@@ -15,19 +15,28 @@ use memo::{Found, Spot};
 use pegmatch::{Kept, Tried, match_any, match_bytes, match_set};
 use pegnodes::Node;
 
-/// The tail of a node from a member on, at a place, with that member, and whether it is the last one.
+/// The tail of a node from one of its members on, at a position.
 #[derive(Clone, Copy)]
 pub(crate) struct Entering {
+    /// The node.
     pub(crate) node: usize,
+    /// The index of the member, from 0.
     pub(crate) index: usize,
+    /// The position, in bytes from the front of the window.
     pub(crate) place: usize,
+    /// The node of the member.
     pub(crate) member: usize,
+    /// Whether the member is the last one.
     pub(crate) only: bool,
 }
 
-/// How a task begins. It has a result without events; or takes nothing, and leaves an event; or asks for a child; or
-/// asks for its only child, which may be a tail, and passes on its result; or its comparison reaches the last byte of a
-/// window that more bytes follow.
+/// The first step of a task.
+///
+/// - It has a result without events.
+/// - It takes nothing, and leaves an event.
+/// - It asks for a child.
+/// - It asks for its only child, which may be a tail, and passes on its result.
+/// - Its comparison reaches the last byte of a window that more bytes follow.
 #[derive(Clone, Copy)]
 pub(crate) enum Begun {
     Gives(Found),
@@ -38,8 +47,12 @@ pub(crate) enum Begun {
     Need,
 }
 
-/// How a task goes on after its first child. It has a result without events; or that of its first child; or it asks for
-/// its last child, which may be a tail, and returns that one's result, with the events of its first child before those.
+/// The step of a task after its first child.
+///
+/// - It has a result without events.
+/// - It returns the result of its first child.
+/// - It asks for its last child, which may be a tail, and returns that one's result. The events of its first child come
+///   before those.
 #[derive(Clone, Copy)]
 pub(crate) enum Onward {
     Gives(Found),

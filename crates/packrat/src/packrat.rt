@@ -23,19 +23,23 @@ use std::marker::Model;
 // So many nodes or more, or so many bytes of a window or more, are too many.
 const MOST: usize = 4_294_967_295;
 
-/// A matcher that stores the outcomes of the keys alone, by node and place, and evaluates each node at each place at
-/// most once. `match_unit` returns `Memory` for a window of 4,294,967,295 bytes or more, and for a grammar of as many
-/// nodes or more.
+/// A packrat matcher (Ford 2002) that memoizes the keys alone, and evaluates each node at each position at most once. A
+/// key is a task that can be asked for twice; the outcomes of other tasks follow from keys. `match_unit` returns
+/// `Memory` for a window of 4,294,967,295 bytes or more, and for a grammar of as many nodes or more.
 ///
-/// It is seen as the keys that are stored, the frames of what is under way, each with the last one first, how many
-/// evaluations were begun, the events of the last success, and how many matches it was asked for since it was made. It
-/// recurses nowhere: its depth is that of its frames.
+/// The machine has the state of the last match: its memo table, its events and its stack. The stack is an explicit
+/// vector, so that deep nesting takes no call stack. `head` names the events of the last success, for `replay`. A match
+/// that fails, or needs more bytes, leaves it 0. An error empties the machine, but keeps the count of matches.
+///
+/// Contracts see the stored keys and the frames, each with the last one first. They see the number of evaluations
+/// begun, the events of the last success, and the number of matches.
 #[derive(Drop)]
 pub struct Packrat {
+    /// The state of the last match. Its memory serves the next one.
     machine: Machine,
-    // that of the events of the last success
+    /// The head of the events of the last success, or 0.
     head: usize,
-    // how many matches it was asked for
+    /// How many matches it was asked for since it was made.
     matches: u128,
 }
 
@@ -110,7 +114,7 @@ impl Packrat {
         self.machine.begun
     }
 
-    /// Returns what was found for a key in its last unit, if the key was evaluated.
+    /// Looks up the outcome of a key in its last unit, if the key was evaluated.
     ///
     /// # Errors
     /// `Memory` if an allocation fails.
@@ -143,18 +147,18 @@ impl Matcher for Packrat {
 
     ghost holds = { λ d g x events. Holds d g x events };
 
-    /// Returns what the start rule gives at the front of the window. If it is not `Need`,
-    /// exactly the keys that are reached are stored, each once and with its outcome; the cells that they imply are
-    /// exactly the pairs that are visited, each with its outcome and once; and as many were begun.
+    /// Matches the start rule at the front of the window (Ford 2004, section 3.3). Unless it returns `Need`, exactly
+    /// the keys that are reached are stored, each once and with its outcome. The cells that they imply are exactly the
+    /// pairs that are visited, each once and with its outcome. As many were begun.
     ///
     /// Without `more` the window is the whole rest of the input, and the answer is never `Need`. With `more` the window
     /// is not empty, and `Need` says that its last byte was compared; any other answer holds for every rest that begins
     /// with the window. At `Need` no frame is left, and stored are reached keys with their outcomes. The pairs that
     /// were begun are visited ones before the window's end, each begun once. A failure and `Need` leave no events.
     ///
-    /// However it ends, it has counted one match, and has begun at most as many pairs as there are nodes at the places
-    /// up to where the start rule looks. With `more` they are also at most as many as there are nodes at the window's
-    /// bytes.
+    /// However it ends, it has counted one match, and has begun at most as many pairs as there are nodes at the
+    /// positions up to where the start rule looks. With `more` they are also at most as many as there are nodes at the
+    /// window's bytes.
     ///
     /// # Errors
     /// `Memory` if an allocation fails, or if a count does not fit in 32 bits; nothing is stored.

@@ -13,15 +13,20 @@ use gramcheck::SoundPeg;
 use memo::KeyLog;
 use pegnodes::{RunTable, Verdict};
 
-/// Names a repetition, its operand, and two positions between which it takes the bytes by iterations that the bytes
-/// decide. So many pairs begin with that. If `whole` is true, the byte after them decides that it ends there.
+/// Iterations of a repetition, one byte each, that the bytes alone decide. The machine takes them all in one step.
 #[derive(Clone, Copy)]
 pub(crate) struct Turns {
+    /// The node of the repetition.
     pub(crate) star: usize,
+    /// The node of its operand.
     pub(crate) operand: usize,
+    /// The position of the first byte that they take.
     pub(crate) from: usize,
+    /// The position after the last byte that they take.
     pub(crate) end: usize,
+    /// How many pairs of a node and a position they begin.
     pub(crate) pairs: u128,
+    /// Whether the byte at `end` decides that the repetition ends there.
     pub(crate) whole: bool,
 }
 
@@ -65,8 +70,8 @@ fn summed(a: u128, b: u128) -> Option<u128>
     }
 }
 
-/// Returns what the bytes from a position on decide of a repetition of this operand, if they decide an iteration or its
-/// end.
+/// Finds the iterations, of a repetition of this operand, that the bytes from a position on decide. `None` if they
+/// decide neither an iteration nor the end.
 pub(crate) fn find_turns(
     peg: &SoundPeg,
     window: &[u8],

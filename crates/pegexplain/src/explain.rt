@@ -1,4 +1,4 @@
-//! What explains a fault.
+//! Explanations of faults.
 ghost use Rattle.std.specs.Prelude.{◌≡◌, ℕ, ◌≤◌, ◌++◌, List, true, length, codes, OnOk, IfOk};
 ghost use Rattle.lexer.specs.TokenLists.{tok_of};
 ghost use Rattle.lexer.specs.GrammarLimits.{max_grammar, max_open};

@@ -1,4 +1,4 @@
-//! What follows a note on a left-recursive rule.
+//! Explanations of notes on left-recursive rules.
 ghost use Rattle.std.specs.Prelude.{◌≡◌, ◌<◌, ◌++◌, ℕ, List, Option, None, map, length, OnOk, option_map};
 ghost use Rattle.diagnostics.specs.DefinitionHeads.{defined_at};
 ghost use Rattle.diagnostics.specs.MentionLines.{mention_lines_by};

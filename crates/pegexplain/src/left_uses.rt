@@ -15,10 +15,12 @@ use pegread::Expr;
 use ruletable::{Memory, NameCase, RuleTable};
 use std::alloc::Global;
 
-/// A name that an expression uses, and whether left steps lead to it.
+/// A name that an expression uses.
 #[derive(Clone, Copy)]
 pub(crate) struct Use<'a> {
+    /// The name.
     pub(crate) name: &'a [u8],
+    /// Whether left steps lead to it.
     pub(crate) is_left: bool,
 }
 

@@ -1,4 +1,4 @@
-//! What explains a fault of a grammar's text in the syntax of peg(1), and notes on its grammar.
+//! Explains a fault of a grammar's text in the syntax of peg(1), and notes on its grammar.
 #![tactic(auto)]
 
 mod deciding_token;

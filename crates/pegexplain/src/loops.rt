@@ -12,10 +12,12 @@ use pegread::{Expr, print_expr};
 use ruletable::{Memory, RuleTable, SinkOf};
 use std::alloc::Global;
 
-// A repetition, and its place among those of a body.
+/// A repetition in a body.
 #[derive(Clone, Copy)]
 pub(crate) struct Repeat<'a> {
+    /// Its index among the repetitions of the body.
     place: usize,
+    /// The repetition.
     e: &'a Expr,
 }
 
@@ -117,8 +119,8 @@ fn push_repeat(
     }
 }
 
-/// Adds the line of the first repetition in a body that repeats what may take nothing, where the marks of its
-/// repetitions stand on these lines, and marks of the rules say which of their bodies may.
+/// Adds the line of the first repetition in a body whose operand may take nothing. The marks of the body's repetitions
+/// stand on the given lines. Marks of the rules say which of their bodies may take nothing.
 ///
 /// `Memory` if an allocation fails.
 pub(crate) fn push_first_loop(

@@ -1,4 +1,4 @@
-//! What explains notes.
+//! Explanations of notes.
 ghost use Rattle.std.specs.Prelude.{◌≡◌, ◌++◌, ℕ, List, Option, IfOk, OnOk, option_copied};
 ghost use Rattle.ruletable.specs.Notes.{Said, said_of};
 ghost use Rattle.pegexplain.specs.PegNotes.{ArePegPlaces, ExplainsNote, IsLineBehind, IsLoopTold};
@@ -61,10 +61,14 @@ fn push_behind(
     }
 }
 
-/// Returns the lines that explain a note on a grammar, where a name may be given for the start rule: where the note's
-/// rule is first defined, and where it is defined again; the use by which a name is noted that no rule has; the steps
-/// by which a left-recursive rule comes back to itself, or where it is defined if `MAX_WAYS` such rules stand before
-/// it; what a rule repeats that may take nothing. There are none for notes of other kinds.
+/// Returns the lines that explain a note on a grammar. A name may be given for the start rule.
+///
+/// - On a rule that is defined again: where it is first defined, and where it is defined again.
+/// - On a name that no rule has: its first use.
+/// - On a left-recursive rule: the left steps that lead from it back to it. If `MAX_WAYS` such rules stand before it:
+///   where it is defined.
+/// - On a rule that repeats what may take nothing: that repetition.
+/// - Notes of other kinds have no lines.
 ///
 /// # Errors
 /// `Memory` if an allocation fails.

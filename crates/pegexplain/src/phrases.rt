@@ -12,11 +12,14 @@ use pegread::Kind;
 use ruletable::Memory;
 use std::alloc::Global;
 
-/// A phrase, the kinds that it means, and those that another phrase would mean too.
+/// A phrase of an explanation for some kinds of tokens.
 #[derive(Clone, Copy)]
 pub(crate) struct Phrase {
+    /// The words of the phrase.
     pub(crate) words: &'static [u8],
+    /// The kinds that it means.
     pub(crate) kinds: &'static [Kind],
+    /// Kinds that another phrase means too.
     pub(crate) bars: &'static [Kind],
 }
 

@@ -9,7 +9,7 @@ use pegread::{Expr, Kind, read_peg};
 use ruletable::{LineRule, Memory, NameCase, RuleTable};
 use std::alloc::Global;
 
-/// What the tokens of peg(1) are to the definitions of a grammar.
+/// The roles of the tokens of peg(1) in the definitions of a grammar.
 pub struct PegSigns;
 
 impl Signs<Kind> for PegSigns {

@@ -6,14 +6,14 @@ ghost use Rattle.pegexplain.specs.PegStands.{behind_primary, prefixed, goes, all
 
 use pegread::Kind;
 
-/// What was taken last.
+/// The kind of token that was taken last.
 #[derive(Clone, Copy)]
 pub(crate) enum Stand {
     /// Nothing: the first definition's name is to come.
     Start,
     /// The first definition's name.
     Named,
-    /// What an item may follow, and no prefix waits for it.
+    /// A token that an item may follow, with no prefix that waits for it.
     Fresh,
     /// `!`, which waits for its item.
     Not,
@@ -29,9 +29,11 @@ pub(crate) enum Stand {
     Done,
 }
 
-/// A place between two tokens.
+/// A position between two tokens: the state of a machine that recognizes prefixes of grammars. All brackets are of one
+/// form, so it counts them.
 #[derive(Clone, Copy)]
 pub(crate) struct Place {
+    /// The kind of token before it.
     pub(crate) stand: Stand,
     /// How many brackets are open.
     pub(crate) depth: usize,
@@ -138,7 +140,7 @@ impl Place {
         }
     }
 
-    /// Returns the place after a token of the kind, if one can stand here.
+    /// Returns the position after a token of the kind, if one can stand here.
     pub(crate) fn after(self, kind: Kind) -> Option<Place>
         requires { self.depth ≤ max_open }
         ensures { result ≡ goes self.stand self.depth kind }

@@ -1,4 +1,4 @@
-//! The way by which a left-recursive rule comes back to itself.
+//! The left steps that lead from a left-recursive rule back to it.
 ghost use Rattle.std.specs.Prelude.{◌≡◌, ◌<◌, length, IfOk, option_map};
 ghost use Rattle.fixpoint.specs.StepRows.{rows_of, AreStepsWithin};
 ghost use Rattle.fixpoint.specs.ShortChains.{IsRoundIfAny};

@@ -39,7 +39,7 @@ pub(crate) fn compare(text: &[u8], literal: &[u8]) -> Comparison
     }
 }
 
-/// Returns one more than the last place compared from `place` on, or 0.
+/// Returns one more than the last position compared from `place` on, or 0.
 pub(crate) fn looked_after(place: usize, compared: usize) -> usize
     requires { place + compared < 2 ^ 64 }
     ensures { result ≡ looked_at place compared }

@@ -6,7 +6,7 @@ ghost use Rattle.pegmatch.specs.Answers.{StartGives, WasEnough};
 
 use gramcheck::{longer_input_of_start, one_outcome_of_start, shorter_input_of_start};
 
-/// A window has at most one answer.
+/// States that a window has at most one answer.
 pub fn one_answer()
     ensures { (g : Grammar) (window : List ℕ) (o c : Outcome) (looked far : ℕ) →
         StartGives g window o looked → StartGives g window c far → (o ≡ c) × (looked ≡ far) }
@@ -23,7 +23,7 @@ pub fn answer_stands()
     longer_input_of_start();
 }
 
-/// Where a window was not enough, the start rule looks at all of it on every input that begins with it.
+/// States that the start rule looks at all of a window that was not enough, on every input that begins with it.
 pub fn need_stands()
     ensures { (g : Grammar) (window rest : List ℕ) (o c : Outcome) (looked : ℕ) →
         StartGives g window o (length window) → StartGives g (window ++ rest) c looked → length window ≤ looked }

@@ -1,4 +1,4 @@
-//! What the expressions without operands give at a place.
+//! Outcomes of expressions without operands.
 ghost use Rattle.std.specs.Prelude.{◌≡◌, ◌≤◌, List, [], ◌∷◌, ◌++◌, length, false, get_or, IfOk, OnOk};
 ghost use Rattle.pegread.specs.Pattern.{Pattern, Rule};
 ghost use Rattle.gramcheck.specs.Outcome.{Gives};
@@ -9,10 +9,12 @@ use crate::event::Kept;
 use memo::Found;
 use ruletable::{ByteSet, Memory};
 
-/// What was found, and one more than the last place looked at, or 0.
+/// The outcome of an expression without operands.
 #[derive(Clone, Copy)]
 pub struct Tried {
+    /// The outcome.
     pub found: Found,
+    /// One more than the last position compared, or 0.
     pub looked: usize,
 }
 

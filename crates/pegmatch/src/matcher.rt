@@ -1,4 +1,4 @@
-//! What a matcher owes.
+//! The contract of a matcher.
 ghost use Rattle.std.specs.Prelude.{◌≡◌, ℕ, ◌+◌, ◌<◌, List, length, min, true, IfOk, false};
 ghost use Rattle.gramcheck.specs.Grammar.{Grammar};
 ghost use Rattle.gramcheck.specs.Outcome.{Event};
@@ -9,7 +9,7 @@ use gramcheck::SoundPeg;
 use ruletable::{Memory, Sink};
 use thiserror::Error;
 
-/// What the start rule gives at the front of a window.
+/// The result of a match of the start rule at the front of a window.
 #[derive(Clone, Copy, PartialEq, Eq)]
 pub enum Unit {
     /// It succeeds: how many bytes it takes, and how many evaluations were begun, which is at least 1 and stays at the
@@ -32,7 +32,7 @@ pub enum ReplayFault {
     Write,
 }
 
-/// What runs a grammar's start rule at the front of a window. It counts its matches, so no caller matches uncounted.
+/// A matcher of a grammar's start rule at the front of a window. It counts its matches, so no caller matches uncounted.
 pub trait Matcher {
     /// How many matches it was asked for since it was made. The count stops at `most_matches`.
     ghost matches: { Self → ℕ };
@@ -40,8 +40,8 @@ pub trait Matcher {
     /// The events that it holds of its last success, for a grammar and a window.
     ghost holds: { Self → Grammar → List ℕ → List Event → Type 0 };
 
-    /// Returns what the start rule gives at the front of the window (Ford 2004, section 3.3). It counts one match, with
-    /// an error too.
+    /// Matches the start rule at the front of the window (Ford 2004, section 3.3). It counts one match, with an error
+    /// too.
     ///
     /// Without `more` the window is the whole rest of the input, and the answer is never `Need`. With `more` the window
     /// isn't empty, and `Need` says that its last byte was compared; any other answer holds for every rest that begins

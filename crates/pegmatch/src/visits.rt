@@ -1,4 +1,4 @@
-//! The pairs of a node and a place that the start rule's outcome asks for: the evaluations of a packrat matcher.
+//! The pairs of a node and a position that the start rule's outcome asks for: the evaluations of a packrat matcher.
 
 mod laws;
 

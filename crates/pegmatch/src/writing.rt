@@ -106,11 +106,15 @@ fn write_action<W: Sink>(
     }
 }
 
-/// The capture so far, as the part of the window from `from` to `to`, and where one was opened last.
+/// The state of captures in a replay: the text that `yytext` is replaced by, and an open capture. Positions count bytes
+/// from the front of the window.
 #[derive(Clone, Copy)]
 pub struct Capture {
+    /// Where a capture was opened last, if one was.
     pub start: Option<usize>,
+    /// Where the capture that closed last begins; 0 if none closed.
     pub from: usize,
+    /// Where it ends; 0 if none closed.
     pub to: usize,
 }
 

@@ -1,4 +1,4 @@
-//! Nodes whose outcome at a place is decided by the byte there alone.
+//! Nodes whose outcome at a position is decided by the byte there alone.
 ghost use Rattle.std.specs.Prelude.{◌≡◌, ℕ, ◌+◌, Bool, List, IfSome, slice_get, Some, get_or, false};
 ghost use Rattle.pegnodes.specs.ByByte.{ByByte};
 ghost use Rattle.pegnodes.specs.Decides.{Decides, DecidesBelow, DecidesShape, DecidesMembers, DecidesAlternatives};
@@ -11,7 +11,7 @@ use crate::keys::{is_key_of_members, mark_or};
 use crate::node::Node;
 use ruletable::ByteSet;
 
-/// Says what a node does at a place, where the byte there alone decides it.
+/// Says what a node does at a position, where the byte there alone decides it.
 #[derive(Clone, Copy)]
 pub enum Verdict {
     /// Takes the byte.
@@ -22,20 +22,25 @@ pub enum Verdict {
     Fails,
 }
 
-/// Says what a byte decides of a node, and how many pairs of a node and the place that evaluates.
+/// The outcome of a node that one byte decides.
 #[derive(Clone, Copy)]
 pub struct Decided {
+    /// The outcome.
     pub verdict: Verdict,
+    /// How many pairs of a node and a position its evaluation visits.
     pub count: u16,
 }
 
-/// Numbered nodes, of each rule the node of its body, and marks of the keys among the nodes and of those after which
-/// the tails of sequences are keys. What has no mark is a key.
+/// Numbered nodes with marks of the keys. A node without a mark is a key.
 #[derive(Clone, Copy)]
 pub struct MarkedNodes<'a> {
+    /// The nodes, by number.
     pub nodes: &'a [Node],
+    /// Of each rule the node of its body.
     pub bodies: &'a [usize],
+    /// Of each node whether it is a key.
     pub keys: &'a [bool],
+    /// Of each node whether the tail of a sequence after it is a key.
     pub behind: &'a [bool],
 }
 
@@ -277,14 +282,14 @@ fn by_node(grammar: &MarkedNodes<'_>, n: usize, b: u8, levels: usize) -> Option<
     }
 }
 
-/// Returns what a byte decides of a node, if it does and the node is not too deep.
+/// Returns the outcome of a node that a byte decides; `None` if it does not, or the node is too deep.
 pub fn decide(grammar: &MarkedNodes<'_>, n: usize, b: u8) -> Option<Decided>
     ensures { IfSome result (λ d. Decides grammar.now b n d) }
 {
     by_node(grammar, n, b, MOST_LEVELS)
 }
 
-/// A byte decides one verdict of a node, with one number of pairs.
+/// States that a byte decides one verdict of a node, with one number of pairs.
 pub fn one_verdict()
     ensures { (nodes : List Shape) (bodies : List ℕ) (marks : ℕ → Bool) (tails : ℕ → ℕ → Bool) (b n c d : ℕ)
         (v w : Verdict) → ByByte nodes bodies marks tails b n v c → ByByte nodes bodies marks tails b n w d →

@@ -14,11 +14,12 @@ use pegread::Expr;
 use ruletable::{Memory, NameCase, RuleTable};
 use std::alloc::Global;
 
-/// The nodes of a grammar, operands before the nodes that they stand in, and of each rule the number of its body's
-/// node.
+/// The bodies of a grammar's rules, cut into numbered nodes.
 #[derive(Drop)]
 pub struct Cut {
+    /// The nodes, by number. Operands come before the nodes that they stand in.
     pub nodes: Vec<Node>,
+    /// Of each rule the number of its body's node.
     pub bodies: Vec<usize>,
 }
 

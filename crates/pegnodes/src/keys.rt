@@ -1,4 +1,4 @@
-//! Which nodes, and which tails of sequences, may be asked for twice at a place.
+//! Which nodes, and which tails of sequences, may be asked for twice at a position.
 ghost use Rattle.std.specs.Prelude.{◌≡◌, ◌⊎◌, ◌↔◌, ◌<◌, ℕ, true, false, List, length, [], slice_get, get_or};
 ghost use Rattle.std.specs.Prelude.{Contains, Some, IfOk};
 ghost use Rattle.fixpoint.specs.Demands.{demand_of, demands_of, row_of, One};

@@ -10,24 +10,30 @@ use memchr::memchr;
 use ruletable::Memory;
 use std::alloc::Global;
 
-/// The only byte that a node is not known to take, and how many pairs an iteration over each other byte begins.
+/// The only byte that a node is not known to take. A run of such a node ends at that byte, which `memchr` finds.
 #[derive(Clone, Copy)]
 pub struct Stop {
+    /// The byte.
     pub byte: u8,
+    /// How many pairs an iteration over each other byte begins.
     pub pairs: u64,
 }
 
-/// Where a run of bytes that a node takes ends, and how many pairs the iterations of a repetition over it begin.
+/// A run of bytes that a node takes, one at a time.
 #[derive(Clone, Copy)]
 pub struct Run {
+    /// The position after the last byte.
     pub end: usize,
+    /// How many pairs the iterations of a repetition over it begin.
     pub pairs: u128,
 }
 
-/// What each byte decides of a node, if it does.
+/// The outcomes of a node that one byte decides, by that byte. A repetition of the node takes a run of bytes by it.
 #[derive(Drop)]
 pub struct RunTable {
+    /// Of each of the 256 bytes the outcome, if the byte decides it.
     pub entries: Vec<Option<Decided>>,
+    /// The only byte that the node is not known to take, if there is just one.
     pub stop: Option<Stop>,
     pub ghost whole: { length entries.items ≡ 256 },
     pub ghost stops: { IsStop entries.items stop },
@@ -163,15 +169,15 @@ impl RunTable {
         false
     }
 
-    /// Returns what a byte decides of the node, if it does.
+    /// Returns the outcome of the node that a byte decides, if it does.
     pub fn decided(&self, b: u8) -> Option<Decided>
         ensures { slice_get self.now.entries.items b ≡ Some result }
     {
         self.entries[usize::from(b)]
     }
 
-    /// Returns how far the node takes the bytes of a window from a place up to another, and how many pairs the turns of
-    /// a repetition over them are.
+    /// Returns how far the node takes the bytes of a window from a position up to another, and how many pairs the
+    /// iterations of a repetition over them are.
     pub fn run(&self, window: &[u8], from: usize, to: usize) -> Run
         requires from { from ≤ to }
         requires to { to ≤ length window.now }

@@ -15,10 +15,12 @@ use std::alloc::Global;
 // runs the others without.
 const MOST_TABLES: usize = 256;
 
-/// The tables of a grammar's repetitions, and of each node the place of its table, if it has one.
+/// The tables of a grammar's repetitions.
 #[derive(Drop)]
 pub struct StarTables {
+    /// The tables.
     pub tables: Vec<RunTable>,
+    /// Of each node the index of its table, if it has one.
     pub places: Vec<Option<u16>>,
 }
 

@@ -8,7 +8,7 @@ use crate::node::Node;
 use ruletable::Memory;
 use std::alloc::Global;
 
-/// What is put in a slot.
+/// The text that is put in a slot.
 #[derive(Clone, Copy)]
 pub enum Put {
     /// The capture.
@@ -17,20 +17,25 @@ pub enum Put {
     Length,
 }
 
-/// A word of a template in whose place something is put: where it begins and ends, and what takes its place.
+/// A word of a template that the capture or its length replaces. Its offsets count the bytes of the action's text.
 #[derive(Clone, Copy)]
 pub struct Slot {
+    /// Where the word begins.
     pub from: usize,
+    /// Where the word ends.
     pub to: usize,
+    /// The text that replaces it.
     pub put: Put,
 }
 
-/// Where an action's text is cut: from where to where it stands without the blanks at its ends, and its slots, in
-/// order.
+/// The cut of an action's text. Its offsets count the bytes of the text.
 #[derive(Drop)]
 pub struct Template {
+    /// Where the text begins, without the blanks before it.
     pub from: usize,
+    /// Where the text ends, without the blanks after it.
     pub to: usize,
+    /// The slots, in order.
     pub slots: Vec<Slot>,
 }
 
@@ -131,10 +136,12 @@ pub(crate) fn cut_template(alloc: Global, text: &[u8]) -> Result<Template, Memor
     Ok(Template { from, to, slots })
 }
 
-/// The cuts of a grammar's templates, and of each node the place of its template's cut.
+/// The cuts of a grammar's templates.
 #[derive(Drop)]
 pub struct Templates {
+    /// Of each node the index of its template's cut.
     pub places: Vec<usize>,
+    /// The cuts.
     pub cuts: Vec<Template>,
 }
 

@@ -35,11 +35,14 @@ fn items_set(text: &[u8]) -> ByteSet
     set
 }
 
-// An item of a class: its first and its last byte, and what follows it.
+/// An item of a class: a byte or a range.
 #[derive(Clone, Copy)]
 struct ClassItem<'a> {
+    /// The first byte of the range.
     first: u8,
+    /// The last byte of the range.
     last: u8,
+    /// The rest of the class after the item.
     behind: &'a [u8],
 }
 

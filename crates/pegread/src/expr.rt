@@ -1,4 +1,4 @@
-//! What the bodies of a grammar's rules are made of.
+//! Expressions, of which rules' bodies consist.
 ghost use Rattle.std.specs.Prelude.{◌≡◌, ◌<◌, length};
 ghost use Rattle.ruletable.specs.declared.table.NameCase.TheVariants.{Exact};
 ghost use Rattle.ruletable.specs.Rules.{AreIds};
@@ -38,11 +38,12 @@ pub enum Expr {
     Close,
 }
 
-/// A grammar as it was read: its rules, at least one, whose names compare exactly, and the ids of those that a later
-/// definition names again.
+/// A grammar as it was read.
 #[derive(Drop)]
 pub struct Peg {
+    /// The rules, at least one. Their names compare exactly.
     pub rules: RuleTable<Expr>,
+    /// The ids of the rules that a later definition names again.
     pub redefined: Vec<usize>,
     ghost exact: { rules.names ≡ Exact },
     ghost some: { 0 < length rules.rules },

@@ -1,7 +1,7 @@
-//! What a grammar of peg(1) is cut into.
+//! The kinds of tokens of a grammar of peg(1).
 
-/// What a token is (peg(1) manual, "PEG GRAMMARS"). White space, which is space, tab, LF, CR and comments from `#` to
-/// the end of the line, only separates tokens.
+/// The kind of a token (peg(1) manual, "PEG GRAMMARS"). White space, which is space, tab, LF, CR and comments from `#`
+/// to the end of the line, only separates tokens.
 #[derive(Clone, Copy)]
 pub enum Kind {
     /// A name: a letter or `_`, then letters, digits and `_`.
@@ -36,7 +36,7 @@ pub enum Kind {
     Class,
     /// From `{` to the `}` that matches it, where every brace counts.
     Action,
-    /// What begins no token, from there to the end of the text.
+    /// Bytes that begin no token, to the end of the text.
     Bad,
     /// The end of the text.
     End,

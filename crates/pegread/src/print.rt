@@ -160,9 +160,10 @@ fn print_definition<W: Sink>(name: &[u8], body: &Expr, w: &mut W) -> Result<(), 
 /// Writes a grammar's canonical text: each rule in order, with no parentheses but those that it needs. Returns
 /// `WriteFault` where the writer fails; then a prefix of the text is written.
 ///
-/// Where the grammar was read from some text, no name is defined again, and the canonical text has at most
-/// `MAX_GRAMMAR` bytes, that text reads as the same rules, but for their spans, and as nothing else. It takes no
-/// memory, and recurses no deeper than the expressions.
+/// The canonical text reads as the same rules, but for their spans, and as nothing else. This holds if the grammar was
+/// read from some text that defines no name again, and the canonical text has at most `MAX_GRAMMAR` bytes.
+///
+/// It takes no memory, and recurses no deeper than the expressions.
 pub fn print_peg<W: Sink>(peg: &Peg, w: &mut W) -> Result<(), WriteFault>
     requires { W.failed w.old ≡ false }
     ensures bytes { Writes (W.contents w.old) (W.contents w.new) (canon.grammar_text (rules_of peg.now.rules)) result }

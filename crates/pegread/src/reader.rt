@@ -52,23 +52,29 @@ pub(crate) enum Prefix {
     And,
 }
 
-/// A definition as it was read: its name, the name's span, and the body.
+/// A definition as it was read.
 #[derive(Drop)]
 pub(crate) struct Definition<'a> {
+    /// The name.
     pub(crate) name: &'a [u8],
+    /// The span of the name.
     pub(crate) span: Span,
+    /// The body.
     pub(crate) body: Expr,
 }
 
-/// What an open bracket interrupts: the alternatives that ended, the items of the last one, and a prefix operator.
+/// The part of a body that an open bracket interrupts.
 #[derive(Drop)]
 pub(crate) struct Level {
+    /// The alternatives that ended.
     alternatives: Vec<Expr>,
+    /// The items of the last alternative so far.
     items: Vec<Expr>,
+    /// The prefix operator of the bracket.
     prefix: Prefix,
 }
 
-/// What the reader took last.
+/// The state of the reader: the kind of word that it took last.
 #[derive(Drop)]
 pub(crate) enum At<'a> {
     /// No word.
@@ -85,18 +91,31 @@ pub(crate) enum At<'a> {
     Done,
 }
 
-/// Takes words, and makes definitions of them. It has the definitions that ended, the name of the one that goes on,
-/// what its open brackets interrupt, and the alternatives, the items and the prefix operator within the innermost one.
+/// A pushdown machine that takes a grammar word by word, and makes definitions of the words.
+///
+/// The definitions that ended stand in `definitions`. `name` and `span` are those of the definition that goes on. Of
+/// its body the machine has `alternatives`, `items` and `prefix`, within the innermost open bracket. An open bracket
+/// pushes these onto `outer`; its end pops them. `at` decides which words may follow. The stack is a vector, so nesting
+/// takes no call stack.
 #[derive(Drop)]
 pub(crate) struct Reader<'a> {
+    /// Allocates the definitions.
     alloc: Global,
+    /// The definitions that ended, in order.
     definitions: Vec<Definition<'a>>,
+    /// The name of the definition that goes on.
     name: &'a [u8],
+    /// The span of that name.
     span: Span,
+    /// The parts that open brackets interrupt, the innermost last.
     outer: Vec<Level>,
+    /// The alternatives that ended, within the innermost bracket.
     alternatives: Vec<Expr>,
+    /// The items of the last alternative so far.
     items: Vec<Expr>,
+    /// The prefix operator that waits for its item.
     prefix: Prefix,
+    /// The word that was taken last.
     at: At<'a>,
 }
 

@@ -1,4 +1,4 @@
-//! What literals and classes spell: at most one thing, and always something.
+//! Laws of spelling: literals and classes spell at most one thing, and always something.
 ghost use Rattle.pegread.specs.CharLaws.{OneChar, SomeChar, NoChar, OneLiteral, SomeLiteral, OneClass, SomeClass};
 
 /// Says that the front of a text spells at most one byte, in one way.

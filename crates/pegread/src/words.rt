@@ -1,4 +1,4 @@
-//! What tokens say to a grammar.
+//! The words that tokens stand for.
 ghost use Rattle.std.specs.Prelude.{MatchOption, IfOk};
 ghost use Rattle.pegread.specs.Marks.{IsCut};
 ghost use Rattle.pegread.specs.Steps.{word_of};
@@ -36,7 +36,7 @@ pub(crate) enum Word<'a> {
     End,
 }
 
-/// Returns what a token says; `None` for `Bad`, which says nothing.
+/// Reads the word that a token stands for; `None` for `Bad`, which stands for none.
 ///
 /// # Errors
 /// `Memory` if an allocation fails.

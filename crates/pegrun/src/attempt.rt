@@ -25,10 +25,12 @@ pub enum Attempt {
     NoMemory,
 }
 
-/// A matcher, which counts its matches, with the table of units of one byte.
+/// A matcher, which counts its matches, with the table of units of one byte. A unit that the table has is not matched.
 #[derive(Drop)]
 pub struct CountedMatcher<M> {
+    /// The matcher. Only this crate's functions match by it, so each match is counted.
     matcher: M,
+    /// The texts of units of one byte that were matched before.
     pub(crate) units: ByteUnits,
 }
 

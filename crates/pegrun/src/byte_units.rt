@@ -38,6 +38,7 @@ impl Known {
 /// The texts of units of one byte, by that byte. An entry is added after such a unit is matched.
 #[derive(Drop)]
 pub struct ByteUnits {
+    /// Allocates the entries.
     pub(crate) alloc: Global,
     /// The entries, by byte. The vector is empty until the first entry is added.
     known: Vec<Known>,

@@ -28,7 +28,7 @@ use ruletable::{Sink, WriteFault};
 use std::alloc::Global;
 use toolrun::{Ending, Stop};
 
-/// What a run evaluates units with. Each part counts its evaluations.
+/// The two evaluators of a run. Each counts its evaluations.
 #[derive(Drop)]
 pub struct Counted<M> {
     /// Matches the units.

@@ -19,10 +19,13 @@ use std::alloc::Global;
 use std::marker::Model;
 use toolrun::{Checked, Ending, Language, open};
 
-/// A grammar that is run on inputs. It keeps the room that the runs before took.
+/// An open grammar, read and checked once, that is run on inputs. It keeps the memory of earlier runs, but nothing that
+/// an output depends on.
 #[derive(Drop)]
 pub struct PegRunner {
+    /// The grammar.
     grammar: SoundPeg,
+    /// The matcher, and the search for farthest failures.
     counted: Counted<Packrat>,
 }
 
@@ -67,12 +70,12 @@ impl PegRunner {
     }
 }
 
-/// What opening a grammar gave.
+/// The result of opening a grammar.
 #[derive(Drop)]
 pub struct OpenedPeg {
-    /// What there is to say of the grammar, in order.
+    /// The notes on the grammar, in order.
     pub notes: Vec<Note>,
-    /// What runs it, unless a note rejects it.
+    /// Its runner, unless a note rejects it.
     pub runner: Option<PegRunner>,
 }
 

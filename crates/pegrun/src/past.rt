@@ -31,7 +31,7 @@ pub struct Past {
 }
 
 impl Past {
-    /// Returns what is kept at the front of an input.
+    /// Returns the state at the front of an input: no unit was taken.
     pub fn new(alloc: Global) -> Past
         ensures at { result.at ≡ place_behind [] }
         ensures bytes { result.bytes.items ≡ [] }
@@ -159,7 +159,8 @@ fn explained_stop<R: Source>(
     }
 }
 
-/// Returns how a run ends that stopped so, with the lines that explain it if settings ask for that.
+/// Wraps the stop of a run as its ending. If settings ask for explanations, it adds the lines that explain the stop;
+/// for `NoMatch` it evaluates at most two units again.
 pub fn ending_at<R: Source>(
     search: &mut FailureSearch,
     peg: &SoundPeg,

@@ -23,10 +23,10 @@ use toolrun::{Status, run_tool};
 /// - Else the notes on the grammar are written on `err`. If one of them rejects it, or it is only to be checked, the
 ///   run ends: `Refused`, or `Done`, and nothing is read.
 /// - If the settings ask for explanations, further lines follow each note. After one on a rule that is defined again,
-///   or not used, come the lines of its definitions; after one on a name that is not defined, its first use; after one
-///   on a loop, the first repetition of what may take nothing; after one on left recursion, the steps of the shortest
-///   way back to the rule, for the first 8 such rules. After all notes come hints on alternatives that are never taken,
-///   unless the canonical text is asked for.
+///   or not used, come the lines of its definitions. After one on a name that is not defined comes its first use. After
+///   one on a loop comes the first repetition of what may take nothing. After one on left recursion come the steps of
+///   the shortest way back to the rule, for the first 8 such rules. After all notes come hints on alternatives that are
+///   never taken, unless the canonical text is asked for.
 /// - A unit is one success of the start rule, the one named in the settings or else the first; it begins where the one
 ///   before ended, and its actions are printed in order. The run ends where the rule fails or takes no byte:
 ///   `no match at byte S`, status `NoMatch`, but `Done` at the end of the input.

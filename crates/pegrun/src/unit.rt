@@ -21,14 +21,14 @@ use pegmatch::Matcher;
 use ruletable::{Sink, WriteFault};
 use toolrun::{Status, Stop};
 
-/// What follows at a place: a unit of so many bytes, or a stop.
+/// The next step of a run: a unit of so many bytes, or a stop.
 #[derive(Clone, Copy)]
 pub enum Step {
     Takes(usize),
     Stops(Stop),
 }
 
-/// Returns how a run ends where no unit goes on at a place.
+/// Returns how a run ends where no unit goes on at a position.
 fn stop_where(place: usize, len: usize) -> Stop
     ensures { result ≡ stop_at place len }
 {
@@ -39,7 +39,7 @@ fn stop_where(place: usize, len: usize) -> Stop
     }
 }
 
-/// Returns what follows at a place where this came of the start rule, which may look at `limit` bytes.
+/// Returns the next step at a position, by the result of the start rule, which may look at `limit` bytes.
 fn step_of(
     attempted: Result<Attempt, WriteFault>,
     limit: usize,

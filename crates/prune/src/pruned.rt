@@ -1,4 +1,4 @@
-//! Copies elements and rules without the parts that derive no list of letters.
+//! Copies elements and rules without the parts that derive no line.
 ghost use Rattle.std.specs.Prelude.{◌≡◌, ◌↔◌, ◌++◌, ℕ, Bool, List, IsTrue, IfOk, is_some, option_to_list};
 ghost use Rattle.abnfread.specs.Element.{Element, Elements, Rule};
 ghost use Rattle.abnfread.specs.Element as e;

@@ -16,10 +16,10 @@ use lowering::lower_rules;
 use ruletable::Memory;
 use std::alloc::Global;
 
-/// Lowers the productive parts of a grammar to numbered nodes, for lines of at most `limit` letters: those that derive
-/// some list of letters of the alphabet. The flat grammar derives such a line exactly if the judged rule does. The set
-/// after the first letters of such a line, one or more, has an item exactly if they are a viable prefix. The nodes
-/// spell the productive parts alone, with at most as many places as these have on such lines, and two.
+/// Lowers the productive parts of a grammar to numbered nodes, for lines of at most `limit` symbols: those that derive
+/// some line over the alphabet. The flat grammar derives such a line exactly if the judged rule does. The set
+/// after the first symbols of such a line, one or more, has an item exactly if they are a viable prefix. The nodes
+/// spell the productive parts alone, with at most as many dotted rules as these have on such lines, and two.
 ///
 /// `Memory` if an allocation fails.
 pub fn lower_viable(

@@ -19,26 +19,28 @@ use letters::{Alphabet, CodePoint, Letter, decode, utf8_is_decided, utf8_len};
 use ruletable::Memory;
 use std::alloc::Global;
 
-/// A grammar that rejected lines, what the letters of lines are, and its flat grammar by `lower_viable` for that
-/// alphabet.
+/// An explainer of the lines that a grammar rejects.
 #[derive(Drop)]
 pub struct Explainer<'a> {
     /// The grammar.
     pub grammar: &'a SoundAbnf,
-    /// What lines are made of.
+    /// The alphabet of lines.
     pub letters: Alphabet,
-    /// The flat grammar.
+    /// The flat grammar that `lower_viable` gives for that alphabet.
     pub flat: &'a Flat,
 }
 
-// The code points of the longest prefix of a line that is UTF-8, and how many bytes it has.
+/// The longest prefix of a line that is UTF-8.
 #[derive(Drop)]
 struct FirstPoints {
+    /// How many bytes it has.
     size: usize,
+    /// Its code points.
     points: Vec<CodePoint>,
 }
 
-// Returns the code points of the longest prefix of a line that is UTF-8.
+/// Decodes the longest prefix of a line that is UTF-8 (RFC 3629). Returns its size in bytes and its code points.
+/// `Memory` if an allocation fails.
 fn first_points(alloc: Global, line: &[u8]) -> Result<FirstPoints, Memory>
     ensures longest { IfOk result (λ f. IsLongestText line.now f.size) }
     ensures spelled { IfOk result (λ f. Spells (numbers f.points.items) (take f.size line.now)) }
@@ -144,7 +146,7 @@ fn explain_points(
 
 /// Adds the lines that explain a rejected line: where it is rejected, what can follow there, and a picture of that
 /// position; or that the judged rule derives nothing. The flat grammar must be that of `lower_viable` for the grammar
-/// and its letters, and the line must have fewer bytes than `flat.limit()`. The chart is filled anew.
+/// and its symbols, and the line must have fewer bytes than `flat.limit()`. The chart is filled anew.
 ///
 /// # Errors
 /// `Memory` if an allocation fails; a part of the lines may be added then.

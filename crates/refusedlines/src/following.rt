@@ -1,4 +1,4 @@
-//! What can follow the longest viable prefix of a line.
+//! Symbols that can follow the longest viable prefix of a line.
 ghost use Rattle.std.specs.Prelude.{◌≡◌, ◌+◌, ◌≤◌, ℕ, Bool, List, length, map, IfOk};
 ghost use Rattle.abnfread.specs.Element.{Rule};
 ghost use Rattle.abnfcheck.specs.Beginnings.{IsFurthest};
@@ -16,14 +16,14 @@ use lowering::{items_tell, values_are_letters};
 use ruletable::Memory;
 use std::alloc::Global;
 
-/// What can follow the longest viable prefix of a line.
+/// The symbols that can follow the longest viable prefix of a line.
 #[derive(Drop)]
 pub struct Following {
-    /// How many letters that prefix has.
+    /// How many symbols that prefix has.
     pub after: usize,
-    /// The maximal runs of the letters that can, in ascending order.
+    /// The maximal runs of the symbols that can follow, in ascending order.
     pub runs: Vec<LetterRun>,
-    /// Whether the end can.
+    /// Whether the line may end there.
     pub ends: bool,
 }
 
@@ -64,12 +64,12 @@ fn find_behind<L: Letter>(
     Ok(Following { after, runs, ends })
 }
 
-/// Returns what can follow the longest viable prefix of a line: all letters that can and no others, and whether the end
-/// can. The flat grammar is that of `lower_viable` for the alphabet of the letters. The line must have fewer letters
-/// than `flat.limit()`.
+/// Finds all symbols that can follow the longest viable prefix of a line, and whether the line may end there. The flat
+/// grammar is that of `lower_viable` for the alphabet of the symbols. The line must have fewer symbols than
+/// `flat.limit()`.
 ///
-/// It fills the chart with the item sets of the line, and then with those of that prefix. The letters are those that
-/// the items of its last set read. So it takes the time of judging the line twice, however many letters can follow.
+/// It fills the chart with the item sets of the line, and then with those of that prefix. The symbols are those that
+/// the items of its last set read. So it takes the time of judging the line twice, however many symbols can follow.
 ///
 /// `Memory` if an allocation fails.
 pub fn find_following<L: Letter>(
@@ -91,7 +91,7 @@ pub fn find_following<L: Letter>(
     find_behind(alloc, chart, flat, &line[..after])
 }
 
-/// Returns nothing. Its contract is a law: at most one list of runs has the letters that can follow the first letters
+/// Returns nothing. Its contract is a law: at most one list of runs has the symbols that can follow the first symbols
 /// of a line.
 pub fn following_is_one()
     ensures { (has : ℕ → Bool) (rules : List Rule) (id : ℕ) (x : List ℕ) (n : ℕ) (runs others : List the_run)

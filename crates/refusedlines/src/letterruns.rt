@@ -1,4 +1,4 @@
-//! Runs of letters: merged to the maximal ones of a set, and written as in ABNF.
+//! Runs of symbols: merged to the maximal ones of a set, and written as in ABNF.
 
 mod core_rule;
 mod joined;

@@ -1,4 +1,4 @@
-//! Explains a line that a grammar's judged rule does not derive: by the letters that can follow its longest viable
+//! Explains a line that a grammar's judged rule does not derive: by the symbols that can follow its longest viable
 //! prefix.
 #![tactic(auto)]
 

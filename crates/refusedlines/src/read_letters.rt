@@ -1,4 +1,4 @@
-//! The letters that items read.
+//! The symbols that items read.
 ghost use Rattle.std.specs.Prelude.{◌≡◌, ◌↔◌, ◌⊎◌, ◌≤◌, ℕ, true, All, IfOk};
 ghost use Rattle.flatgrammar.specs.Flat.{EitherCase, Has};
 ghost use Rattle.flatgrammar.specs.FlatViews.{node_of, set_of};
@@ -119,7 +119,7 @@ fn add_spot(
     Ok(())
 }
 
-/// Returns the maximal runs of the letters of an alphabet that dotted rules read, in ascending order. `Memory` if an
+/// Returns the maximal runs of the symbols of an alphabet that dotted rules read, in ascending order. `Memory` if an
 /// allocation fails.
 pub(crate) fn letters_read(
     alloc: Global,

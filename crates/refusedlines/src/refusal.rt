@@ -22,25 +22,28 @@ pub struct RefusedLine<'a> {
 /// Where a line is rejected.
 #[derive(Clone, Copy)]
 pub(crate) enum RefusedAt {
-    /// At the letter with that number, from 1.
+    /// At the symbol with that number, from 1.
     Letter(usize),
-    /// At bytes that are not UTF-8, where the letter with that number would stand.
+    /// At bytes that are not UTF-8, where the symbol with that number would stand.
     NoText(usize),
     /// At its end.
     End,
 }
 
-/// The explanation of a rejected line: what lines are made of, where it is rejected, after how many of its bytes, and
-/// what can follow there.
+/// The explanation of a rejected line.
 #[derive(Drop)]
 pub(crate) struct Refusal {
+    /// The alphabet of the line.
     pub(crate) alphabet: Alphabet,
+    /// Where it is rejected, by its symbols.
     pub(crate) at: RefusedAt,
+    /// After how many of its bytes it is rejected.
     pub(crate) place: usize,
+    /// The symbols that can follow there.
     pub(crate) following: Following,
 }
 
-/// Returns where a line is rejected: after so many of its letters, of which there are that many, before bytes that are
+/// Returns where a line is rejected: after so many of its symbols, of which there are that many, before bytes that are
 /// not UTF-8 or the end.
 pub(crate) fn refused_at(after: usize, letters: usize, torn: bool) -> RefusedAt
     requires { after + 1 < 2 ^ 64 }
@@ -121,8 +124,9 @@ fn push_lines(
     )
 }
 
-/// Adds the lines that explain a rejected line: what is expected where it is rejected, and a picture of that position;
-/// or that the rule of that name derives nothing, if nothing can follow there. The position must be within the line.
+/// Adds the lines that explain a rejected line: the symbols that are expected where it is rejected, and a picture of
+/// that position. If nothing can follow there, they report that the rule of that name derives nothing. The position
+/// must be within the line.
 pub(crate) fn push_refusal(
     alloc: Global,
     name: &[u8],

@@ -1,5 +1,5 @@
-//! What the checks of each grammar language share: the names of a grammar by id, marks on ids, and notes on what is
-//! marked.
+//! The common part of the checks of each grammar language: the names of a grammar by id, marks on ids, and notes on
+//! marked ids.
 #![tactic(auto)]
 
 mod id_marks;

@@ -6,9 +6,10 @@ ghost use Rattle.ruletable.specs.Runs.{AreRuns, IsFirst, runs_of, test_of};
 use crate::runs::Runs;
 use std::marker::Model;
 
-/// A set of numbers from 0 to 255, seen as the list that says of each number whether it is a member.
+/// A set of bytes. Contracts see a list of 256 flags, which say of each byte whether it is a member.
 #[derive(Drop)]
 pub struct ByteSet {
+    /// Bit `b % 64` of word `b / 64` says whether byte `b` is a member.
     words: [u64; 4],
 }
 

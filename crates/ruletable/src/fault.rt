@@ -1,4 +1,4 @@
-//! What can be wrong with a grammar's text.
+//! Faults of a grammar's text.
 ghost use Rattle.std.specs.Prelude.{◌≡◌, ◌++◌, codes, decimal, false};
 ghost use Rattle.ruletable.specs.Faults.{at_line, fault_text};
 ghost use Rattle.ruletable.specs.Writing.{Writes, Flags};
@@ -9,7 +9,7 @@ use itoa::Buffer;
 use std::alloc::{AllocError, AllocFailed};
 use thiserror::Error;
 
-/// Why a grammar's text was refused. A line counts from 1, and is that of the first byte of the token that decides.
+/// Why a grammar's text was rejected. A line counts from 1, and is that of the first byte of the token that decides.
 #[derive(Clone, Copy, Debug, PartialEq, Eq, Error)]
 pub enum ReadFault {
     /// A token with which the tokens up to it begin no grammar.
@@ -32,7 +32,7 @@ pub enum ReadFault {
     NumberTooLarge { line: usize },
 }
 
-/// Writes the fault's line, with its LF. `WriteFault` where the writer fails; then a beginning of the line is written.
+/// Writes the fault's line, with its LF. `WriteFault` where the writer fails; then a prefix of the line is written.
 pub fn write_fault<W: Sink>(fault: &ReadFault, w: &mut W) -> Result<(), WriteFault>
     requires { W.failed w.old ≡ false }
     ensures bytes { Writes (W.contents w.old) (W.contents w.new) (fault_text fault.now) result }

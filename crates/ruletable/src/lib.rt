@@ -1,4 +1,4 @@
-//! What both grammar tools share: writers, rules by name, sets of bytes, lines and faults.
+//! The common part of both grammar tools: writers, rules by name, sets of bytes, lines and faults.
 #![tactic(auto)]
 
 mod byte_set;

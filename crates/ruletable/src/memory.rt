@@ -1,4 +1,4 @@
-//! Want of memory.
+//! Failed allocations.
 ghost use Rattle.std.specs.Prelude.{◌≡◌};
 
 use std::alloc::{AllocError, AllocFailed};

@@ -24,10 +24,12 @@ pub enum NoteKind {
     Loop,
 }
 
-/// A note: its kind, and the rule or name of which it speaks.
+/// A note: a diagnostic on a grammar that reads.
 #[derive(Drop)]
 pub struct Note {
+    /// The kind of the note.
     pub kind: NoteKind,
+    /// The name of the rule, or the name that no rule has.
     pub name: Vec<u8>,
 }
 
@@ -56,7 +58,7 @@ fn after(kind: NoteKind) -> &'static [u8]
     }
 }
 
-/// Writes the note's line, with its LF. `WriteFault` if the writer fails; then a beginning of the line is written.
+/// Writes the note's line, with its LF. `WriteFault` if the writer fails; then a prefix of the line is written.
 pub fn write_note<W: Sink>(note: &Note, w: &mut W) -> Result<(), WriteFault>
     requires { W.failed w.old ≡ false }
     ensures bytes { Writes (W.contents w.old) (W.contents w.new) (note_text (said_of note.now)) result }

@@ -6,11 +6,13 @@ ghost use Rattle.ruletable.specs.Runs.{runs_of, test_of};
 use crate::byte_set::ByteSet;
 use std::marker::Model;
 
-/// The maximal ranges of a set's members that are still to come, each with its first and its last byte, in ascending
-/// order.
+/// An iterator over the maximal ranges of a set's members, each with its first and its last byte, in ascending order.
+/// Contracts see the ranges still to come.
 #[derive(Drop)]
 pub struct Runs<'a> {
+    /// The set.
     set: &'a ByteSet,
+    /// The least byte that is not looked at yet; `None` at the end.
     next: Option<u8>,
 }
 

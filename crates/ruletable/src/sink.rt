@@ -12,15 +12,15 @@ use thiserror::Error;
 #[error("write error")]
 pub struct WriteFault;
 
-/// What takes bytes.
+/// A writer of bytes.
 pub trait Sink {
-    /// The bytes taken so far, where the inner writer tells them.
+    /// The bytes taken so far, where the inner writer's contract states them.
     ghost contents: { Self → Option (List ℕ) };
 
     /// Whether a call has failed.
     ghost failed: { Self → Bool };
 
-    /// Takes a beginning of `bytes`, or fails and takes nothing. Nothing is written behind a failure.
+    /// Takes a prefix of `bytes`, or fails and takes nothing. Nothing is written after a failure.
     fn write(&mut self, bytes: &[u8]) -> Result<usize, WriteFault>
         requires { failed self.old ≡ false }
         ensures within { IfOk result (λ n. n ≤ length bytes.now) }
@@ -42,7 +42,9 @@ pub trait Sink {
 /// A sink over a writer of `std`.
 #[derive(Drop)]
 pub struct SinkOf<T> {
+    /// The writer.
     inner: T,
+    /// Whether a call has failed.
     failed: bool,
 }
 

@@ -1,6 +1,6 @@
 //! Where a piece of a text lies.
 
-/// The bytes of a text from `start` up to but not with `end`.
+/// The bytes of a text from offset `start` to before offset `end`.
 #[derive(Clone, Copy, PartialEq, Eq, Drop)]
 pub struct Span {
     pub start: usize,

@@ -19,14 +19,18 @@ pub enum NameCase {
     Fold,
 }
 
+/// A rule of a table.
 #[derive(Drop)]
 struct Row<E> {
+    /// The name, as it was spelled first.
     name: Vec<u8>,
+    /// The body.
     body: E,
+    /// The span of the name in the text.
     span: Span,
 }
 
-/// What `define` did: the id is the rule's position.
+/// The result of `define`. The id is the rule's index in the table.
 #[derive(Clone, Copy, PartialEq, Eq)]
 pub enum Defined {
     /// The rule is new, and stands last.
@@ -35,11 +39,17 @@ pub enum Defined {
     Duplicate(usize),
 }
 
-/// Rules in order of definition, each found by its name.
+/// Rules in order of definition, each found by its name. Contracts see the list of rules.
+///
+/// A rule's id is its index in `rows`, and never changes. `ids` repeats the names as keys, in lower case if names
+/// compare without case. So a rule is found in constant expected time, and no two rules have one name.
 #[derive(Drop)]
 pub struct RuleTable<E> {
+    /// How names compare.
     names: NameCase,
+    /// The rules, by id.
     rows: Vec<Row<E>>,
+    /// The id of each name.
     ids: HashMap<Vec<u8>, usize>,
 }
 

@@ -5,6 +5,7 @@ use std::alloc::Global;
 /// The fields of a row.
 #[derive(Drop)]
 pub struct Fields {
+    /// The texts of the fields, in order.
     pub(crate) texts: Vec<Vec<u8>>,
 }
 
@@ -44,7 +45,7 @@ impl Fields {
         Some(numbers)
     }
 
-    /// Tells whether a field is this text.
+    /// Returns whether a field is this text.
     pub fn is(&self, at: usize, text: &[u8]) -> bool {
         self.text(at) == text
     }
@@ -53,7 +54,9 @@ impl Fields {
 /// A text that a call prints. An allocation that fails cuts it short, and it counts for no text then.
 #[derive(Drop)]
 pub struct Text {
+    /// The bytes so far.
     bytes: Vec<u8>,
+    /// Whether an allocation failed.
     is_cut: bool,
 }
 

@@ -1,5 +1,5 @@
-//! What the crates of tests share: readers and writers in memory that give and take a few bytes a call, and fail at a
-//! chosen byte; and rows of calls, with what each must print.
+//! The common part of the crates of tests: readers and writers in memory that give and take a few bytes a call, and
+//! fail at a chosen byte; and rows of calls, each with the text that it must print.
 #![tactic(auto)]
 
 mod fields;

@@ -6,11 +6,14 @@ use std::cell::Cell;
 use std::io;
 use std::io::Write;
 
-/// How many bytes a writer takes, whether it fails behind them or takes nothing more, and whether it can be flushed.
+/// The limits of a writer.
 #[derive(Clone, Copy)]
 pub struct Takes {
+    /// How many bytes it takes.
     pub room: usize,
+    /// Whether it fails after them; else it takes nothing more.
     pub fails: bool,
+    /// Whether it can be flushed.
     pub flushes: bool,
 }
 
@@ -24,9 +27,11 @@ pub const ALL: Takes = Takes {
 /// A writer that takes at most `step` bytes a call.
 #[derive(Drop)]
 pub struct Paper<'a> {
-    /// What it took.
+    /// The bytes that it took.
     pub taken: Vec<u8>,
+    /// How many bytes it takes a call.
     step: usize,
+    /// Its limits.
     takes: Takes,
     /// Counts the flushes of all the papers that share it.
     clock: &'a Cell<u32>,

@@ -9,14 +9,16 @@ pub trait Calls {
     fn run(&self, alloc: Global, call: &str, fields: &Fields, out: &mut Text) -> Option<()>;
 }
 
-/// A row as it is written: the number of its first line, and its lines, joined.
+/// A row as it is written.
 #[derive(Drop)]
 struct Line {
+    /// The number of its first line.
     number: usize,
+    /// Its lines, joined.
     text: Vec<u8>,
 }
 
-/// What a line that goes on with the row before it begins with.
+/// The bytes that begin a line that continues a row.
 const INDENT: &[u8] = b"    ";
 
 // Joins the lines of each row. Empty lines and comments are no rows.

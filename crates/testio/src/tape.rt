@@ -4,12 +4,14 @@ ghost use Rattle.std.specs.Prelude.{◌≡◌, ◌<◌, Some};
 use std::io;
 use std::io::Read;
 
-/// A reader that gives at most `step` bytes a call. Behind the last it fails, if it is to.
+/// A reader that gives a few bytes a call.
 #[derive(Drop)]
 pub struct Tape<'a> {
-    /// What it has not given.
+    /// The bytes that it has not given.
     pub rest: &'a [u8],
+    /// How many bytes it gives a call, at most.
     step: usize,
+    /// Whether it fails after the last byte.
     fails: bool,
     ghost steps: { 0 < step },
 }

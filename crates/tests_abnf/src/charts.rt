@@ -7,10 +7,12 @@ use lowering::items_tell;
 use std::alloc::Global;
 use testio::{Fields, Text};
 
-/// A flat grammar, and the item sets of a line.
+/// A flat grammar with its chart.
 #[derive(Drop)]
 struct Sets {
+    /// The flat grammar.
     flat: Flat,
+    /// The item sets of a line.
     chart: Chart,
 }
 
@@ -100,7 +102,7 @@ fn add_prefixes(sets: &mut Sets, line: &[u8], out: &mut Text) -> Option<()> {
     Some(())
 }
 
-/// `CALL GRAMMAR | LIMIT | ..`: one of the calls on the item sets of lines that have at most so many letters.
+/// `CALL GRAMMAR | LIMIT | ..`: one of the calls on the item sets of lines that have at most so many symbols.
 pub(crate) fn run(alloc: Global, call: &str, fields: &Fields, out: &mut Text) -> Option<()> {
     let mut sets = no_sets(alloc, fields.text(0), fields.number(1))?;
     match call {

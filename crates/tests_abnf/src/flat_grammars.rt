@@ -6,7 +6,7 @@ use lowering::lower;
 use std::alloc::Global;
 use testio::{Fields, Text};
 
-/// Returns the flat grammar of a text, whose first rule is judged, for lines of so many letters.
+/// Returns the flat grammar of a text, whose first rule is judged, for lines of so many symbols.
 pub(crate) fn flat(alloc: Global, text: &[u8], limit: usize) -> Option<Flat> {
     let grammar = sound(alloc, text, "")?;
     lower(alloc, &grammar, limit).ok()

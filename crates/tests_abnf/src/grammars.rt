@@ -53,7 +53,7 @@ fn add_mark(alloc: Global, text: &[u8], out: &mut Text) {
     }
 }
 
-/// `prefixes TEXT`: for each prefix, the empty one first, `R` if it is read, or the line on which it is refused.
+/// `prefixes TEXT`: for each prefix, the empty one first, `R` if it is read, or the line on which it is rejected.
 pub(crate) fn prefixes_read(alloc: Global, fields: &Fields, out: &mut Text) {
     let text = fields.text(0);
     for size in 0..=text.len() {

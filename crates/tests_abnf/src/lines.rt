@@ -12,11 +12,14 @@ use ruletable::Memory;
 use std::alloc::Global;
 use testio::{Fields, Text};
 
-/// A flat grammar, and what judges lines by it: item sets, and an automaton if there is one.
+/// A flat grammar with both judges of lines.
 #[derive(Drop)]
 pub(crate) struct Judges {
+    /// The flat grammar.
     flat: Flat,
+    /// The judge by item sets.
     chart: Chart,
+    /// The lazy automaton, if there is one.
     automaton: Option<Automaton>,
 }
 
@@ -33,16 +36,20 @@ fn judges_of(alloc: Global, flat: Flat, room: Option<usize>) -> Result<Judges, M
     })
 }
 
-/// How lines of a grammar are judged: whether their prefixes are too, of which letters, and how many letters they have.
+/// The settings by which lines of a grammar are judged.
 #[derive(Clone, Copy)]
 pub(crate) struct Judging {
+    /// Whether prefixes are judged too.
     pub(crate) is_viable: bool,
+    /// The alphabet of lines.
     pub(crate) alphabet: Alphabet,
+    /// The most symbols of a line.
     pub(crate) limit: usize,
+    /// The room of the automaton, if it is not the default.
     pub(crate) room: Option<usize>,
 }
 
-/// Returns what judges lines by a grammar.
+/// Makes the judges of lines by a grammar.
 pub(crate) fn judges_by(
     alloc: Global,
     grammar: &SoundAbnf,
@@ -56,8 +63,8 @@ pub(crate) fn judges_by(
     judges_of(alloc, flat, how.room)
 }
 
-/// Tells whether an automaton, if there is one and it answers, says the same of a line as the item sets, and of how far
-/// it begins something.
+/// Returns whether an automaton, if there is one and it answers, says the same of a line as the item sets, and of how
+/// far it begins something.
 pub(crate) fn agrees<L: Letter>(judges: &mut Judges, line: &[L]) -> Result<bool, Memory> {
     if line.len() > judges.flat.limit() {
         return Err(Memory);

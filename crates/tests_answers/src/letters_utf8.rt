@@ -1,4 +1,4 @@
-//! Letters, alphabets, and lines of bytes as lines of code points, on the boundaries of UTF-8 (RFC 3629, sections 3 and
+//! Symbols, alphabets, and lines of bytes as lines of code points, on the boundaries of UTF-8 (RFC 3629, sections 3 and
 //! 4).
 
 use letters::{Alphabet, CodePoint, Letter, decode, utf8_len};

@@ -10,13 +10,16 @@ use std::process::Abort;
 use std::rt::HostRuntime;
 use toolrun::{Ending, Status, Stop};
 
-/// Says yes to the lines of at most so many bytes. To another line it says no, and by how many bytes it is longer if it
-/// counts; if it explains, it tells that the line is long.
+/// A judge that says yes to lines of at most `most` bytes.
 #[derive(Drop)]
 struct Short {
+    /// Allocates the explanations.
     alloc: Global,
+    /// The greatest length of a line, in bytes.
     most: usize,
+    /// Whether it reports by how many bytes a rejected line is longer.
     counts: bool,
+    /// Whether it explains that a rejected line is long.
     explains: bool,
 }
 
@@ -148,11 +151,11 @@ fn tells_numbers(rt: HostRuntime) {
     );
 }
 
-/// Eighteen lines that are too long, one of them behind a short one.
+/// Eighteen lines that are too long, one of them after a short one.
 static LONG_LINES: &[u8] =
     b"abc\nabc\nabc\nabc\nabc\nabc\nabc\nabc\nabc\na\nabc\nabc\nabc\nabc\nabc\nabc\nabc\nabc\nabcd";
 
-/// What is told of the first sixteen.
+/// The explanations of the first sixteen lines.
 static LONG_TOLD: &[u8] =
     b"long\nlong\nlong\nlong\nlong\nlong\nlong\nlong\nlong\nlong\nlong\nlong\nlong\nlong\nlong\nlong\n";
 

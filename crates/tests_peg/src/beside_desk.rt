@@ -11,10 +11,12 @@ use ruletable::Memory;
 use std::alloc::Global;
 use testio::{Fields, Text};
 
-/// Both machines.
+/// Both machines, whose answers must agree.
 #[derive(Drop)]
 struct Machines {
+    /// The matcher of the programs.
     packrat: Packrat,
+    /// The plain evaluator.
     desk: Desk,
 }
 

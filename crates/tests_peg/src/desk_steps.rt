@@ -35,7 +35,7 @@ fn answered(
     Ok(None)
 }
 
-/// Returns what the steps of a machine on a window answer, and how many there are.
+/// Returns the answer of a machine on a window, and the number of its steps.
 pub(crate) fn evaluated(
     desk: &mut Desk,
     peg: &SoundPeg,

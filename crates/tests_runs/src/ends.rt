@@ -9,14 +9,18 @@ use std::alloc::Global;
 use std::cell::Cell;
 use testio::{ALL, Paper, Takes, Tape};
 
-/// The ends of a run: an input that is given by so many bytes a call, whether its reader fails behind it, and what both
-/// outputs take, by as many bytes.
+/// The ends of a run: its reader and its writers.
 #[derive(Drop)]
 pub struct Ends<'a> {
+    /// The bytes of the input.
     pub input: &'a [u8],
+    /// How many bytes a call gives or takes.
     pub step: usize,
+    /// Whether the reader fails after the input.
     pub torn: bool,
+    /// The limits of the output.
     pub out: Takes,
+    /// The limits of the error output.
     pub err: Takes,
 }
 
@@ -33,14 +37,18 @@ impl<'a> Ends<'a> {
     }
 }
 
-/// What a run leaves: its status, how many bytes are left to the reader, what both outputs hold, and when each was
-/// flushed: from 1, 0 for never, and 99 for more than once.
+/// The ends of a run after it.
 #[derive(Drop)]
 pub struct Ended {
+    /// The exit status.
     pub status: Status,
+    /// How many bytes are left to the reader.
     pub left: usize,
+    /// All of the output.
     pub out: Vec<u8>,
+    /// All of the error output.
     pub err: Vec<u8>,
+    /// When each output was flushed, counted from 1: 0 for never, and 99 for more than once.
     pub flushed: (u32, u32),
 }
 
@@ -70,12 +78,14 @@ pub const ABNF: AbnfOptions = AbnfOptions {
     numbered: false,
 };
 
-/// What a run is asked for: what to do with the grammar, how many bytes a unit or a line may have, and whether messages
-/// are explained.
+/// The settings of a run that tests change.
 #[derive(Clone, Copy)]
 pub struct Wanted {
+    /// The mode of the run.
     pub mode: Mode,
+    /// How many bytes a unit or a line may have.
     pub limit: usize,
+    /// Whether messages are explained.
     pub explain: bool,
 }
 

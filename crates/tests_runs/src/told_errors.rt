@@ -1,4 +1,4 @@
-//! Error outputs that fail within what explains a grammar's fault, a stop or a refused line.
+//! Error outputs that fail within what explains a grammar's fault, a stop or a rejected line.
 
 use crate::ends::{Ends, Tool, Wanted, run_over};
 use fanquber::{DEFAULT_LIMIT, Mode, Status};

@@ -52,7 +52,7 @@ const PLAIN: Written = (
     b"",
 );
 
-/// A grammar with two notes, which stand before what the run tells.
+/// A grammar with two notes, which stand before the messages of the run.
 const NOTED: Written = (
     Mode::Run,
     b"S <- 'a' {x}\nT <- 'b'\nU <- 'c'",
@@ -69,7 +69,7 @@ const PRINTED: Written = (
     b"",
 );
 
-/// A grammar with the same notes that is refused.
+/// A grammar with the same notes that is rejected.
 const REFUSED: Written = (
     Mode::Run,
     b"S <- S 'a' {x}\nT <- 'b'\nU <- 'c'",
@@ -81,7 +81,7 @@ const REFUSED: Written = (
 /// A rule that is defined twice.
 const AGAIN: Written = (Mode::Print, b"S <- 'a'\nS <- 'b'", b"aaa", b"", b"");
 
-/// Checks that the output holds a prefix where it fails at a byte, that this is told after the notes, and that an
+/// Checks that the output holds a prefix where it fails at a byte, that this is reported after the notes, and that an
 /// output that failed is not flushed.
 fn check_failing_out<R: Abort + AllocGlobal>(rt: &R, row: &Written, told: &[u8]) {
     let whole = row.3;
@@ -136,7 +136,7 @@ fn check_flushes<R: Abort + AllocGlobal>(rt: &R, row: &Written, ends: Status) {
     assert!(rt; ran.is(row.3, row.4, ends) && ran.flushed == (1, 2));
 }
 
-/// Checks the run where the output fails in its flush, which is told, and where the error output does.
+/// Checks the run where the output fails in its flush, which is reported, and where the error output does.
 fn check_failing_flushes<R: Abort + AllocGlobal>(rt: &R, row: &Written, told: &[u8]) {
     let ran = run_row(rt.alloc(), row, UNFLUSHED, ALL);
     assert!(rt; ran.is(row.3, told, Status::Fault));
@@ -156,6 +156,7 @@ fn both_outputs_are_flushed_once(rt: HostRuntime) {
 /// A writer that takes all, and counts the calls.
 #[derive(Drop)]
 struct Counter {
+    /// The number of calls.
     calls: u32,
 }
 

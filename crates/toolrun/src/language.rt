@@ -16,10 +16,10 @@ use feed::Source;
 use ruletable::{Memory, Note, ReadFault, Sink, WriteFault};
 use std::alloc::Global;
 
-/// What the checks of a grammar gave.
+/// The result of the checks of a grammar.
 #[derive(Drop)]
 pub struct Checked<J> {
-    /// What there is to say of it, in order.
+    /// The notes on it, in order.
     pub notes: Vec<Note>,
     /// The grammar, unless a note rejects it.
     pub judged: Option<J>,
@@ -27,10 +27,10 @@ pub struct Checked<J> {
 
 /// A language of grammars: how a text is read, checked and printed, and what a grammar is run for.
 pub trait Language {
-    /// What settings ask for in this language alone.
+    /// The settings of this language alone.
     type Options: Drop;
 
-    /// What a text is read as.
+    /// A grammar that was read.
     type Grammar: Drop;
 
     /// A grammar that was checked and that no note rejects.
@@ -42,40 +42,40 @@ pub trait Language {
     /// Where a text says what explains notes on its grammar.
     type Places: Drop;
 
-    /// What is stated for a grammar's text, settings and an input: the notes, and what follows them.
+    /// Which notes, and which reply after them, are stated for a grammar's text, settings and an input.
     ghost states: { List ℕ → AllSettings Self.Options → Input → List ℕ → Reply → Type 0 };
 
-    /// What is wrong with a text.
+    /// Which faults a text has.
     ghost has_fault: { List ℕ → Fault → Type 0 };
 
-    /// What explains a fault of a text: the lines after its message.
+    /// Which lines explain a fault of a text, after its message.
     ghost explains: { List ℕ → Fault → List ℕ → Type 0 };
 
-    /// What such places of a text are, where a name is given for the start rule.
+    /// Which positions a text has, where a name may be given for the start rule.
     ghost are_places: { List ℕ → Option (List ℕ) → Self.Places → Type 0 };
 
-    /// What explains a note on the grammar of a text, where a name is given for the start rule: the lines after it.
+    /// Which lines explain a note on the grammar of a text, where a name may be given for the start rule.
     ghost explains_note: { List ℕ → Option (List ℕ) → Said → List ℕ → Type 0 };
 
-    /// What else there is to say of the grammar of a text, as settings ask: its hints.
+    /// Which hints there are on the grammar of a text, as settings ask.
     ghost are_hints: { List ℕ → AllSettings Self.Options → List ℕ → Type 0 };
 
-    /// What a text is read as.
+    /// Which grammar a text is read as.
     ghost is_read: { List ℕ → Self.Grammar → Type 0 };
 
-    /// What is noted of a text's grammar for the name of a start rule, and the grammar unless a note rejects it.
+    /// Which notes there are on a text's grammar for the name of a start rule, and the grammar unless one rejects it.
     ghost is_checked: { List ℕ → Option (List ℕ) → List Said → Option Self.Judged → Type 0 };
 
-    /// What is noted of a text's grammar for the name of a start rule, and what is ready to run.
+    /// Which notes there are on a text's grammar for the name of a start rule, and the form that is ready to run.
     ghost is_ready: { List ℕ → Option (List ℕ) → List Said → Self.Sound → Type 0 };
 
-    /// What is noted of a text's grammar that is only to be printed.
+    /// Which notes there are on a text's grammar that is only to be printed.
     ghost is_printable: { List ℕ → Self.Grammar → List Said → Type 0 };
 
     /// The canonical text of a grammar.
     ghost canonical: { Self.Grammar → List ℕ };
 
-    /// What a run of a grammar states for settings and an input.
+    /// Which reply a run of a grammar states for settings and an input.
     ghost runs: { Self.Sound → AllSettings Self.Options → Input → Reply → Type 0 };
 
     /// Reads a grammar's text.

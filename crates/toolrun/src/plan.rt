@@ -1,4 +1,4 @@
-//! What is to be done for a grammar's text.
+//! Plans for a grammar's text.
 ghost use Rattle.std.specs.Prelude.{◌≡◌, ◌≢◌, ℕ, List, Option, Some, [], Err, IfOk, IfErr, map, true};
 ghost use Rattle.ruletable.specs.Notes.{Said, said_of};
 ghost use Rattle.toolrun.specs.Plan.{IsPlanned, first_text};
@@ -17,7 +17,7 @@ use crate::told::{Told, told_hints, told_notes};
 use ruletable::{Memory, Note, ReadFault};
 use std::alloc::Global;
 
-/// What is left to do with a grammar when its notes are written.
+/// The task with a grammar that follows its notes.
 #[derive(Drop)]
 pub enum Task<G, S> {
     /// Its canonical text is printed.
@@ -37,18 +37,22 @@ pub enum First {
     Fault { fault: ReadFault, why: Vec<u8> },
 }
 
-/// What is to be done for a grammar's text: the first messages are written, and then the task is performed, or the run
-/// stops at once.
+/// The plan for a grammar's text. It is made before any output, so that a run, a call from C and a run on windows share
+/// it.
 #[derive(Drop)]
 pub struct Plan<G, S> {
+    /// The messages to write first.
     pub first: First,
+    /// The task to perform then, or the stop of a run that ends at once.
     pub task: Result<Task<G, S>, Stop>,
 }
 
-/// A grammar that was read, and the notes on the rules that it defines again.
+/// A grammar that is only to be printed.
 #[derive(Drop)]
 struct Printable<G> {
+    /// The grammar.
     grammar: G,
+    /// The notes on the rules that it defines again.
     again: Vec<Note>,
 }
 
@@ -65,8 +69,8 @@ fn read_again<L: Language>(alloc: Global, text: &[u8]) -> Result<Printable<L::Gr
     }
 }
 
-/// Returns what is left to do with a checked grammar: it is made ready and run, unless it was to be checked alone.
-/// `Memory` if an allocation fails.
+/// Makes the task with a checked grammar: makes the grammar ready to run, unless it was to be checked alone. `Memory`
+/// if an allocation fails.
 fn task_of<L: Language>(
     alloc: Global,
     mode: Mode,

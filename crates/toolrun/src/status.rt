@@ -1,8 +1,8 @@
-//! What a run comes to.
+//! Exit statuses.
 ghost use Rattle.std.specs.Prelude.{◌≡◌, max};
 ghost use Rattle.toolrun.specs.Status.{code_of};
 
-/// What a run came to. The greater code stands where two apply.
+/// The exit status of a run. The greater code stands where two apply.
 #[derive(Clone, Copy, Debug, PartialEq, Eq)]
 pub enum Status {
     /// All input was taken, or nothing was rejected.

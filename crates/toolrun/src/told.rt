@@ -47,8 +47,8 @@ fn push_why<L: Language>(
     Ok(())
 }
 
-/// Returns notes, each with the lines that explain it by places. Where an allocation fails, the first of them, the last
-/// perhaps without.
+/// Returns notes, each with the lines that explain it by positions. Where an allocation fails, the first of them, the
+/// last perhaps without.
 fn told_by<L: Language>(
     alloc: Global,
     places: &L::Places,

@@ -21,7 +21,7 @@ pub fn count_abnf_rules(alloc: Global, text: &[u8]) -> Result<usize, ReadFault>
 }
 
 /// Returns the grammar of a text with its judged rule, which is that of the name, or else the first; none if the
-/// grammar is refused.
+/// grammar is rejected.
 pub fn load_abnf(
     alloc: Global,
     text: &[u8],

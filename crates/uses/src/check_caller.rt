@@ -8,7 +8,7 @@ use pegread::read_peg;
 use ruletable::{Memory, ReadFault};
 use std::alloc::Global;
 
-/// Returns the grammar of a text, ready to run from its first rule; none if a note refuses it.
+/// Returns the grammar of a text, ready to run from its first rule; none if a note rejects it.
 pub fn load_peg(alloc: Global, text: &[u8]) -> Result<Option<SoundPeg>, ReadFault>
     ensures loaded { IfOk result (λ sound. IsLoaded text.now sound) }
     ensures fault { IfErr result (λ f. IsFaultOf text.now f) }

@@ -11,9 +11,10 @@ use ruletable::{Memory, Sink, WriteFault};
 use std::alloc::Global;
 use toolrun::Ending;
 
-/// Judges lines by their first byte, and tells what the refused ones lack.
+/// A judge of lines by their first byte. It explains what the rejected ones lack.
 #[derive(Drop)]
 pub struct Comments {
+    /// Allocates the explanations.
     alloc: Global,
 }
 
@@ -48,8 +49,8 @@ impl Judge<()> for Comments {
     fn decided(&self) {}
 }
 
-/// Writes `yes` for each line of an input that begins with `#`, and `no` for any other. The ending holds what is told
-/// of the first 16 lines that are refused, and how many more there are.
+/// Writes `yes` for each line of an input that begins with `#`, and `no` for any other. The ending holds the
+/// explanations of the first 16 lines that are rejected, and how many more there are.
 pub fn answer_comments<R: Source, O: Sink>(
     alloc: Global,
     reader: &mut R,

@@ -9,9 +9,9 @@ use memoryrun::{Outputs, run_opened};
 use pegrun::{OpenedPeg, PegSettings, open_peg};
 use std::alloc::Global;
 
-/// Opens a grammar in ABNF, and returns the answers to two lines, each of at most as many bytes as the settings allow:
-/// what runs of the grammar on each line alone answer, without what explains it. None where the text is no grammar, the
-/// grammar is refused, or an allocation fails.
+/// Opens a grammar in ABNF, and returns the answers to two lines, each of at most as many bytes as the settings allow.
+/// They are the answers of runs of the grammar on each line alone, without explanations. Returns none if the text is no
+/// grammar, the grammar is rejected, or an allocation fails.
 pub fn answer_both(
     alloc: Global,
     grammar: &[u8],
@@ -39,8 +39,8 @@ pub fn answer_both(
     Some((one, other))
 }
 
-/// Opens a grammar of peg(1), and returns what it writes on two inputs, behind what is told of the grammar: what runs
-/// of the grammar on each input alone write. None where the text is no grammar, the grammar is refused, or an
+/// Opens a grammar of peg(1), and returns what it writes on two inputs, after the messages on the grammar: what runs
+/// of the grammar on each input alone write. None where the text is no grammar, the grammar is rejected, or an
 /// allocation fails in opening it.
 pub fn run_both(
     alloc: Global,

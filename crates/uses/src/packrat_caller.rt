@@ -18,7 +18,7 @@ use packrat::Packrat;
 use pegmatch::ReplayFault;
 use std::alloc::Global;
 
-/// Returns what the actions of the start rule print at the front of a text, each node evaluated once at each place;
+/// Prints the actions of the start rule at the front of a text, and evaluates each node once at each position. Returns
 /// none if the rule fails there.
 pub fn print_once(
     alloc: Global,
@@ -31,8 +31,8 @@ pub fn print_once(
     print_text(alloc, &mut matcher, peg, text)
 }
 
-/// Where the packrat matcher and the plain machine have ended on a unit, the cells that the stored keys of the first
-/// imply are those of the second, pair for pair, and both have begun as many evaluations.
+/// States that the packrat matcher and the plain machine agree once both have ended on a unit. The cells that the
+/// stored keys of the first imply are those of the second, pair for pair. Both have begun as many evaluations.
 pub fn same_cells()
     ensures cells { (g : Grammar) (x : List ℕ) (more : Bool) → IsSoundGrammar g → HasKeys g →
         (matched : packrat.Contents) (stepped : desk.View) → packrat.IsDone g x more g.keys matched →

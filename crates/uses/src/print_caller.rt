@@ -33,7 +33,7 @@ pub fn canonical_text(alloc: Global, text: &[u8]) -> Result<Option<Vec<u8>>, Rea
 }
 
 /// Returns the grammar that the canonical text of a grammar's text reads as; none where `canonical_text` returns none.
-/// Reading the canonical text fails only for want of memory.
+/// Reading the canonical text fails only if an allocation fails.
 pub fn read_again(alloc: Global, text: &[u8]) -> Result<Option<Peg>, ReadFault>
     ensures same { IfOk result (λ again. IfSome again (λ peg.
         (definitions : List Rule) × Reads text.now definitions ×

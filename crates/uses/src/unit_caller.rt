@@ -23,7 +23,7 @@ pub fn match_text<M: Matcher>(
     }
 }
 
-/// Returns what the actions of the start rule print at the front of a text; none if the rule fails there.
+/// Prints the actions of the start rule at the front of a text. Returns none if the rule fails there.
 pub fn print_text<M: Matcher>(
     alloc: Global,
     matcher: &mut M,

@@ -1,10 +1,10 @@
-//! What stands nearest before a line.
+//! The nearest content before a line.
 ghost use Rattle.std.specs.Prelude.{◌≡◌};
 ghost use Rattle.abnfblocks.specs.KeptSteps.{goes_behind, next_behind};
 
 use crate::rfctext::line_kind::LineKind;
 
-/// What stands nearest before a line, but for blank lines.
+/// The nearest content before a line, blank lines left out.
 #[derive(Clone, Copy)]
 pub(crate) enum Before {
     /// Nothing, or a line that stays.

@@ -48,10 +48,12 @@ fn take_line<'a>(
     Ok(())
 }
 
-/// What stands before the end of a line, and what stands after it.
+/// A text, cut at the end of its first line.
 #[derive(Clone, Copy)]
 struct Parts<'a> {
+    /// The bytes before that end.
     first: &'a [u8],
+    /// The bytes after it.
     rest: &'a [u8],
 }
 

@@ -5,7 +5,7 @@ ghost use Rattle.abnfblocks.specs.LineKinds.{kind_of};
 
 use crate::rfctext::line_tests::{is_blank_line, is_dated, is_foot};
 
-/// What a line of a text looks like.
+/// The look of a line of a text.
 #[derive(Clone, Copy)]
 pub enum LineKind {
     /// It holds nothing but blanks.

@@ -92,10 +92,12 @@ fn number_or_zero(numbers: &[usize], i: usize) -> usize
     }
 }
 
-/// The next lines of a text: how many, and whether they are masked.
+/// The next lines of a text, which are masked or not together.
 #[derive(Clone, Copy)]
 struct Step {
+    /// How many lines.
     count: usize,
+    /// Whether they are masked.
     masks: bool,
 }
 

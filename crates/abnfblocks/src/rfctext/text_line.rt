@@ -13,7 +13,9 @@ use crate::rfctext::line_tests::count_feeds;
 pub struct TextLine<'a> {
     /// The line's number in the text, from 1.
     pub number: usize,
+    /// The bytes of the line.
     pub bytes: &'a [u8],
+    /// The look of the line.
     pub kind: LineKind,
 }
 

@@ -21,7 +21,7 @@ pub(crate) enum Listed {
     Definitions,
     /// Definitions that have elements.
     Elements,
-    /// What adds to a definition.
+    /// Alternatives that are added to a definition (`=/`).
     Additions,
 }
 

@@ -1,4 +1,4 @@
-//! What becomes of the rules.
+//! Fates of rules.
 ghost use Rattle.std.specs.Prelude.{◌≡◌, ◌<◌, ◌≤◌, length, map, take, IfOk};
 ghost use Rattle.abnftexts.specs.GivenRules.{text_rule, first_wanted, first_same, fate_of, fates_of};
 ghost use Rattle.abnftexts.specs.ListedRules.{ListKeys, ListNames};
@@ -12,7 +12,7 @@ use diagnostics::add_number;
 use ruletable::{Memory, NameCase, RuleTable};
 use std::alloc::Global;
 
-/// What becomes of a rule. Rules count from 0, in the order in which the texts give them.
+/// The fate of a rule. Rules count from 0, in the order in which the texts give them.
 #[derive(Clone, Copy)]
 pub enum Fate {
     /// It stands.
@@ -89,7 +89,7 @@ fn fate_at(
     Ok(Fate::Stands)
 }
 
-/// Returns what becomes of each rule, in order. Each is looked up by its name and by its elements.
+/// Returns the fate of each rule, in order. Each is looked up by its name and by its elements.
 ///
 /// # Errors
 /// `Memory` if an allocation fails.

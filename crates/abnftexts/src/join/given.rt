@@ -10,8 +10,11 @@ use abnfread::Elem;
 /// A rule as a text gives it: a definition (`=`), or alternatives that are added to one (`=/`).
 #[derive(Drop)]
 pub struct GivenRule {
+    /// Whether it adds alternatives (`=/`).
     pub adds: bool,
+    /// The name, as it is spelled.
     pub name: Vec<u8>,
+    /// The elements.
     pub body: Elem,
 }
 

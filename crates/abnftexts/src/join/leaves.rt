@@ -22,7 +22,7 @@ fn is_same_spelling(folds: bool, a: &[u8], b: &[u8]) -> bool
     if folds { is_same_folded(a, b) } else { a == b }
 }
 
-// Whether both are true, or both false.
+/// Returns whether two flags of rules are both true, or both false.
 pub(crate) fn is_same_flag(a: bool, b: bool) -> bool
     ensures { result ≡ same_flag a b }
 {

@@ -10,10 +10,12 @@ use diagnostics::numbers_of;
 use ruletable::{Memory, NameCase, RuleTable};
 use std::alloc::Global;
 
-/// Two definitions of one name, by their numbers: the first one, and another.
+/// Two definitions of one name. Rules count from 0, in the order in which they stand in the list.
 #[derive(Clone, Copy)]
 pub struct Clash {
+    /// The number of the first definition.
     pub first: usize,
+    /// The number of the other one.
     pub second: usize,
 }
 

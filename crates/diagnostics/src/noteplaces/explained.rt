@@ -1,4 +1,4 @@
-//! What a grammar's text explains of notes.
+//! Explains notes by a grammar's text.
 ghost use Rattle.std.specs.Prelude.{◌≡◌, ◌++◌, ℕ, List, length, map, IfOk, OnOk, option_copied};
 ghost use Rattle.lexer.specs.TokenLists.{AreTokens, tok_of};
 ghost use Rattle.ruletable.specs.Notes.{said, said_of};
@@ -80,9 +80,12 @@ fn push_lines(
     }
 }
 
-/// Returns the lines that explain a note on the grammar, where a name may be given for the start rule: where the note's
-/// rule is first defined, and where it is defined again; the use by which a name is noted that no rule has; the first
-/// prose of a rule. There are none for notes of other kinds.
+/// Returns the lines that explain a note on the grammar. A name may be given for the start rule.
+///
+/// - On a rule that is defined again: where it is first defined, and where it is defined again.
+/// - On a name that no rule has: its first use.
+/// - On a rule with prose: its first prose.
+/// - Notes of other kinds have no lines.
 ///
 /// # Errors
 /// `Memory` if an allocation fails.

@@ -23,19 +23,25 @@ pub struct Head {
     pub start: usize,
 }
 
-/// A token, and what it is to the definitions.
+/// A token with its role in the definitions.
 #[derive(Clone, Copy)]
 pub(crate) struct Signed<'a> {
+    /// The role.
     pub(crate) sign: Sign,
+    /// The bytes of the token.
     pub(crate) slice: &'a [u8],
+    /// Where the token begins, in bytes from the front of the text.
     pub(crate) start: usize,
 }
 
-// The name of a definition, where it begins, and whether the definition adds to a rule.
+/// The beginning of a definition.
 #[derive(Clone, Copy)]
 pub(crate) struct Opening<'a> {
+    /// The name.
     pub(crate) name: &'a [u8],
+    /// Where the name begins, in bytes from the front of the text.
     pub(crate) start: usize,
+    /// Whether the definition adds to a rule.
     pub(crate) adds: bool,
 }
 

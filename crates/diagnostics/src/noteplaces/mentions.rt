@@ -1,4 +1,4 @@
-//! What the bodies of a grammar's rules mention: names, prose, repetitions, numbers and literals.
+//! Mentions in the bodies of a grammar's rules: names, prose, repetitions, numbers and literals.
 ghost use Rattle.std.specs.Prelude.{◌≡◌, ◌++◌, length, map, IfOk, OnOk, option_map};
 ghost use Rattle.lexer.specs.TokenLists.{AreTokens, tok_of};
 ghost use Rattle.ruletable.specs.Lines.{line_at};
@@ -11,7 +11,7 @@ use lexer::{Kind, Token, tokens_make_up};
 use ruletable::{LineRule, Memory};
 use std::alloc::Global;
 
-/// What a mention is.
+/// The kind of a mention.
 #[derive(Clone, Copy)]
 pub enum MentionKind {
     /// A name that is used.
@@ -78,7 +78,7 @@ fn push_mention(
     Ok(())
 }
 
-/// Returns what the bodies of a text with these tokens mention, in order. `Memory` if an allocation fails.
+/// Finds the mentions in the bodies of a text with these tokens, in order. `Memory` if an allocation fails.
 pub(crate) fn mentions_of<K: Kind, S: Signs<K>>(
     alloc: Global,
     text: &[u8],

@@ -44,7 +44,7 @@ pub fn numbers_of<'a>(lists: &'a RuleTable<Vec<usize>>, name: &[u8]) -> Result<&
     }
 }
 
-/// Returns what has these positions, in order.
+/// Returns the items at these indices, in order.
 ///
 /// `Memory` if an allocation fails.
 pub(crate) fn items_at<'a, T>(

@@ -1,4 +1,4 @@
-//! What a grammar's text says of its rules.
+//! Positions of a grammar's definitions and mentions.
 ghost use Rattle.diagnostics.specs.NameIndexes.{ListBodies, ListHeads, ListUses, Rises, Rises-prop, starts_of};
 
 use crate::noteplaces::heads::Head;
@@ -13,8 +13,9 @@ pub struct Places {
     pub names: NameCase,
     /// The definitions, in order.
     pub heads: Vec<Head>,
-    /// What their bodies mention, in order.
+    /// The mentions in their bodies, in order.
     pub mentions: Vec<Mention>,
+    /// Finds the definitions and the mentions by name.
     pub(crate) index: NameIndex,
     ghost rise: { Rises 0 (starts_of heads.items) } by { Rises-prop 0 (starts_of heads.items) },
     ghost heads_listed: { ListHeads names heads.items index.heads },

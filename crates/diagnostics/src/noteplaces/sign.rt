@@ -1,7 +1,7 @@
-//! What tokens are to the definitions of a grammar.
+//! Roles of tokens in the definitions of a grammar.
 ghost use Rattle.std.specs.Prelude.{◌≡◌};
 
-/// What a token is to the definitions of a grammar.
+/// The role of a token in the definitions of a grammar.
 #[derive(Clone, Copy)]
 pub enum Sign {
     /// A name, of a rule that is defined or used.
@@ -22,13 +22,13 @@ pub enum Sign {
     Other,
 }
 
-/// What the tokens of the kinds of a language are to the definitions of a grammar.
+/// The roles of the kinds of a language's tokens in the definitions of a grammar.
 pub trait Signs<K> {
     ghost use Rattle.diagnostics.specs.declared.noteplaces.sign.Sign.{Sign};
 
     ghost sign_of: { K → Sign };
 
-    /// Returns what a token of the kind is.
+    /// Returns the role of a token of the kind.
     fn sign(kind: K) -> Sign
         ensures { result ≡ sign_of kind };
 }

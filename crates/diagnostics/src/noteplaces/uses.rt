@@ -20,10 +20,12 @@ use crate::picture::{push_cut, push_number};
 use ruletable::{Memory, NameCase};
 use std::alloc::Global;
 
-/// A mention, and the rule in which it stands.
+/// A mention with its rule.
 #[derive(Clone, Copy)]
 pub(crate) struct Found<'a> {
+    /// The rule in whose body it stands.
     rule: &'a Head,
+    /// The mention.
     mention: &'a Mention,
 }
 

@@ -1,14 +1,15 @@
-//! The line of a place.
+//! The line of a position.
 ghost use Rattle.std.specs.Prelude.{◌≡◌, ◌≤◌, length, take};
 ghost use Rattle.diagnostics.specs.LinesAround.{breaks, begins_lf, line_size, bytes_before, line_text};
 
 use ruletable::LineRule;
 
-/// The line of a place in a text, without what ends it, and where in that line the place is.
+/// The line of a position in a text.
 #[derive(Clone, Copy)]
 pub struct LineAround<'a> {
+    /// The bytes of the line, without its end.
     pub line: &'a [u8],
-    /// How many bytes of the line stand before the place.
+    /// How many bytes of the line stand before the position.
     pub before: usize,
 }
 
@@ -64,7 +65,7 @@ fn count_behind(text: &[u8], rule: LineRule) -> usize
     size
 }
 
-/// Returns the line of the place at an offset. Lines end with LF or CR LF, and under `Any` also with CR.
+/// Returns the line of the position at an offset. Lines end with LF or CR LF, and under `Any` also with CR.
 pub fn line_around(text: &[u8], offset: usize, rule: LineRule) -> LineAround<'_>
     requires { offset ≤ length text.now }
     ensures line { result.line.now ≡ line_text rule text.now offset }

@@ -51,7 +51,7 @@ fn push_right(out: &mut Vec<u8>, place: LineAround<'_>) -> Result<(), Memory>
     push_dots(out, limit < line.len())
 }
 
-/// Adds a picture of a place: its line, and below it a caret under the byte there, both after two spaces. Of a long
+/// Adds a picture of a position: its line, and below it a caret under the byte there, both after two spaces. Of a long
 /// line 72 bytes are shown, with `..` where others are left out.
 ///
 /// # Errors
@@ -71,8 +71,8 @@ pub fn push_picture(out: &mut Vec<u8>, place: LineAround<'_>) -> Result<(), Memo
     Ok(())
 }
 
-/// Adds a picture of the place at an offset of a text, and `column C: ` for what is reported of it, where C counts the
-/// bytes of the line from 1.
+/// Adds a picture of the position at an offset of a text, and `column C: ` for what is reported of it, where C counts
+/// the bytes of the line from 1.
 ///
 /// # Errors
 /// `Memory` if an allocation fails.

@@ -1,14 +1,16 @@
-//! What the first bytes of a text show.
+//! Facts that the first bytes of a text show.
 ghost use Rattle.std.specs.Prelude.{◌≡◌, ◌++◌, [], map, OnOk, MatchOption};
 ghost use Rattle.diagnostics.specs.FirstBytes.{first_told, fact_line};
 ghost use Rattle.diagnostics.specs.FactRows.{row_of};
 
 use ruletable::Memory;
 
-/// What is reported of a text that begins so.
+/// A report on the texts with a prefix.
 #[derive(Clone, Copy)]
 pub struct Fact {
+    /// The prefix.
     pub begins: &'static [u8],
+    /// The report.
     pub told: &'static [u8],
 }
 

@@ -1,4 +1,4 @@
-//! Laws of stacks of places.
+//! Laws of stacks of dotted rules.
 ghost use Rattle.std.specs.Prelude.{◌≡◌, ◌↔◌, ◌++◌, ◌+◌, ◌∷◌, ℕ, true, false, Bool, List, [], Some, Contains};
 ghost use Rattle.std.specs.Prelude.{slice_get};
 ghost use Rattle.flatgrammar.specs.Flat.{Flat, Place, Concat};
@@ -7,7 +7,7 @@ ghost use Rattle.flatgrammar.specs.Holds.{HasItem};
 ghost use Rattle.letterclasses.specs.Stacks.{Reach, Accepts, ReadBy, TellsLast, AreUncounted, AreAlike};
 ghost use Rattle.letterclasses.specs.Stacks.{IsPlain, IsFront, IsNext, IsUnfolded, Lifted, IsReading};
 
-/// Returns nothing. Its contract is a law: stacks and item sets hold the same places, and accept the same lines.
+/// Returns nothing. Its contract is a law: stacks and item sets hold the same dotted rules, and accept the same lines.
 pub fn stacks_tell()
     ensures { (flat : Flat) (last : Place → Bool) (body : ℕ) (x : List ℕ) → TellsLast flat last → AreUncounted flat
         → slice_get flat.nodes flat.whole ≡ Some (Concat (body ∷ [])) → (j : ℕ) →
@@ -15,9 +15,9 @@ pub fn stacks_tell()
         (((stack : List Place) × Reach flat last x j stack) ↔ HasItem flat x j) }
 {}
 
-/// Returns nothing. Its contract is a law: a transition, computed from tops alone and for one letter of a class, leads
-/// from the front before a letter of that class to the front after it; and something is reached after it exactly if a
-/// top reads it.
+/// Returns nothing. Its contract is a law of transitions, each computed from tops alone and for one symbol of a class.
+/// It leads from the front before a symbol of that class to the front after it. Something is reached after the symbol
+/// exactly if a top reads it.
 pub fn a_letter_leads_on()
     ensures { (flat : Flat) (last : Place → Bool) (x : List ℕ) (j c d : ℕ) → slice_get x j ≡ Some c →
         AreAlike flat c d → (tops : List (List Place)) (below : List Place) →
@@ -28,8 +28,8 @@ pub fn a_letter_leads_on()
         IsFront flat last x (j + 1) (Contains next) ended below) }
 {}
 
-/// Returns nothing. Its contract is a law: tops of which one has ended are put on what was split off below them, and
-/// what is on all tops alike can be split off; a front that has not ended, or has nothing below, is plain.
+/// Returns nothing. Its contract is a law of shared suffixes. A suffix of all tops can be split off. Tops of which one
+/// has ended are put back on the suffix. A front that has not ended, or has nothing below, is plain.
 pub fn parts_are_moved()
     ensures { (flat : Flat) (last : Place → Bool) (x : List ℕ) (j : ℕ) (tops : List (List Place)) →
         ((part below : List Place) (next : List (List Place)) (ended : Bool) → (part ≡ [] → ⊥) →

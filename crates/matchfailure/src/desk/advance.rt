@@ -6,7 +6,7 @@ ghost use Rattle.matchfailure.specs.declared.desk.frame.Frame.{Frame};
 use crate::desk::frame::{Frame, Frames};
 use ruletable::Memory;
 
-/// Returns the frame of a node at a place that begins.
+/// Returns the frame of a node at a position that begins.
 pub(crate) fn beginning(node: usize, place: usize) -> Frame
     ensures { result ≡ begun_at node place }
 {
@@ -18,7 +18,7 @@ pub(crate) fn beginning(node: usize, place: usize) -> Frame
     }
 }
 
-/// Brings the last frame further; it asks for a node at a place.
+/// Brings the last frame further; it asks for a node at a position.
 pub(crate) fn advance(
     frames: &mut Frames,
     next: usize,

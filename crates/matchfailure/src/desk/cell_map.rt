@@ -9,16 +9,17 @@ use std::alloc::Global;
 use std::collections::HashMap;
 use std::marker::Model;
 
-/// A node at a place.
+/// A node at a position.
 #[derive(Clone, Copy, PartialEq, Eq, Hash)]
 pub(crate) struct Pair {
     pub(crate) node: usize,
     pub(crate) place: usize,
 }
 
-/// What was found for pairs of a node and a place, seen as the list of its entries.
+/// The memo table of a desk: the outcomes of pairs of a node and a position. Contracts see the list of its entries.
 #[derive(Drop)]
 pub(crate) struct CellMap {
+    /// The outcome of each pair.
     cells: HashMap<Pair, Found>,
 }
 
@@ -56,14 +57,14 @@ impl CellMap {
         self.cells.clear();
     }
 
-    /// Returns what the node gave at the place, if it has a cell there.
+    /// Returns the outcome of the node at the position, if it has a cell there.
     pub(crate) fn get(&self, node: usize, place: usize) -> Option<Found>
         ensures { result ≡ found_at self.now node place }
     {
         self.cells.get(&Pair { node, place }).copied()
     }
 
-    /// Adds a cell. The node must have none at that place.
+    /// Adds a cell. The node must have none at that position.
     ///
     /// # Errors
     /// `Memory` if an allocation fails; no cell is added.

@@ -1,4 +1,4 @@
-//! The machine that evaluates each node at each place at most once.
+//! The machine that evaluates each node at each position at most once.
 ghost use Rattle.std.specs.Prelude.{◌≡◌, ℕ, ◌+◌, ◌*◌, ◌<◌, ◌≤◌, Bool, List, [], ◌∷◌, length, true, slice_get, Some};
 ghost use Rattle.std.specs.Prelude.{IfOk, OnOk, OnErr};
 ghost use Rattle.gramcheck.specs.Grammar.{IsSoundGrammar};
@@ -17,14 +17,21 @@ use ruletable::Memory;
 use std::alloc::Global;
 use std::marker::Model;
 
-/// A machine that keeps the outcomes so far by node and place, and evaluates each node at each place at most once.
+/// A plain packrat evaluator (Ford 2002). It memoizes the outcome of every node at every position that it evaluates, so
+/// it evaluates none twice.
 ///
-/// It is seen as its cells, the frames of what is under way with the last one first, and how many evaluations were
-/// begun. It recurses nowhere: its depth is that of its frames.
+/// It works in small steps on an explicit stack, so that deep nesting takes no call stack. A pair has either a frame or
+/// a cell: a step pushes the frame of one child, or turns the last frame into its cell. It serves the search for the
+/// farthest failure, which needs every cell.
+///
+/// Contracts see the cells, the frames with the last one first, and how many evaluations were begun.
 #[derive(Drop)]
 pub struct Desk {
+    /// The outcomes so far.
     cells: CellMap,
+    /// The evaluations under way.
     frames: Frames,
+    /// How many evaluations were begun.
     begun: u128,
 }
 
@@ -117,7 +124,7 @@ impl Desk {
         self.cells.len()
     }
 
-    /// Returns what the node gave at the place, if it has a cell there.
+    /// Returns the outcome of the node at the position, if it has a cell there.
     pub fn found(&self, node: usize, place: usize) -> Option<Found>
         ensures { result ≡ found_at self.now.cells node place }
     {
@@ -154,8 +161,8 @@ impl Desk {
         Ok(())
     }
 
-    /// Goes on with the last frame: pushes one frame; or turns the last frame into its cell, which is the answer where
-    /// it was the only one; or answers `Need`, and leaves the desk as it was.
+    /// Steps the last frame. It pushes the frame of a child, or turns the last frame into its cell; the cell of the
+    /// only frame is the answer. Or it answers `Need`, and leaves the desk as it was.
     ///
     /// # Errors
     /// `Memory` if an allocation fails; the desk is empty.

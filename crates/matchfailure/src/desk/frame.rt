@@ -6,18 +6,23 @@ use ruletable::Memory;
 use std::alloc::Global;
 use std::marker::Model;
 
-/// A node at a place, with how many of its members or alternatives are done, and where those before end.
+/// An entry of the parsing stack: the evaluation of a node at a position.
 #[derive(Clone, Copy)]
 pub(crate) struct Frame {
+    /// The node.
     pub(crate) node: usize,
+    /// The position, in bytes from the front of the window.
     pub(crate) place: usize,
+    /// How many of its members or alternatives are done.
     pub(crate) next: usize,
+    /// Where those that are done end.
     pub(crate) end: usize,
 }
 
-/// Frames, seen as a list with the last one first.
+/// The parsing stack. Contracts see its frames, the top first.
 #[derive(Drop)]
 pub(crate) struct Frames {
+    /// The frames, the top last.
     frames: Vec<Frame>,
 }
 

@@ -1,4 +1,4 @@
-//! What the evaluation of a node does next, from the cells so far.
+//! The next step of the evaluation of a node, from the cells so far.
 ghost use Rattle.std.specs.Prelude.{◌≡◌, ℕ, ◌<◌, ◌≤◌, length, slice_get, Some, true};
 ghost use Rattle.pegread.specs.PegViews.{rules_of};
 ghost use Rattle.gramcheck.specs.Grammar.{IsSoundGrammar};
@@ -16,10 +16,10 @@ use memo::Found;
 use pegmatch::{Tried, match_any, match_bytes, match_set};
 use pegnodes::Node;
 
-/// What an evaluation does next.
+/// The next step of an evaluation.
 #[derive(Clone, Copy)]
 pub(crate) enum Turn {
-    /// It asks for what a node gives at a place; so many of its members are done, and those before end there.
+    /// It asks for what a node gives at a position; so many of its members are done, and those before end there.
     Ask {
         node: usize,
         place: usize,
@@ -43,7 +43,8 @@ fn ask(node: usize, place: usize) -> Turn
     }
 }
 
-/// Returns what was tried, if its comparison does not reach the last byte of a window that more bytes follow.
+/// Answers with the outcome of a leaf; `Need` if its comparison reached the last byte of a window that more bytes
+/// follow.
 fn leaf_turn(tried: Tried, window: &[u8], more: bool) -> Turn
     ensures { IsLeafTurn tried (length window.now) more result }
 {
@@ -54,7 +55,7 @@ fn leaf_turn(tried: Tried, window: &[u8], more: bool) -> Turn
     }
 }
 
-/// Returns what a node gives at a place.
+/// Answers with the outcome of a node at a position, or asks for it.
 pub(crate) fn same(found: Option<Found>, node: usize, place: usize) -> Turn
     ensures { result ≡ same_turn node place found }
 {
@@ -64,7 +65,7 @@ pub(crate) fn same(found: Option<Found>, node: usize, place: usize) -> Turn
     }
 }
 
-/// Returns what an option makes of its operand.
+/// Steps an option, by the outcome of its operand.
 pub(crate) fn opt(found: Option<Found>, operand: usize, place: usize) -> Turn
     ensures { result ≡ opt_turn operand place found }
 {
@@ -75,7 +76,7 @@ pub(crate) fn opt(found: Option<Found>, operand: usize, place: usize) -> Turn
     }
 }
 
-/// Returns what a predicate `&` makes of its operand.
+/// Steps a predicate `&`, by the outcome of its operand.
 pub(crate) fn and(found: Option<Found>, operand: usize, place: usize) -> Turn
     ensures { result ≡ and_turn operand place found }
 {
@@ -86,7 +87,7 @@ pub(crate) fn and(found: Option<Found>, operand: usize, place: usize) -> Turn
     }
 }
 
-/// Returns what a predicate `!` makes of its operand.
+/// Steps a predicate `!`, by the outcome of its operand.
 pub(crate) fn not(found: Option<Found>, operand: usize, place: usize) -> Turn
     ensures { result ≡ not_turn operand place found }
 {
@@ -97,7 +98,7 @@ pub(crate) fn not(found: Option<Found>, operand: usize, place: usize) -> Turn
     }
 }
 
-/// Returns the result of the remainder of a repetition at the end of one turn of it.
+/// Returns the result of the remainder of a repetition at the end of one iteration.
 pub(crate) fn again(cells: &CellMap, node: usize, end: usize) -> Turn
     ensures { result ≡ again_turn node end (found_at cells.now node end) }
 {
@@ -112,7 +113,7 @@ pub(crate) fn again(cells: &CellMap, node: usize, end: usize) -> Turn
     }
 }
 
-/// Returns what a repetition makes of its operand, and of itself where the operand ended.
+/// Steps a repetition, by the outcome of its operand, and of itself where the operand ended.
 pub(crate) fn star(
     cells: &CellMap,
     found: Option<Found>,
@@ -129,8 +130,7 @@ pub(crate) fn star(
     }
 }
 
-/// Returns what a repetition of at least once makes of its operand, and of the node that goes on with it where the
-/// operand ended.
+/// Steps a repetition of at least once, by the outcome of its operand, and of the node `star` where the operand ended.
 pub(crate) fn plus(
     cells: &CellMap,
     found: Option<Found>,
@@ -190,7 +190,7 @@ fn first(cells: &CellMap, alternatives: &[usize], next: usize, place: usize) -> 
     Turn::Answer(Found::Failed)
 }
 
-/// Returns what the evaluation of a frame's node at its place does next.
+/// Returns the next step of the evaluation of a frame.
 pub(crate) fn next_turn(
     peg: &SoundPeg,
     window: &[u8],

@@ -56,9 +56,11 @@ fn byte_of(found: &Option<Farthest>, unit: usize) -> Option<u128>
     }
 }
 
-/// A search for the farthest failures of units, which counts the units that it evaluated.
+/// A search for the farthest failures of units. It evaluates a unit anew, and holds the count alone, so that contracts
+/// bound how many units are evaluated for an explanation.
 #[derive(Drop)]
 pub struct FailureSearch {
+    /// How many units it evaluated.
     evaluated: u128,
 }
 
@@ -121,9 +123,9 @@ impl FailureSearch {
         self.failure_in(alloc, peg, seen, unit)
     }
 
-    /// Returns the lines that explain why no unit goes on after the last one: where it, or the unit before it, fails
-    /// farthest, by the byte, the line and the column of the input and by a picture, and what was expected there, each
-    /// expression with its rule.
+    /// Returns the lines that explain why no unit follows the last one. They report where that unit, or the one before
+    /// it, fails farthest: the byte, the line and the column of the input, and a picture. Then they list the
+    /// expressions that were expected there, each with its rule.
     ///
     /// `seen` holds all that is taken of the input from the front of the unit before on, which stands at `at`. The last
     /// unit begins `last` bytes after that. If there is no unit before, `last` is 0.

@@ -17,8 +17,8 @@ pub fn one_no_match()
     farthest_or_none();
 }
 
-/// Says that a unit fails farthest in what is taken of an input just as in the whole input, if the start rule looks at
-/// fewer bytes than are taken from the unit's first byte on.
+/// States that a unit has the same farthest failure in a prefix of an input as in the whole input. The start rule must
+/// look at fewer bytes than the prefix has from the unit's first byte on.
 pub fn fails_so_in_input()
     ensures { (rules : List Rule) (start : ℕ) (nodes : List Shape) (bodies ranks text behind : List ℕ) (unit k : ℕ)
         (o : Outcome) (failure : Option UnitFailure) → IsRanked rules start nodes bodies ranks →

@@ -129,8 +129,8 @@ fn push_expected(
     Ok(())
 }
 
-/// Returns the lines of the farthest failure of a unit that begins after `unit` bytes: where in the input the failing
-/// byte stands, a picture of its line in what is seen of the unit, and what was expected there.
+/// Returns the lines of the farthest failure of a unit that begins after `unit` bytes. They report the position of the
+/// failing byte in the input, a picture of its line, as far as the unit is seen, and the expressions expected there.
 ///
 /// # Errors
 /// `Memory` if an allocation fails.

@@ -1,4 +1,4 @@
-//! What an evaluation asks for, by the cells of all that was evaluated.
+//! The children that an evaluation asks for, by the cells of all that was evaluated.
 ghost use Rattle.std.specs.Prelude.{◌≡◌, ◌⊎◌, ◌↔◌, ℕ, ◌<◌, true, length, Some, OnOk, IfSome, IfNone};
 ghost use Rattle.pegnodes.specs.Nodes.{shape_of, Name};
 ghost use Rattle.memo.specs.Entries.{found_at};

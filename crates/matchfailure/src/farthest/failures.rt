@@ -22,11 +22,11 @@ pub struct Farthest {
     pub expected: Vec<Visit>,
 }
 
-/// Returns the farthest byte at which a comparison outside of `!` fails when the start rule is matched at the front of
-/// the window, with all that was expected there; nothing if no comparison fails outside of `!`. The window is taken as
-/// the whole rest of the input, whether the start rule succeeds on it or not.
+/// Finds the farthest byte at which a comparison outside of `!` fails, when the start rule is matched at the front of
+/// the window, with all leaves that were expected there. Returns `None` if no comparison fails outside of `!`. The
+/// window is taken as the whole rest of the input, whether the start rule succeeds on it or not.
 ///
-/// It evaluates the start rule anew, each node at each place once.
+/// It evaluates the start rule anew, each node at each position once.
 ///
 /// # Errors
 /// `Memory` if an allocation fails.

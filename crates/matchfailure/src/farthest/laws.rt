@@ -8,34 +8,35 @@ ghost use Rattle.matchfailure.specs.declared.farthest.visit.Visit.{Visit};
 ghost use Rattle.matchfailure.specs.Farthest.{IsFarthest, NoneFails, LeafStops, IsLeafNode};
 ghost use Rattle.matchfailure.specs.VisitLists.{AreWithin};
 
-/// A start rule has at most one farthest failing comparison outside of `!`, and one list of what is expected there.
+/// States that a start rule has at most one farthest failing comparison outside of `!`, and one list of what is
+/// expected there.
 pub fn one_farthest()
     ensures { (rules : List Rule) (nodes : List Shape) (bodies x : List ℕ) (start f h : ℕ) (vs ws : List Visit) →
         IsFarthest rules nodes bodies x start f vs → IsFarthest rules nodes bodies x start h ws →
         (f ≡ h) × (vs ≡ ws) }
 {}
 
-/// Where a comparison outside of `!` fails farthest, it is not so that none fails.
+/// States that no unit has both a farthest failing comparison outside of `!` and none that fails there.
 pub fn farthest_or_none()
     ensures { (rules : List Rule) (nodes : List Shape) (bodies x : List ℕ) (start f : ℕ) (vs : List Visit) →
         IsFarthest rules nodes bodies x start f vs → NoneFails rules nodes bodies x start → ⊥ }
 {}
 
-/// A node whose comparison fails at some byte gives a failure.
+/// States that a node whose comparison fails at some byte gives a failure.
 pub fn stops_fail()
     ensures { (rules : List Rule) (nodes : List Shape) (x : List ℕ) (n p f : ℕ) (e : Pattern) →
         Spells rules nodes n e → LeafStops nodes x n p f → (k : ℕ) × Gives rules x e p Outcome.Fails k }
 {}
 
-/// A leaf that gives a failure makes a comparison that fails at some byte.
+/// States that a leaf that gives a failure makes a comparison that fails at some byte.
 pub fn failing_leaf_stops()
     ensures { (rules : List Rule) (nodes : List Shape) (x : List ℕ) (n p k : ℕ) (e : Pattern) →
         Spells rules nodes n e → IsLeafNode nodes n → Gives rules x e p Outcome.Fails k →
         (f : ℕ) × LeafStops nodes x n p f }
 {}
 
-/// What a start rule that looks at less than a text fails at farthest there, it fails at farthest on every input that
-/// begins with that text; and where no comparison fails outside of `!`, none fails there.
+/// States that the farthest failures of a start rule that looks at less than a text are the same on every input that
+/// begins with the text. If no comparison fails outside of `!`, none fails on such an input.
 pub fn same_on_longer()
     ensures far { (rules : List Rule) (start : ℕ) (nodes : List Shape) (bodies ranks x y : List ℕ) (k f : ℕ)
         (o : Outcome) (vs : List Visit) → IsRanked rules start nodes bodies ranks → RuleGives rules start x o k →
@@ -45,8 +46,8 @@ pub fn same_on_longer()
         NoneFails rules nodes bodies x start → NoneFails rules nodes bodies (x ++ y) start }
 {}
 
-/// The farthest byte at which a comparison fails is one of the text or its end, and what was expected there are nodes
-/// of the grammar, which begin in the text or at its end.
+/// States that the farthest byte at which a comparison fails is one of the text or its end. The leaves that were
+/// expected there are nodes of the grammar, which begin in the text or at its end.
 pub fn farthest_is_within()
     ensures place { (rules : List Rule) (start : ℕ) (nodes : List Shape) (bodies ranks x : List ℕ) (f : ℕ)
         (vs : List Visit) → IsRanked rules start nodes bodies ranks → IsFarthest rules nodes bodies x start f vs →

@@ -4,7 +4,7 @@ ghost use Rattle.matchfailure.specs.VisitLists.{ListsVisit, AreOnce, Ascends};
 
 use crate::farthest::visit::Visit;
 
-/// Sorts pairs by the node, and then by the place.
+/// Sorts pairs by the node, and then by the position.
 pub(crate) fn put_in_order(visits: &mut Vec<Visit>)
     requires { AreOnce visits.old.items }
     ensures ordered { Ascends visits.new.items }

@@ -25,7 +25,7 @@ fn agreed(literal: &[u8], window: &[u8], place: usize) -> usize
     literal.len()
 }
 
-/// Returns the byte at which the node's own comparison fails at a place, if it makes one and that fails.
+/// Returns the byte at which the node's own comparison fails at a position, if it makes one and that fails.
 pub(crate) fn stop_of(node: &Node, window: &[u8], place: usize) -> Option<usize>
     requires { place ≤ length window.now }
     ensures some { IfSome result (λ f. StopsBy window.now (shape_of node.now) place f) }

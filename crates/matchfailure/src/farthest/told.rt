@@ -14,7 +14,8 @@ pub enum Told {
 /// Returns the unit whose farthest failing comparison stands farther in the input: the last one if both stand at one
 /// byte, or if neither has one.
 ///
-/// Each place is that of the unit's farthest failing comparison, in bytes from the front of the input, if it has one.
+/// Each position is that of the unit's farthest failing comparison, in bytes from the front of the input, if it has
+/// one.
 pub fn told_unit(before: Option<u128>, last: Option<u128>) -> Told
     ensures { result ≡ told_unit_of before last }
 {

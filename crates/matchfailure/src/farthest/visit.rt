@@ -1,4 +1,4 @@
-//! Pairs of a node and a place, and the list of those that were found.
+//! Pairs of a node and a position, and the list of those that were found.
 ghost use Rattle.std.specs.Prelude.{◌≡◌, ℕ, [], OnOk};
 ghost use Rattle.matchfailure.specs.VisitLists.{AddsVisits};
 
@@ -7,7 +7,7 @@ use std::alloc::Global;
 use std::collections::HashSet;
 use std::marker::Model;
 
-/// A node at a place.
+/// A node at a position.
 #[derive(Clone, Copy, PartialEq, Eq, PartialOrd, Ord, Hash)]
 pub struct Visit {
     /// The number of the node.
@@ -16,10 +16,14 @@ pub struct Visit {
     pub place: usize,
 }
 
-/// Pairs in the order in which they were added, seen as their list.
+/// A list of different pairs, in the order in which they were added. Contracts see the list.
+///
+/// It is a worklist: a pair is added once, and its children are added after it.
 #[derive(Drop)]
 pub(crate) struct VisitList {
+    /// The pairs, in order.
     visits: Vec<Visit>,
+    /// The same pairs, as a set.
     seen: HashSet<Visit>,
 }
 

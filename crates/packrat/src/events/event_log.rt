@@ -17,12 +17,16 @@ use ruletable::{Memory, Sink};
 use std::alloc::Global;
 use std::marker::Model;
 
-/// Events that successes leave, seen as links, the last one first. A head is a number that stands for a list of
-/// events: 0 for none, and i + 1 for link i, which is one event, or joins two heads before it. A part is shared where
-/// its head is used again.
+/// The events of successes, as links. Contracts see the links, the last one first.
+///
+/// A head is a number that stands for a list of events: 0 for none, and `i + 1` for link `i`. A link is one event, or
+/// joins two heads before it. So lists are joined in constant time, and equal parts are shared. A replay walks the
+/// links of a head in order, with a stack of the heads to come.
 #[derive(Drop)]
 pub struct EventLog {
+    /// The links. Each names only heads before it.
     links: Vec<Link>,
+    /// The stack of a replay.
     waiting: Waiting,
 }
 
@@ -78,7 +82,7 @@ impl EventLog {
     /// Adds an event, and returns its head.
     ///
     /// # Errors
-    /// `Memory` if an allocation fails, or if the place or node does not fit in 32 bits; the log is unchanged.
+    /// `Memory` if an allocation fails, or if the position or node does not fit in 32 bits; the log is unchanged.
     #[inline(always)]
     pub fn mark(&mut self, event: Kept) -> Result<usize, Memory>
         ensures head { IfOk result (λ head. IsHead self.new head) }

@@ -33,7 +33,7 @@ pub(crate) fn narrow(number: usize) -> Result<u32, Memory>
 /// Returns the link of an event.
 ///
 /// # Errors
-/// `Memory` if its place or node is too great.
+/// `Memory` if its position or node is too great.
 #[inline(always)]
 pub(crate) fn link_of(event: Kept) -> Result<Link, Memory>
     ensures event { IfOk result (λ link. (kept : ℕ → List Kept) → events_of kept link ≡ event ∷ []) }

@@ -6,9 +6,10 @@ use ruletable::Memory;
 use std::alloc::Global;
 use std::marker::Model;
 
-/// Heads, seen as a list with the last one first, and how many there is room for.
+/// A stack of heads. Contracts see the list of them, the top first, and for how many there is room.
 #[derive(Drop)]
 pub(crate) struct Waiting {
+    /// The heads, the top last.
     heads: Vec<u32>,
 }
 

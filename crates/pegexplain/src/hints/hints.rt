@@ -10,13 +10,16 @@ use pegread::Expr;
 use ruletable::{Memory, RuleTable};
 use std::alloc::Global;
 
-/// An alternative that is never taken: its rule, the place of its literal among those of the rule, this, and that which
-/// is the earlier alternative.
+/// An alternative that is never taken, since an earlier one is a prefix of it.
 #[derive(Clone, Copy)]
 pub(crate) struct Hint<'a> {
+    /// The name of the rule.
     pub(crate) rule: &'a [u8],
+    /// The index of the alternative's literal among those of the rule.
     pub(crate) place: usize,
+    /// The literal of the alternative.
     pub(crate) later: &'a [u8],
+    /// The literal that is the earlier alternative.
     pub(crate) earlier: &'a [u8],
 }
 

@@ -10,10 +10,12 @@ use pegread::Expr;
 use ruletable::Memory;
 use std::alloc::Global;
 
-/// A literal in an expression, and the literal that is an earlier alternative, by which its own is never taken.
+/// A literal in an expression.
 #[derive(Clone, Copy)]
 pub(crate) struct Literal<'a> {
+    /// The bytes of the literal.
     pub(crate) bytes: &'a [u8],
+    /// The literal of an earlier alternative by which this one is never taken.
     pub(crate) hidden_by: Option<&'a [u8]>,
 }
 

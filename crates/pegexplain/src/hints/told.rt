@@ -132,9 +132,9 @@ fn push_first_hints(
     Ok(())
 }
 
-/// Returns what is reported of the alternatives of a grammar that are never taken, since a literal before them is taken
-/// wherever they would be: of each of the first `MAX_HINTS` its rule and both literals, with the line of the later one,
-/// and how many more there are.
+/// Writes the hints on the alternatives of a grammar that are never taken, since a literal before them is taken
+/// wherever they would be. Of each of the first `MAX_HINTS` it reports the rule and both literals, with the line of the
+/// later one; then it reports how many more there are.
 ///
 /// # Errors
 /// `Memory` if an allocation fails.

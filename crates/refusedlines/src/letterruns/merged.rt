@@ -1,4 +1,4 @@
-//! The maximal runs of some runs' letters.
+//! The maximal runs of some runs' symbols.
 ghost use Rattle.std.specs.Prelude.{◌≡◌, ◌↔◌, ◌⊎◌, ◌≤◌, ℕ, List, All, IfOk};
 ghost use Rattle.std.specs.List.Sorted.{IsNonDecreasingBy};
 ghost use Rattle.refusedlines.specs.LetterRuns.{AreApartFrom, IsSomeRun, RunHas, RunsHave};
@@ -44,7 +44,7 @@ fn join_run(run: LetterRun, merged: &mut Vec<LetterRun>) -> Result<(), Memory>
     Ok(())
 }
 
-/// Returns the maximal runs of the letters of some runs, in ascending order. Each of those runs must have a letter.
+/// Returns the maximal runs of the symbols of some runs, in ascending order. Each of those runs must have a symbol.
 /// `Memory` if an allocation fails.
 pub fn merge_runs(alloc: Global, runs: Vec<LetterRun>) -> Result<Vec<LetterRun>, Memory>
     requires { All IsSomeRun runs.items }
@@ -60,7 +60,7 @@ pub fn merge_runs(alloc: Global, runs: Vec<LetterRun>) -> Result<Vec<LetterRun>,
     Ok(merged)
 }
 
-/// Returns nothing. Its contract is a law: a set of letters has one list of maximal runs at most.
+/// Returns nothing. Its contract is a law: a set of symbols has one list of maximal runs at most.
 pub fn runs_are_one()
     ensures { (runs others : List the_run) → AreApartFrom 0 runs → AreApartFrom 0 others →
         ((c : ℕ) → RunsHave runs c ↔ RunsHave others c) → runs ≡ others }

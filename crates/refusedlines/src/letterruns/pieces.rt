@@ -126,7 +126,7 @@ fn rest_without(
     Ok(Some(rest))
 }
 
-/// Returns the pieces that report the letters of runs: the names of core rules whose symbols they have, if the rest
+/// Returns the pieces that report the symbols of runs: the names of core rules whose symbols they have, if the rest
 /// costs no more without them, and the terms for the rest. `Memory` if an allocation fails.
 pub fn symbol_pieces(
     alloc: Global,

@@ -1,6 +1,6 @@
-//! Letters one after another.
+//! Symbols one after another.
 
-/// The letters whose numbers are those from a first to a last.
+/// A run of symbols: those with the numbers from `first` to `last`.
 #[derive(Clone, Copy)]
 pub struct LetterRun {
     pub first: u32,

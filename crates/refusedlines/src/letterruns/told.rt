@@ -1,4 +1,4 @@
-//! The terms of ABNF for runs of letters.
+//! The terms of ABNF for runs of symbols.
 ghost use Rattle.std.specs.Prelude.{◌≡◌, ◌≤◌, ◌++◌, if◌then◌else◌, option_to_list, IfOk, IfSome, OnOk};
 ghost use Rattle.refusedlines.specs.CoreSymbols.{core_of};
 ghost use Rattle.refusedlines.specs.ToldLetters.{has_letter, is_printed, is_short, is_single, other_case, told_letter};
@@ -10,16 +10,16 @@ use letters::Alphabet;
 use ruletable::Memory;
 use std::alloc::Global;
 
-/// A term of ABNF for letters.
+/// A term of ABNF for symbols.
 #[derive(Clone, Copy)]
 pub enum ToldLetters {
-    /// In quotes: this letter, or if it is one of US-ASCII's A to Z, either case of it.
+    /// In quotes: this symbol, or if it is one of US-ASCII's A to Z, either case of it.
     Quoted(u8),
     /// In quotes after `%s`: this letter of US-ASCII, and not its other case.
     Exactly(u8),
     /// By its number.
     Numbered(u32),
-    /// The letters from the first to the last, by their numbers.
+    /// The symbols from the first to the last, by their numbers.
     Through(LetterRun),
     /// The symbols of a core rule, by its name.
     Named(CoreRule),
@@ -201,8 +201,8 @@ fn add_run(
     Ok(())
 }
 
-/// Returns the terms for the letters of some runs, in their order. One or two letters of a run are single, and more
-/// have one term. A single letter of US-ASCII has one term with its other case, if that is single too. `Memory` if an
+/// Returns the terms for the symbols of some runs, in their order. One or two symbols of a run are single, and more
+/// have one term. A single symbol of US-ASCII has one term with its other case, if that is single too. `Memory` if an
 /// allocation fails.
 pub fn told_letters(
     alloc: Global,

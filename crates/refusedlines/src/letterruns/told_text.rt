@@ -1,4 +1,4 @@
-//! The text of terms for letters.
+//! The text of terms for symbols.
 ghost use Rattle.std.specs.Prelude.{◌≡◌, ◌-◌, ◌<◌, ◌==◌, ◌++◌, [], true, if◌then◌else◌, codes, length, map, OnOk};
 ghost use Rattle.std.specs.Char.{encode_utf8};
 ghost use Rattle.std.specs.Fmt.{digit_glyph};
@@ -147,7 +147,7 @@ fn end_words(runs: &[LetterRun], ends: bool) -> &'static [u8]
     b" or the end of the line"
 }
 
-/// Adds what can follow at a position of a line: the letters of some runs, by the names of core rules (RFC 5234,
+/// Adds what can follow at a position of a line: the symbols of some runs, by the names of core rules (RFC 5234,
 /// appendix B.1) and as ABNF writes them (section 2.3; RFC 7405, section 2.1), with slashes between, and the end, if
 /// the line can end there.
 ///

@@ -1,6 +1,6 @@
 -- Each option has its rule, one after the other.
 use Rattle.std.proofs.Common.{◌≡◌, ◌∙◌, ap, ap₂, rules, false, codes}
-use Rattle.std.proofs.lemmas.Result.{IfOk-weaker}
+use Rattle.std.proofs.lemmas.Result.{IfOk-weaker, err_from_is_err_and}
 use Rattle.clap.specs.Words.{App, Rule, rule_of, with_rule}
 use Rattle.cli.proofs.AddedLemmas.{added_rule}
 use Rattle.cli.specs.Command.{file_rule, flag_rule, grammar_rule, long_named, rule_rule}
@@ -33,3 +33,10 @@ returns c =
           ∙ ap (λ (app : App). with_rule app file_rule) whole)
           c.arg.ensures,
     )
+
+pub returns-in_err-command-6 : goal.returns-in_err-command-6
+returns-in_err-command-6 c =
+    let mode = c.mode_arg-mode.ensures in
+    let from = c.from_residual-in_err-command-6 in
+    let fault = err_from_is_err_and from.result from.ensures.1 in
+    (mode.rule.0, mode.rule.1, rw fault.1 tt)
