@@ -1,9 +1,10 @@
 -- What explains a fault of a grammar's text: the lines after its message.
 use Rattle.std.specs.Prelude.{◌≡◌, ℕ, ◌<◌, ◌≤◌, ◌&&◌, Bool, true, false, length, slice_get, take, List, [], ◌∷◌, ◌++◌}
 use Rattle.std.specs.Prelude.{Option, Some, None, codes, decimal, if◌then◌else◌}
+use Rattle.std.specs.Option.{option_map_or}
 use Rattle.lexer.specs.TokenLists.{tok, kind_of, start_of}
 use Rattle.lexer.specs.GrammarLimits.{max_grammar}
-use Rattle.diagnostics.specs.FirstBytes.{Row, fact_line, first_told}
+use Rattle.diagnostics.specs.FirstBytes.{Row, row, fact_line, first_told}
 use Rattle.diagnostics.specs.LinesAround.{bytes_before}
 use Rattle.diagnostics.specs.PhraseLists.{listed}
 use Rattle.diagnostics.specs.Pictures.{place_told}
@@ -28,26 +29,18 @@ token_place text (marked (tok _ z p) g f) = place_told Lf text p.start
 -- what the first bytes of what begins no token show
 abbrev pub bad_rows : List Row
 bad_rows =
-    record { begins = codes "|"; told = codes "alternatives have \"/\" between them" }
-    ∷ record { begins = codes ":"; told = codes "a rule is defined by \"=\"" }
-    ∷ record { begins = codes "_"; told = codes "names hold letters, digits and \"-\"" }
-    ∷ record {
-      begins = codes "#";
-      told = codes "\"#\" is no part of ABNF in RFC 5234; lists of RFC 9110, section 5.6.1, are to be written out";
-    }
-    ∷ record { begins = codes "'"; told = codes "texts stand in double quotes" }
-    ∷ record {
-      begins = codes "\"";
-      told = codes "the text has no closing quote, or holds a byte that is not %x20-7E";
-    }
-    ∷ record {
-      begins = codes "<";
-      told = codes "the prose has no closing \">\", or holds a byte that is not %x20-7E";
-    }
-    ∷ record { begins = codes "%"; told = codes "a number is %x, %d or %b and digits" }
-    ∷ record { begins = codes "{"; told = codes "repetitions are written *(e)" }
-    ∷ record { begins = codes "+"; told = codes "repetitions are written 1*e" }
-    ∷ record { begins = codes "?"; told = codes "options are written [e]" } ∷ []
+    row (codes "|") (codes "alternatives have \"/\" between them")
+    ∷ row (codes ":") (codes "a rule is defined by \"=\"")
+    ∷ row (codes "_") (codes "names hold letters, digits and \"-\"")
+    ∷ row (codes "#")
+    (codes "\"#\" is no part of ABNF in RFC 5234; lists of RFC 9110, section 5.6.1, are to be written out")
+    ∷ row (codes "'") (codes "texts stand in double quotes")
+    ∷ row (codes "\"") (codes "the text has no closing quote, or holds a byte that is not %x20-7E")
+    ∷ row (codes "<") (codes "the prose has no closing \">\", or holds a byte that is not %x20-7E")
+    ∷ row (codes "%") (codes "a number is %x, %d or %b and digits")
+    ∷ row (codes "{") (codes "repetitions are written *(e)")
+    ∷ row (codes "+") (codes "repetitions are written 1*e")
+    ∷ row (codes "?") (codes "options are written [e]") ∷ []
 
 -- what the token itself shows
 abbrev pub bad_fact : Marked → List ℕ
@@ -85,14 +78,9 @@ name_fact text None b m = []
 abbrev pub other_facts : List ℕ → Option Marked → Option Marked → Marked → List ℕ
 other_facts text o b m = bad_fact m ++ (line_fact text o m ++ name_fact text o b m)
 
--- the line of a mistake, or else other facts
-abbrev pub facts_by : Option (List ℕ) → List ℕ → List ℕ
-facts_by None facts = facts
-facts_by (Some told) facts = fact_line told
-
--- what is reported of a token after those that can stand there
+-- what is reported of a token after those that can stand there: the line of a mistake, or else other facts
 abbrev pub token_facts : List ℕ → Option Marked → Option Marked → Marked → List ℕ
-token_facts text o b m = facts_by (shown_mistake text b m) (other_facts text o b m)
+token_facts text o b m = option_map_or fact_line (shown_mistake text b m) (other_facts text o b m)
 
 -- The lines that explain why the text is no grammar.
 pub data Why (text : List ℕ) : List ℕ → Type 0 where

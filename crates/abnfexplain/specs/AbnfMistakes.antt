@@ -1,37 +1,24 @@
 -- The usual mistakes in a grammar in ABNF: a table of what shows one, by the token that decides and the one before it.
 use Prim.Native.Char.{code}
-use Rattle.std.specs.Prelude.{ℕ, zero, suc, ◌+◌, ◌-◌, ◌/◌, ◌%◌, ◌==◌, ◌&&◌, ◌||◌, not, Bool, true, false}
-use Rattle.std.specs.Prelude.{if◌then◌else◌, List, [], ◌∷◌, ◌++◌, drop, length, slice_index, Option, Some, None, codes}
-use Rattle.std.specs.Fmt.{digit_glyph}
+use denote.Enum.Bare.{sameb}
+use Rattle.std.specs.Prelude.{ℕ, ◌-◌, ◌==◌, ◌&&◌, ◌||◌, not, Bool, true, false, if◌then◌else◌, List, [], ◌∷◌}
+use Rattle.std.specs.Prelude.{drop, length, slice_index, Option, Some, None, codes}
 use Rattle.std.specs.List.{list_any, starts_with}
+use Rattle.std.specs.Option.{option_or}
 use Rattle.lexer.specs.TokenLists.{tok}
+use Rattle.abnfread.specs.contracts.kind.AbnfKind.{the_type}
 use Rattle.abnfread.specs.declared.kind.AbnfKind.{AbnfKind}
 use Rattle.abnfread.specs.declared.kind.AbnfKind.TheVariants.{Name, Is, Adds, Slash, LParen, RParen, LBrack, RBrack}
 use Rattle.abnfread.specs.declared.kind.AbnfKind.TheVariants.{Repeat, Text, Num, Prose, Bad, End}
 use Rattle.abnfread.specs.MarkedTokens.{Marked, marked}
-use Rattle.diagnostics.specs.FirstBytes.{Row}
+use Rattle.diagnostics.specs.CodePoints.{in_utf16, point_rows, quote_rows}
+use Rattle.diagnostics.specs.FirstBytes.{first_fact}
 use Rattle.abnfexplain.specs.declared.abnf_mistakes.Marks.{Marks}
 use Rattle.abnfexplain.specs.declared.abnf_mistakes.Marks.TheVariants.{Any, Tight, Within, First}
 
-abbrev pub kind_number : AbnfKind → ℕ
-kind_number Name = 0
-kind_number Is = 1
-kind_number Adds = 2
-kind_number Slash = 3
-kind_number LParen = 4
-kind_number RParen = 5
-kind_number LBrack = 6
-kind_number RBrack = 7
-kind_number Repeat = 8
-kind_number Text = 9
-kind_number Num = 10
-kind_number Prose = 11
-kind_number Bad = 12
-kind_number End = 13
-
--- one of these kinds
+-- one of these kinds: the same variant
 abbrev pub has_kind : List AbnfKind → AbnfKind → Bool
-has_kind kinds kind = list_any (λ k. kind_number k == kind_number kind) kinds
+has_kind kinds kind = list_any (λ k. sameb the_type k kind) kinds
 
 -- these marks: no white space before it; that, and not the first of a line that begins a rule; such a first one
 abbrev pub has_marks : Marks → Bool → Bool → Bool
@@ -171,70 +158,22 @@ abbrev pub first_mistake : List Mistake → Option Marked → Marked → Option 
 first_mistake [] before m = None
 first_mistake (row ∷ rows) before m = if is_mistake row before m then Some row.told else first_mistake rows before m
 
--- a code point in four hexadecimal digits
-abbrev pub point_digits : ℕ → List ℕ
-point_digits c = digit_glyph true (c / 0x1000) ∷ digit_glyph true (c / 0x100 % 16) ∷ digit_glyph true (c / 16 % 16)
-    ∷ digit_glyph true (c % 16) ∷ []
-
--- the row of a code point from 0x800 to 0xFFFF: its bytes in UTF-8 (RFC 3629, section 3)
-abbrev pub point_row : List ℕ → ℕ → Row
-point_row told c = record {
-  begins = (0xE0 + c / 0x1000) ∷ (0x80 + c / 64 % 64) ∷ (0x80 + c % 64) ∷ [];
-  told = codes "U+" ++ (point_digits c ++ told);
-}
-
--- the rows of so many code points from one on
-abbrev pub point_rows : List ℕ → ℕ → ℕ → List Row
-point_rows told c zero = []
-point_rows told c (suc n) = point_row told c ∷ point_rows told (c + 1) n
-
-abbrev pub quote_told : List ℕ
-quote_told = codes " is a curly quote: texts stand in \""
-
-abbrev pub dash_told : List ℕ
-dash_told = codes " is a dash: write \"-\""
-
-abbrev pub space_told : List ℕ
-space_told = codes " is no white space: write a space"
-
--- the code points that are taken for characters of ABNF
-abbrev pub wrong_points : List Row
-wrong_points =
-    point_rows quote_told 0x2018 8 ++ (point_rows dash_told 0x2010 6 ++ (point_row dash_told 0x2212
-    ∷ record { begins = 0xC2 ∷ 0xA0 ∷ []; told = codes "U+00A0" ++ space_told }
-    ∷ (point_rows space_told 0x2000 12 ++ (point_row space_told 0x202F ∷ point_row space_told 0x3000
-    ∷ point_row (codes " is a byte order mark: a grammar has none") 0xFEFF ∷ []))))
-
-abbrev pub first_row : List Row → List ℕ → Option (List ℕ)
-first_row [] z = None
-first_row (row ∷ rows) z = if starts_with equals z row.begins then Some row.told else first_row rows z
-
--- a text in UTF-16: it begins with a byte order mark of it, or a NUL is one of its first two bytes
-abbrev pub is_utf16 : List ℕ → Bool
-is_utf16 [] = false
-is_utf16 (a ∷ []) = a == 0
-is_utf16 (a ∷ b ∷ bs) = (a == 0) || (b == 0) || ((a == 0xFF) && (b == 0xFE)) || ((a == 0xFE) && (b == 0xFF))
-
 -- the text has a CR and no LF
 abbrev pub ends_in_cr : List ℕ → Bool
 ends_in_cr text = has_byte text (code "\r") && not (has_byte text (code "\n"))
 
 -- what a text as a whole shows, at what begins no token and at the end
 abbrev pub text_mistake : List ℕ → AbnfKind → Option (List ℕ)
-text_mistake text Bad = if is_utf16 text then Some (codes "the text is UTF-16, not UTF-8") else None
+text_mistake text Bad = if in_utf16 text then Some (codes "the text is UTF-16, not UTF-8") else None
 text_mistake text End = if ends_in_cr text then Some (codes "lines end with LF or CR LF, not CR") else None
 text_mistake text _ = None
 
 -- a code point that is taken for a character of ABNF
 abbrev pub point_mistake : AbnfKind → List ℕ → Option (List ℕ)
-point_mistake Bad z = first_row wrong_points z
+point_mistake Bad z = option_or (first_fact (quote_rows (codes "texts stand in \"")) z) (first_fact point_rows z)
 point_mistake _ z = None
-
-abbrev pub or_else : Option (List ℕ) → Option (List ℕ) → Option (List ℕ)
-or_else None other = other
-or_else (Some z) other = Some z
 
 -- the mistake that the token that decides shows
 abbrev pub shown_mistake : List ℕ → Option Marked → Marked → Option (List ℕ)
-shown_mistake text before (marked (tok kind z p) gap first) = or_else (text_mistake text kind)
-    (or_else (first_mistake mistakes before (marked (tok kind z p) gap first)) (point_mistake kind z))
+shown_mistake text before (marked (tok kind z p) gap first) = option_or (text_mistake text kind)
+    (option_or (first_mistake mistakes before (marked (tok kind z p) gap first)) (point_mistake kind z))

@@ -4,7 +4,6 @@ ghost use Rattle.std.specs.Option.{option_map};
 ghost use Rattle.lexer.specs.GrammarLimits.{max_grammar};
 ghost use Rattle.lexer.specs.TokenLists.{Tok};
 ghost use Rattle.diagnostics.specs.FactRows.{row_of};
-ghost use Rattle.diagnostics.specs.FirstBytes.{fact_line};
 ghost use Rattle.diagnostics.specs.PhraseLists.{listed};
 ghost use Rattle.diagnostics.specs.ToldPhrases.{AreTold};
 ghost use Rattle.abnfread.specs.AbnfReading.{IsFaultOf};
@@ -23,56 +22,25 @@ use crate::abnf_mistakes::shown_mistake;
 use crate::abnf_phrases::told_phrases;
 use crate::abnf_stand::Place;
 use abnfread::{AbnfKind, MarkedToken};
-use diagnostics::{Fact, line_around, push_fact, push_number, push_phrases, push_place};
+use diagnostics::{
+    Fact, facts, line_around, push_fact, push_line, push_number, push_phrases, push_place,
+};
 use lexer::tokens_make_up;
 use ruletable::{LineRule, Memory, ReadFault};
 use std::alloc::Global;
 
-static BAD_FACTS: [Fact; 11] = [
-    Fact {
-        begins: b"|",
-        told: b"alternatives have \"/\" between them",
-    },
-    Fact {
-        begins: b":",
-        told: b"a rule is defined by \"=\"",
-    },
-    Fact {
-        begins: b"_",
-        told: b"names hold letters, digits and \"-\"",
-    },
-    Fact {
-        begins: b"#",
-        told: b"\"#\" is no part of ABNF in RFC 5234; lists of RFC 9110, section 5.6.1, are to be written out",
-    },
-    Fact {
-        begins: b"'",
-        told: b"texts stand in double quotes",
-    },
-    Fact {
-        begins: b"\"",
-        told: b"the text has no closing quote, or holds a byte that is not %x20-7E",
-    },
-    Fact {
-        begins: b"<",
-        told: b"the prose has no closing \">\", or holds a byte that is not %x20-7E",
-    },
-    Fact {
-        begins: b"%",
-        told: b"a number is %x, %d or %b and digits",
-    },
-    Fact {
-        begins: b"{",
-        told: b"repetitions are written *(e)",
-    },
-    Fact {
-        begins: b"+",
-        told: b"repetitions are written 1*e",
-    },
-    Fact {
-        begins: b"?",
-        told: b"options are written [e]",
-    },
+static BAD_FACTS: [Fact; 11] = facts![
+    b"|" => b"alternatives have \"/\" between them",
+    b":" => b"a rule is defined by \"=\"",
+    b"_" => b"names hold letters, digits and \"-\"",
+    b"#" => b"\"#\" is no part of ABNF in RFC 5234; lists of RFC 9110, section 5.6.1, are to be written out",
+    b"'" => b"texts stand in double quotes",
+    b"\"" => b"the text has no closing quote, or holds a byte that is not %x20-7E",
+    b"<" => b"the prose has no closing \">\", or holds a byte that is not %x20-7E",
+    b"%" => b"a number is %x, %d or %b and digits",
+    b"{" => b"repetitions are written *(e)",
+    b"+" => b"repetitions are written 1*e",
+    b"?" => b"options are written [e]",
 ];
 
 fn bad_facts() -> &'static [Fact]
@@ -216,16 +184,6 @@ fn push_other_facts(
     Ok(())
 }
 
-// Adds the line of a mistake.
-fn push_mistake(out: &mut Vec<u8>, told: &[u8]) -> Result<(), Memory>
-    ensures { OnOk result (out.new.items ≡ out.old.items ++ fact_line told.now) }
-{
-    out.extend_from_slice(b"  ")?;
-    out.extend_from_slice(told)?;
-    out.extend_from_slice(b"\n")?;
-    Ok(())
-}
-
 // Adds what is reported after what can stand there.
 fn push_token_facts(
     out: &mut Vec<u8>,
@@ -240,7 +198,7 @@ fn push_token_facts(
         (option_map marked_of before.entry) (marked_of token.entry)) }
 {
     match shown_mistake(text, before, token) {
-        Some(told) => push_mistake(out, told),
+        Some(told) => push_line(out, told),
         None => push_other_facts(out, text, origin, before, token),
     }
 }

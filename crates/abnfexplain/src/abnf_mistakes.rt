@@ -1,17 +1,20 @@
 //! The usual mistakes in a grammar in ABNF.
-ghost use Rattle.std.specs.Prelude.{◌≡◌, map, option_copied};
+ghost use Rattle.std.specs.Prelude.{◌≡◌, codes, map};
 ghost use Rattle.std.specs.Option.{option_map};
+ghost use Rattle.diagnostics.specs.CodePoints.{quote_rows};
 ghost use Rattle.diagnostics.specs.FactRows.{row_of};
 ghost use Rattle.abnfread.specs.MarkedTokens.{marked_of};
 ghost use Rattle.abnfexplain.specs.AbnfMistakeRows.{mistake_of};
-ghost use Rattle.abnfexplain.specs.AbnfMistakes.{after_blanks, comes_next, ends_in_cr, first_mistake, first_row};
-ghost use Rattle.abnfexplain.specs.AbnfMistakes.{has_byte, has_bytes, has_kind, has_marks, has_word, is_after};
-ghost use Rattle.abnfexplain.specs.AbnfMistakes.{is_mistake, is_utf16};
-ghost use Rattle.abnfexplain.specs.AbnfMistakes.{kind_number, mistakes, point_mistake, shown_mistake as the_mistake};
-ghost use Rattle.abnfexplain.specs.AbnfMistakes.{text_mistake, wrong_points};
+ghost use Rattle.abnfexplain.specs.AbnfMistakes.{after_blanks, comes_next, ends_in_cr, first_mistake, has_byte};
+ghost use Rattle.abnfexplain.specs.AbnfMistakes.{has_bytes, has_kind, has_marks, has_word, is_after, is_mistake};
+ghost use Rattle.abnfexplain.specs.AbnfMistakes.{mistakes, point_mistake, shown_mistake as the_mistake, text_mistake};
 
+use Marks::{Any, First, Tight, Within};
+use abnfread::AbnfKind::{
+    Adds, Bad, End, Is, LBrack, LParen, Name, Num, Prose, RBrack, RParen, Repeat, Slash, Text,
+};
 use abnfread::{AbnfKind, MarkedToken};
-use diagnostics::Fact;
+use diagnostics::{Fact, facts, find_fact, is_utf16, point_facts};
 
 /// Which marks a token has.
 #[derive(Clone, Copy)]
@@ -51,369 +54,70 @@ pub(crate) struct Mistake {
     pub(crate) told: &'static [u8],
 }
 
-static MISTAKES: [Mistake; 16] = [
-    Mistake {
-        kinds: &[AbnfKind::Bad],
-        marks: Marks::Any,
-        begins: b"\r",
-        blanks: false,
-        next: b"",
-        ends: false,
-        before: &[],
-        word: b"",
-        whole: false,
-        told: b"lines end with LF or CR LF, not CR",
-    },
-    Mistake {
-        kinds: &[],
-        marks: Marks::Tight,
-        begins: b"\"",
-        blanks: false,
-        next: b"",
-        ends: false,
-        before: &[AbnfKind::Text],
-        word: b"\\\"",
-        whole: false,
-        told: b"a double quote is DQUOTE: texts have no escapes",
-    },
-    Mistake {
-        kinds: &[AbnfKind::Slash],
-        marks: Marks::Tight,
-        begins: b"",
-        blanks: false,
-        next: b"",
-        ends: false,
-        before: &[AbnfKind::Slash],
-        word: b"",
-        whole: false,
-        told: b"comments begin with \";\"",
-    },
-    Mistake {
-        kinds: &[AbnfKind::Bad],
-        marks: Marks::First,
-        begins: b"#",
-        blanks: false,
-        next: b"",
-        ends: false,
-        before: &[],
-        word: b"",
-        whole: false,
-        told: b"comments begin with \";\"",
-    },
-    Mistake {
-        kinds: &[AbnfKind::Bad],
-        marks: Marks::Any,
-        begins: b"#",
-        blanks: false,
-        next: b" \t\r\n#!",
-        ends: true,
-        before: &[],
-        word: b"",
-        whole: false,
-        told: b"comments begin with \";\"",
-    },
-    Mistake {
-        kinds: &[AbnfKind::Name],
-        marks: Marks::Tight,
-        begins: b"",
-        blanks: false,
-        next: b"",
-        ends: false,
-        before: &[AbnfKind::Num],
-        word: b"",
-        whole: false,
-        told: b"a number is %x, %d or %b and digits",
-    },
-    Mistake {
-        kinds: &[AbnfKind::Repeat],
-        marks: Marks::Tight,
-        begins: b"",
-        blanks: false,
-        next: b"0123456789",
-        ends: false,
-        before: &[AbnfKind::Num],
-        word: b"",
-        whole: false,
-        told: b"a number is %x, %d or %b and digits",
-    },
-    Mistake {
-        kinds: &[
-            AbnfKind::Name,
-            AbnfKind::Is,
-            AbnfKind::Adds,
-            AbnfKind::Slash,
-            AbnfKind::LParen,
-            AbnfKind::RParen,
-            AbnfKind::LBrack,
-            AbnfKind::RBrack,
-            AbnfKind::Repeat,
-            AbnfKind::Text,
-            AbnfKind::Num,
-            AbnfKind::Prose,
-            AbnfKind::End,
-        ],
-        marks: Marks::Any,
-        begins: b"",
-        blanks: false,
-        next: b"",
-        ends: false,
-        before: &[AbnfKind::Repeat],
-        word: b"",
-        whole: false,
-        told: b"a repetition stands before its element: 2*3DIGIT",
-    },
-    Mistake {
-        kinds: &[AbnfKind::Repeat],
-        marks: Marks::Tight,
-        begins: b"",
-        blanks: false,
-        next: b"",
-        ends: false,
-        before: &[
-            AbnfKind::Name,
-            AbnfKind::Text,
-            AbnfKind::Num,
-            AbnfKind::Prose,
-            AbnfKind::RParen,
-            AbnfKind::RBrack,
-        ],
-        word: b"",
-        whole: false,
-        told: b"a repetition stands before its element: 2*3DIGIT",
-    },
-    Mistake {
-        kinds: &[AbnfKind::Bad],
-        marks: Marks::Any,
-        begins: b"{",
-        blanks: false,
-        next: b",0123456789",
-        ends: false,
-        before: &[],
-        word: b"",
-        whole: false,
-        told: b"a repetition stands before its element: 2*3DIGIT",
-    },
-    Mistake {
-        kinds: &[
-            AbnfKind::Name,
-            AbnfKind::Text,
-            AbnfKind::Num,
-            AbnfKind::Prose,
-            AbnfKind::LParen,
-            AbnfKind::LBrack,
-        ],
-        marks: Marks::Within,
-        begins: b"",
-        blanks: false,
-        next: b"",
-        ends: false,
-        before: &[
-            AbnfKind::Name,
-            AbnfKind::Text,
-            AbnfKind::Num,
-            AbnfKind::Prose,
-            AbnfKind::RParen,
-            AbnfKind::RBrack,
-        ],
-        word: b"",
-        whole: false,
-        told: b"elements have white space between them",
-    },
-    Mistake {
-        kinds: &[AbnfKind::Bad],
-        marks: Marks::Tight,
-        begins: b"+",
-        blanks: false,
-        next: b"",
-        ends: false,
-        before: &[AbnfKind::Name],
-        word: b"U",
-        whole: true,
-        told: b"a code point is written %x41",
-    },
-    Mistake {
-        kinds: &[AbnfKind::Bad],
-        marks: Marks::Tight,
-        begins: b"+",
-        blanks: false,
-        next: b"",
-        ends: false,
-        before: &[AbnfKind::Name],
-        word: b"u",
-        whole: true,
-        told: b"a code point is written %x41",
-    },
-    Mistake {
-        kinds: &[AbnfKind::Bad],
-        marks: Marks::Any,
-        begins: b"-",
-        blanks: true,
-        next: b"%\"0123456789ABCDEFabcdef",
-        ends: false,
-        before: &[AbnfKind::Num, AbnfKind::Text],
-        word: b"",
-        whole: false,
-        told: b"a range is written %x30-39",
-    },
-    Mistake {
-        kinds: &[AbnfKind::Bad],
-        marks: Marks::Any,
-        begins: b"..",
-        blanks: false,
-        next: b"",
-        ends: false,
-        before: &[AbnfKind::Num, AbnfKind::Text],
-        word: b"",
-        whole: false,
-        told: b"a range is written %x30-39",
-    },
-    Mistake {
-        kinds: &[AbnfKind::Bad],
-        marks: Marks::Any,
-        begins: b"-",
-        blanks: false,
-        next: b"",
-        ends: false,
-        before: &[
-            AbnfKind::Name,
-            AbnfKind::Text,
-            AbnfKind::Num,
-            AbnfKind::Prose,
-            AbnfKind::RParen,
-            AbnfKind::RBrack,
-        ],
-        word: b"",
-        whole: false,
-        told: b"ABNF has no exceptions",
-    },
+// Kinds of what begins an element.
+const BEGIN_ELEMENTS: &[AbnfKind] = &[Name, Text, Num, Prose, LParen, LBrack];
+
+// Kinds of what ends an element.
+const OPERANDS: &[AbnfKind] = &[Name, Text, Num, Prose, RParen, RBrack];
+
+const ALL_BUT_BAD: &[AbnfKind] = &[
+    Name, Is, Adds, Slash, LParen, RParen, LBrack, RBrack, Repeat, Text, Num, Prose, End,
 ];
 
-// Code points that are taken for characters of ABNF.
-static WRONG_POINTS: [Fact; 31] = [
-    Fact {
-        begins: b"\xE2\x80\x98",
-        told: b"U+2018 is a curly quote: texts stand in \"",
-    },
-    Fact {
-        begins: b"\xE2\x80\x99",
-        told: b"U+2019 is a curly quote: texts stand in \"",
-    },
-    Fact {
-        begins: b"\xE2\x80\x9A",
-        told: b"U+201A is a curly quote: texts stand in \"",
-    },
-    Fact {
-        begins: b"\xE2\x80\x9B",
-        told: b"U+201B is a curly quote: texts stand in \"",
-    },
-    Fact {
-        begins: b"\xE2\x80\x9C",
-        told: b"U+201C is a curly quote: texts stand in \"",
-    },
-    Fact {
-        begins: b"\xE2\x80\x9D",
-        told: b"U+201D is a curly quote: texts stand in \"",
-    },
-    Fact {
-        begins: b"\xE2\x80\x9E",
-        told: b"U+201E is a curly quote: texts stand in \"",
-    },
-    Fact {
-        begins: b"\xE2\x80\x9F",
-        told: b"U+201F is a curly quote: texts stand in \"",
-    },
-    Fact {
-        begins: b"\xE2\x80\x90",
-        told: b"U+2010 is a dash: write \"-\"",
-    },
-    Fact {
-        begins: b"\xE2\x80\x91",
-        told: b"U+2011 is a dash: write \"-\"",
-    },
-    Fact {
-        begins: b"\xE2\x80\x92",
-        told: b"U+2012 is a dash: write \"-\"",
-    },
-    Fact {
-        begins: b"\xE2\x80\x93",
-        told: b"U+2013 is a dash: write \"-\"",
-    },
-    Fact {
-        begins: b"\xE2\x80\x94",
-        told: b"U+2014 is a dash: write \"-\"",
-    },
-    Fact {
-        begins: b"\xE2\x80\x95",
-        told: b"U+2015 is a dash: write \"-\"",
-    },
-    Fact {
-        begins: b"\xE2\x88\x92",
-        told: b"U+2212 is a dash: write \"-\"",
-    },
-    Fact {
-        begins: b"\xC2\xA0",
-        told: b"U+00A0 is no white space: write a space",
-    },
-    Fact {
-        begins: b"\xE2\x80\x80",
-        told: b"U+2000 is no white space: write a space",
-    },
-    Fact {
-        begins: b"\xE2\x80\x81",
-        told: b"U+2001 is no white space: write a space",
-    },
-    Fact {
-        begins: b"\xE2\x80\x82",
-        told: b"U+2002 is no white space: write a space",
-    },
-    Fact {
-        begins: b"\xE2\x80\x83",
-        told: b"U+2003 is no white space: write a space",
-    },
-    Fact {
-        begins: b"\xE2\x80\x84",
-        told: b"U+2004 is no white space: write a space",
-    },
-    Fact {
-        begins: b"\xE2\x80\x85",
-        told: b"U+2005 is no white space: write a space",
-    },
-    Fact {
-        begins: b"\xE2\x80\x86",
-        told: b"U+2006 is no white space: write a space",
-    },
-    Fact {
-        begins: b"\xE2\x80\x87",
-        told: b"U+2007 is no white space: write a space",
-    },
-    Fact {
-        begins: b"\xE2\x80\x88",
-        told: b"U+2008 is no white space: write a space",
-    },
-    Fact {
-        begins: b"\xE2\x80\x89",
-        told: b"U+2009 is no white space: write a space",
-    },
-    Fact {
-        begins: b"\xE2\x80\x8A",
-        told: b"U+200A is no white space: write a space",
-    },
-    Fact {
-        begins: b"\xE2\x80\x8B",
-        told: b"U+200B is no white space: write a space",
-    },
-    Fact {
-        begins: b"\xE2\x80\xAF",
-        told: b"U+202F is no white space: write a space",
-    },
-    Fact {
-        begins: b"\xE3\x80\x80",
-        told: b"U+3000 is no white space: write a space",
-    },
-    Fact {
-        begins: b"\xEF\xBB\xBF",
-        told: b"U+FEFF is a byte order mark: a grammar has none",
-    },
+// What each token shows.
+const EACH_TOKEN: Mistake = Mistake {
+    kinds: &[],
+    marks: Any,
+    begins: b"",
+    blanks: false,
+    next: b"",
+    ends: false,
+    before: &[],
+    word: b"",
+    whole: false,
+    told: b"",
+};
+
+// Makes an array of mistakes. Before what is reported of each stand the fields that differ from those of `EACH_TOKEN`.
+macro_rules! mistakes {
+    ($({ $($field:ident: $value:expr),+ } => $told:literal,)*) => {
+        [$(Mistake { $($field: $value,)+ told: $told, ..EACH_TOKEN }),*]
+    };
+}
+
+static MISTAKES: [Mistake; 16] = mistakes![
+    { kinds: &[Bad], begins: b"\r" } => b"lines end with LF or CR LF, not CR",
+    { marks: Tight, begins: b"\"", before: &[Text], word: b"\\\"" }
+        => b"a double quote is DQUOTE: texts have no escapes",
+    { kinds: &[Slash], marks: Tight, before: &[Slash] } => b"comments begin with \";\"",
+    { kinds: &[Bad], marks: First, begins: b"#" } => b"comments begin with \";\"",
+    { kinds: &[Bad], begins: b"#", next: b" \t\r\n#!", ends: true } => b"comments begin with \";\"",
+    { kinds: &[Name], marks: Tight, before: &[Num] } => b"a number is %x, %d or %b and digits",
+    { kinds: &[Repeat], marks: Tight, next: b"0123456789", before: &[Num] }
+        => b"a number is %x, %d or %b and digits",
+    { kinds: ALL_BUT_BAD, before: &[Repeat] } => b"a repetition stands before its element: 2*3DIGIT",
+    { kinds: &[Repeat], marks: Tight, before: OPERANDS } => b"a repetition stands before its element: 2*3DIGIT",
+    { kinds: &[Bad], begins: b"{", next: b",0123456789" } => b"a repetition stands before its element: 2*3DIGIT",
+    { kinds: BEGIN_ELEMENTS, marks: Within, before: OPERANDS } => b"elements have white space between them",
+    { kinds: &[Bad], marks: Tight, begins: b"+", before: &[Name], word: b"U", whole: true }
+        => b"a code point is written %x41",
+    { kinds: &[Bad], marks: Tight, begins: b"+", before: &[Name], word: b"u", whole: true }
+        => b"a code point is written %x41",
+    { kinds: &[Bad], begins: b"-", blanks: true, next: b"%\"0123456789ABCDEFabcdef", before: &[Num, Text] }
+        => b"a range is written %x30-39",
+    { kinds: &[Bad], begins: b"..", before: &[Num, Text] } => b"a range is written %x30-39",
+    { kinds: &[Bad], begins: b"-", before: OPERANDS } => b"ABNF has no exceptions",
+];
+
+static QUOTE_FACTS: [Fact; 8] = facts![
+    b"\xE2\x80\x98" => b"U+2018 is a curly quote: texts stand in \"",
+    b"\xE2\x80\x99" => b"U+2019 is a curly quote: texts stand in \"",
+    b"\xE2\x80\x9A" => b"U+201A is a curly quote: texts stand in \"",
+    b"\xE2\x80\x9B" => b"U+201B is a curly quote: texts stand in \"",
+    b"\xE2\x80\x9C" => b"U+201C is a curly quote: texts stand in \"",
+    b"\xE2\x80\x9D" => b"U+201D is a curly quote: texts stand in \"",
+    b"\xE2\x80\x9E" => b"U+201E is a curly quote: texts stand in \"",
+    b"\xE2\x80\x9F" => b"U+201F is a curly quote: texts stand in \"",
 ];
 
 fn all_mistakes() -> &'static [Mistake]
@@ -422,49 +126,27 @@ fn all_mistakes() -> &'static [Mistake]
     &MISTAKES
 }
 
-fn all_points() -> &'static [Fact]
-    ensures { map row_of result.now ≡ wrong_points }
+fn quote_facts() -> &'static [Fact]
+    ensures { map row_of result.now ≡ quote_rows (codes "texts stand in \"") }
 {
-    &WRONG_POINTS
+    &QUOTE_FACTS
 }
 
-// Returns a number for a kind.
-fn kind_number(kind: AbnfKind) -> u8
-    ensures { result ≡ kind_number kind }
-{
-    match kind {
-        AbnfKind::Name => 0,
-        AbnfKind::Is => 1,
-        AbnfKind::Adds => 2,
-        AbnfKind::Slash => 3,
-        AbnfKind::LParen => 4,
-        AbnfKind::RParen => 5,
-        AbnfKind::LBrack => 6,
-        AbnfKind::RBrack => 7,
-        AbnfKind::Repeat => 8,
-        AbnfKind::Text => 9,
-        AbnfKind::Num => 10,
-        AbnfKind::Prose => 11,
-        AbnfKind::Bad => 12,
-        AbnfKind::End => 13,
-    }
-}
-
+// Returns whether a kind is one of a list, by the numbers of the variants.
 fn has_kind(kinds: &[AbnfKind], kind: AbnfKind) -> bool
     ensures { result ≡ has_kind kinds.now kind }
 {
-    let number = kind_number(kind);
-    kinds.iter().any(|it| kind_number(*it) == number)
+    kinds.iter().any(|it| *it as u8 == kind as u8)
 }
 
 fn has_marks(marks: Marks, gap: bool, first: bool) -> bool
     ensures { result ≡ has_marks marks gap first }
 {
     match marks {
-        Marks::Any => true,
-        Marks::Tight => !gap,
-        Marks::Within => !gap && !first,
-        Marks::First => first,
+        Any => true,
+        Tight => !gap,
+        Within => !gap && !first,
+        First => first,
     }
 }
 
@@ -562,32 +244,6 @@ fn first_mistake(
     None
 }
 
-// Returns what the first row reports with which a text begins.
-fn first_row(rows: &[Fact], text: &[u8]) -> Option<&'static [u8]>
-    ensures { option_map (λ w. w.now) result ≡ first_row (map row_of rows.now) text.now }
-{
-    for row in rows {
-        if text.starts_with(row.begins) {
-            return Some(row.told);
-        }
-    }
-    None
-}
-
-// Whether a text begins as one in UTF-16 does.
-fn is_utf16(text: &[u8]) -> bool
-    ensures { result ≡ is_utf16 text.now }
-{
-    match text {
-        [] => false,
-        [a] => *a == 0,
-        [a, b, ..] => *a == 0
-            || *b == 0
-            || (*a == 0xFF && *b == 0xFE)
-            || (*a == 0xFE && *b == 0xFF),
-    }
-}
-
 // Whether a text has a CR and no LF.
 fn ends_in_cr(text: &[u8]) -> bool
     ensures { result ≡ ends_in_cr text.now }
@@ -600,13 +256,13 @@ fn text_mistake(text: &[u8], kind: AbnfKind) -> Option<&'static [u8]>
     ensures { option_map (λ w. w.now) result ≡ text_mistake text.now kind }
 {
     match kind {
-        AbnfKind::Bad => {
+        Bad => {
             if is_utf16(text) {
                 return Some(b"the text is UTF-16, not UTF-8");
             }
             None
         }
-        AbnfKind::End => {
+        End => {
             if ends_in_cr(text) {
                 return Some(b"lines end with LF or CR LF, not CR");
             }
@@ -621,7 +277,12 @@ fn point_mistake(token: MarkedToken<'_>) -> Option<&'static [u8]>
     ensures { option_map (λ w. w.now) result ≡ point_mistake token.entry.token.kind token.entry.token.slice.now }
 {
     match token.token.kind {
-        AbnfKind::Bad => first_row(all_points(), token.token.slice),
+        Bad => {
+            if let Some(told) = find_fact(quote_facts(), token.token.slice) {
+                return Some(told);
+            }
+            find_fact(point_facts(), token.token.slice)
+        }
         _ => None,
     }
 }

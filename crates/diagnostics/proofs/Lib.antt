@@ -1,6 +1,5 @@
 pub mod TakenPartLemmas
 pub mod PictureLemmas
-pub mod FirstToldLemmas
 pub mod PhraseLemmas
 pub mod OneToldLemmas
 pub mod TellAllLemmas

@@ -1,17 +1,25 @@
 -- What the first bytes of a text show.
-use Rattle.std.specs.Prelude.{ℕ, ◌==◌, List, [], ◌∷◌, ◌++◌, codes, if◌then◌else◌}
+use Rattle.std.specs.Prelude.{ℕ, ◌==◌, List, [], ◌∷◌, ◌++◌, Option, Some, None, codes, if◌then◌else◌}
 use Rattle.std.specs.List.{starts_with}
+use Rattle.std.specs.Option.{option_map_or}
 
 -- what is reported of a text that begins so
 pub record Row : Type 0 where
   pub begins : List ℕ
   pub told : List ℕ
 
+abbrev pub row : List ℕ → List ℕ → Row
+row begins told = record { begins = begins; told = told }
+
 -- a line of it, after two spaces
 abbrev pub fact_line : List ℕ → List ℕ
 fact_line z = codes "  " ++ (z ++ codes "\n")
 
--- the line of the first row with which the text begins, or nothing
+-- what the first row reports with which the text begins
+abbrev pub first_fact : List Row → List ℕ → Option (List ℕ)
+first_fact [] z = None
+first_fact (r ∷ rs) z = if starts_with (λ a b. a == b) z r.begins then Some r.told else first_fact rs z
+
+-- the line of it, or nothing
 abbrev pub first_told : List Row → List ℕ → List ℕ
-first_told [] z = []
-first_told (r ∷ rs) z = if starts_with (λ a b. a == b) z r.begins then fact_line r.told else first_told rs z
+first_told rows z = option_map_or fact_line (first_fact rows z) []

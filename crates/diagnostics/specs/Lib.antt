@@ -5,6 +5,7 @@ pub mod ShownBytes
 pub mod ToldPhrases
 pub mod FactRows
 pub mod FirstBytes
+pub mod CodePoints
 pub mod BodyMentions
 pub mod DefinitionHeads
 pub mod ExplainedNotes

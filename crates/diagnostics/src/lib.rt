@@ -9,6 +9,6 @@ pub use noteplaces::{
     mention_lines, numbers_of, places_of, push_more,
 };
 pub use picture::{
-    Fact, LineAround, line_around, push_cut, push_fact, push_number, push_phrases, push_picture,
-    push_place, push_shown,
+    Fact, LineAround, find_fact, is_utf16, line_around, point_facts, push_cut, push_fact,
+    push_line, push_number, push_phrases, push_picture, push_place, push_shown,
 };

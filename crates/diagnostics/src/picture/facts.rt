@@ -1,6 +1,7 @@
 //! Facts that the first bytes of a text show.
-ghost use Rattle.std.specs.Prelude.{◌≡◌, ◌++◌, [], map, OnOk, MatchOption};
-ghost use Rattle.diagnostics.specs.FirstBytes.{first_told, fact_line};
+ghost use Rattle.std.specs.Prelude.{◌≡◌, ◌++◌, map, OnOk};
+ghost use Rattle.std.specs.Option.{option_map};
+ghost use Rattle.diagnostics.specs.FirstBytes.{first_fact, first_told, fact_line};
 ghost use Rattle.diagnostics.specs.FactRows.{row_of};
 
 use ruletable::Memory;
@@ -14,24 +15,34 @@ pub struct Fact {
     pub told: &'static [u8],
 }
 
-// Adds a line after two spaces.
-fn push_line(out: &mut Vec<u8>, told: &[u8]) -> Result<(), Memory>
-    ensures { OnOk result (out.new.items ≡ out.old.items ++ fact_line told.now) }
+/// Makes an array of facts: after the first bytes of each stands what is reported.
+#[macro_export]
+macro_rules! facts {
+    ($($begins:literal => $told:literal,)*) => {
+        [$($crate::Fact { begins: $begins, told: $told }),*]
+    };
+}
+
+/// Adds a line after two spaces.
+///
+/// # Errors
+/// `Memory` if an allocation fails.
+pub fn push_line(out: &mut Vec<u8>, line: &[u8]) -> Result<(), Memory>
+    ensures { OnOk result (out.new.items ≡ out.old.items ++ fact_line line.now) }
 {
     out.extend_from_slice(b"  ")?;
-    out.extend_from_slice(told)?;
+    out.extend_from_slice(line)?;
     out.extend_from_slice(b"\n")?;
     Ok(())
 }
 
-// The first row with which the text begins.
-fn find_fact(facts: &[Fact], text: &[u8]) -> Option<Fact>
-    ensures { MatchOption result (first_told (map row_of facts.now) text.now ≡ [])
-        (λ f. first_told (map row_of facts.now) text.now ≡ fact_line f.told.now) }
+/// Returns what the first row reports with which the text begins.
+pub fn find_fact(facts: &[Fact], text: &[u8]) -> Option<&'static [u8]>
+    ensures { option_map (λ w. w.now) result ≡ first_fact (map row_of facts.now) text.now }
 {
     for fact in facts {
         if text.starts_with(fact.begins) {
-            return Some(*fact);
+            return Some(fact.told);
         }
     }
     None
@@ -45,7 +56,7 @@ pub fn push_fact(out: &mut Vec<u8>, facts: &[Fact], text: &[u8]) -> Result<(), M
     ensures { OnOk result (out.new.items ≡ out.old.items ++ first_told (map row_of facts.now) text.now) }
 {
     match find_fact(facts, text) {
-        Some(fact) => push_line(out, fact.told),
+        Some(told) => push_line(out, told),
         None => Ok(()),
     }
 }
