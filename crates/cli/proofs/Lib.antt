@@ -3,4 +3,5 @@ pub mod AppLemmas
 mod EntryLemmas
 pub mod AreWholeLemmas
 pub mod AskLemmas
+mod InputLemmas
 mod JobStatesLemmas

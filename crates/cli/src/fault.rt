@@ -1,5 +1,5 @@
 //! The end of a program whose words were not parsed.
-ghost use Rattle.std.specs.Prelude.{◌≡◌, ◌∷◌, [], IfOk, false};
+ghost use Rattle.std.specs.Prelude.{◌≡◌, ◌∷◌, ◌++◌, ℕ, List, [], IfOk, IfSome, codes, false, string_bytes};
 ghost use Rattle.clap.specs.Words.{kind_of};
 ghost use Rattle.clap.specs.declared.error.kind.ErrorKind.{ErrorKind as Kind};
 ghost use Rattle.cli.specs.Inputs.{InputlessStates};
@@ -15,6 +15,7 @@ use clap::error::ErrorKind;
 use clap::{Command, Error};
 use ruletable::{Sink, write_whole};
 use std::alloc::{AllocError, Global};
+use std::io;
 use toolrun::{Status, Stop, close_run, end_run};
 
 /// The message on a word that is not UTF-8.
@@ -100,7 +101,7 @@ fn end_error<O: Sink, E: Sink>(
 ) -> Status
     requires out_is_fresh { O.failed out.old ≡ false }
     requires err_is_fresh { E.failed err.old ≡ false }
-    ensures { (kind : Kind) → IfOk error.entry (λ e. kind_of e ≡ kind) → Comes (WordsState (kind ∷ [])) no_input
+    ensures { (kind : Kind) → IfOk error (λ e. kind_of e ≡ kind) → Comes (WordsState (kind ∷ [])) no_input
         (passed O.contents O.failed out.old out.new) (passed E.contents E.failed err.old err.new) (code_of result) }
 {
     match error {
@@ -126,6 +127,20 @@ pub fn refuse_invalid_utf8<O: Sink, E: Sink>(
     end_error(alloc, error, out, err)
 }
 
+/// Returns the message on a file of that name that the system cannot open for this reason; `None` if an allocation
+/// fails.
+fn unopened_text(alloc: Global, name: &str, fault: &io::Error) -> Option<String>
+    ensures { IfSome result (λ text. (reason : List ℕ)
+        × (string_bytes text ≡ codes "cannot read " ++ name.now ++ reason)) }
+{
+    let reason = format!(in alloc; ": {fault}\n").ok()?;
+    let mut text = String::new(alloc);
+    text.push_str("cannot read ").ok()?;
+    text.push_str(name).ok()?;
+    text.push_str(reason.as_str()).ok()?;
+    Some(text)
+}
+
 /// Ends a program of that command whose input cannot be opened: `err` says why.
 ///
 /// - `Unasked`: what is wrong with the words, `Refused`.
@@ -140,7 +155,7 @@ pub(crate) fn end_inputless<O: Sink, E: Sink>(
 ) -> Status
     requires out_is_fresh { O.failed out.old ≡ false }
     requires err_is_fresh { E.failed err.old ≡ false }
-    ensures { Comes (InputlessStates why) no_input (passed O.contents O.failed out.old out.new)
+    ensures { Comes (InputlessStates why.entry) no_input (passed O.contents O.failed out.old out.new)
         (passed E.contents E.failed err.old err.new) (code_of result) }
 {
     match why {
@@ -148,11 +163,9 @@ pub(crate) fn end_inputless<O: Sink, E: Sink>(
             let error = error_of(command, ErrorKind::ArgumentConflict, UNASKED);
             end_error(alloc, error, out, err)
         }
-        Inputless::Unopened(name, fault) => match format!(in alloc;
-            "cannot read {name}: {fault}\n"
-        ) {
-            Ok(text) => tell_fault(text.as_str(), Status::Fault, out, err),
-            Err(_) => end_run(Ok(Stop::NoMemory), out, err),
+        Inputless::Unopened(name, fault) => match unopened_text(alloc, name, &fault) {
+            Some(text) => tell_fault(text.as_str(), Status::Fault, out, err),
+            None => end_run(Ok(Stop::NoMemory), out, err),
         },
         Inputless::NoMemory => end_run(Ok(Stop::NoMemory), out, err),
     }

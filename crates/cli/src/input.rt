@@ -49,6 +49,15 @@ pub enum Inputless<'a> {
     NoMemory,
 }
 
+/// Opens the file of that name.
+fn open_named<'a, R: Files>(rt: &R, name: &'a str) -> Result<R::File, Inputless<'a>> {
+    match fs::open(rt, name) {
+        Ok(file) => Ok(file),
+        Err(fault) if fault.kind() == ErrorKind::OutOfMemory => Err(Inputless::NoMemory),
+        Err(fault) => Err(Inputless::Unopened(name, fault)),
+    }
+}
+
 /// Returns the input that the words ask for. It is `standard` if the words name no file for it, or name it `-`, or if
 /// something is wrong with the words; else the file, opened.
 ///
@@ -61,26 +70,29 @@ fn open_input<'a, P: Program, R: Files + AllocGlobal, S: Drop>(
     words: &'a [String],
     standard: S,
 ) -> Result<Input<S, R::File>, Inputless<'a>>
-    ensures { (app : App) × P.is_app app × IfOk result (IsInputOf standard.entry
+    ensures { (app : App) × P.is_app app × IfOk result (IsInputOf standard
         (file_of app (map string_bytes words.entry.now))) }
 {
     let asked = match read_words::<P, String>(rt.alloc(), words) {
         Ok(asked) => asked,
-        Err(error) if error.kind() == WordsFault::OutOfMemory => return Err(Inputless::NoMemory),
-        Err(_) => return Ok(Input::Standard(standard)),
+        Err(error) => {
+            if error.kind() == WordsFault::OutOfMemory {
+                return Err(Inputless::NoMemory);
+            }
+            return Ok(Input::Standard(standard));
+        }
     };
-    let name = match asked.file {
-        Some(name) if name != "-" => name,
-        _ => return Ok(Input::Standard(standard)),
+    let Some(name) = asked.file else {
+        return Ok(Input::Standard(standard));
     };
+    if name == "-" {
+        return Ok(Input::Standard(standard));
+    }
     if asked.settings.mode != Mode::Run {
         return Err(Inputless::Unasked);
     }
-    match fs::open(rt, name) {
-        Ok(file) => Ok(Input::Named(file)),
-        Err(fault) if fault.kind() == ErrorKind::OutOfMemory => Err(Inputless::NoMemory),
-        Err(fault) => Err(Inputless::Unopened(name, fault)),
-    }
+    let file = open_named(rt, name)?;
+    Ok(Input::Named(file))
 }
 
 /// Opens the input of a program, which reads ahead: a buffer spares a system call for each line or unit. It is

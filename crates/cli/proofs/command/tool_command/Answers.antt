@@ -27,11 +27,11 @@ returns c =
     ∙ ap (λ (app : App). with_rule app grammar_rule) flagged in (
       mode.rule.0,
       mode.rule.1,
-      IfOk-weaker c.arg.result _ _
+      IfOk-weaker c.arg-2.result _ _
           (λ r added.
           added_rule c.in_ok-command-6.command r c.file_arg.result file_rule file.local file.rule added
           ∙ ap (λ (app : App). with_rule app file_rule) whole)
-          c.arg.ensures,
+          c.arg-2.ensures,
     )
 
 pub returns-in_err-command-6 : goal.returns-in_err-command-6

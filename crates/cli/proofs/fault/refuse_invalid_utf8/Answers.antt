@@ -1,14 +1,5 @@
--- An allocation failed for the error.
-use Rattle.std.proofs.Common.{◌∷◌, []}
 use Rattle.clap.specs.declared.error.kind.ErrorKind.TheVariants.{ValueValidation}
-use Rattle.cli.proofs.JobStatesLemmas.{without_room}
-use Rattle.toolrun.specs.Status.{code_of}
-use Rattle.toolrun.specs.Stream.{passed}
 use Rattle.cli.proofs.fault.refuse_invalid_utf8.Goals as goal
 
-pub returns-in-Err : goal.returns-in-Err
-returns-in-Err g c = record {
-  refused = without_room (passed g.O.Sink.contents g.O.Sink.failed c.args.out.now c.finish.new.out)
-      (passed g.E.Sink.contents g.E.Sink.failed c.args.err.now c.finish.new.err) (code_of c.finish.result)
-      (ValueValidation ∷ []) (c.finish.ensures.kept, c.finish.ensures.told);
-}
+pub returns : goal.returns
+returns g c = record { refused = c.end_error.ensures ValueValidation c.error_of-error.ensures.kind }
