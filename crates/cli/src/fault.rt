@@ -133,7 +133,7 @@ fn unopened_text(alloc: Global, name: &str, fault: &io::Error) -> Option<String>
     ensures { IfSome result (λ text. (reason : List ℕ)
         × (string_bytes text ≡ codes "cannot read " ++ name.now ++ reason)) }
 {
-    let reason = format!(in alloc; ": {fault}\n").ok()?;
+    let reason = format!(in alloc; ": {}\n", fault).ok()?;
     let mut text = String::new(alloc);
     text.push_str("cannot read ").ok()?;
     text.push_str(name).ok()?;

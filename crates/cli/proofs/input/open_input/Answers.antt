@@ -7,10 +7,11 @@ use Rattle.cli.proofs.input.open_input.Goals as goal
 pub returns-in-Err : goal.returns-in-Err
 returns-in-Err g c =
     let said = c.in-Err.ensures.asked in
-    let words = map (string_bytes {Z = Global}) c.args.words.now in (
+    let words = map (string_bytes {Z = Global}) c.args.words.now in
+    let named = first_of (codes "file") (matches_of said.0 words) in (
       said.0,
       said.1,
-      rw (file_of_wrong (fault_of said.0 words) (first_of (codes "file") (matches_of said.0 words)) c.in-Err.error said.2
+      rw (file_of_wrong (fault_of said.0 words) named c.in-Err.error said.2
           (λ e. absurd (cc (rw (c.kind.ensures ∙ e) at c.if-eq.ensures))))
           refl,
     )
