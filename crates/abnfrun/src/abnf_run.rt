@@ -26,8 +26,8 @@ use toolrun::{Status, run_tool};
 /// - If the settings ask for explanations, a note on a rule that is defined again, extended early, or not used, is
 ///   followed by the lines of its definitions; others by the first use of a name that is not defined, and the first
 ///   prose of a rule, with the names of the rules by which the judged rule reaches these. All notes are followed by
-///   hints on rules that derive nothing, on reversed ranges, and on a judged rule that derives no line, unless the
-///   grammar is to be printed.
+///   hints on rules that derive nothing, on reversed ranges and repetitions, and on a judged rule that derives no line,
+///   unless the grammar is to be printed.
 /// - A line ends before an LF, or before a NUL byte if the settings say so, and a last piece without an end is a line
 ///   if it is not empty; all other bytes belong to their line. It is answered by `yes` exactly if the judged rule
 ///   derives it: the rule named in the settings, or else the first. The letters of a line are its bytes; or, if the
