@@ -26,8 +26,8 @@ use toolrun::{Status, run_tool};
 /// - If the settings ask for explanations, further lines follow each note. After one on a rule that is defined again,
 ///   extended early, or not used, come the lines of its definitions. After one on a name that is not defined comes its
 ///   first use, and after one on prose the first prose of the rule. Both have the names of the rules by which the
-///   judged rule reaches them. After all notes come hints on rules that derive nothing, on reversed ranges, and on a
-///   judged rule that derives no line, unless the grammar is to be printed.
+///   judged rule reaches them. After all notes come hints on rules that derive nothing, on reversed ranges and
+///   repetitions, and on a judged rule that derives no line, unless the grammar is to be printed.
 /// - A line ends before an LF, or before a NUL byte if the settings say so. A last piece without an end is a line if it
 ///   is not empty. All other bytes belong to their line. It is answered by `yes` exactly if the judged rule derives it:
 ///   the rule named in the settings, or else the first. The symbols of a line are its bytes, or, if the settings say

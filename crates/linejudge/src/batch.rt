@@ -6,7 +6,7 @@ ghost use Rattle.linejudge.specs.LineSteps.{AddsLines};
 
 use crate::answers::Judge;
 use crate::line::LineForm;
-use crate::printed::push_line;
+use crate::printed::{has_plain_answers, push_if_plain};
 use crate::reached::{At, BATCH};
 use memchr::memchr;
 
@@ -41,6 +41,7 @@ pub(crate) fn judge_front<W, J: Judge<W>>(
     if judge.is_explained() {
         return at;
     }
+    let is_plain = has_plain_answers(form);
     let mut next = at;
     let mut len = 0;
     while text.len() <= BATCH - MAX_ANSWER {
@@ -55,7 +56,7 @@ pub(crate) fn judge_front<W, J: Judge<W>>(
         let Ok(said) = judge.judge(work, line) else {
             return next;
         };
-        let Ok(()) = push_line(form, next.count + 1, line, said, text) else {
+        let Ok(()) = push_if_plain(is_plain, form, next.count + 1, line, said, text) else {
             text.clear();
             return at;
         };

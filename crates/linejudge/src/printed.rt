@@ -1,8 +1,9 @@
 //! The output for the lines of an input, and at its end.
-ghost use Rattle.std.specs.Prelude.{◌≡◌, ◌++◌, ◌∷◌, [], OnOk, codes, decimal, false};
+ghost use Rattle.std.specs.Prelude.{◌≡◌, ◌++◌, ◌∷◌, ℕ, List, [], IsTrue, OnOk, codes, decimal, false};
 ghost use Rattle.ruletable.specs.Writing.{Flags, Writes};
 ghost use Rattle.linejudge.specs.InputLines.{answer_text, count_text, is_line_printed, printed_last};
 ghost use Rattle.linejudge.specs.InputLines.{number_text, printed_line, shown_text};
+ghost use Rattle.linejudge.specs.declared.answers.Answer.{Answer};
 
 use crate::answers::{Answer, is_yes};
 use crate::line::LineForm;
@@ -102,8 +103,38 @@ fn push_shown(
     }
 }
 
-/// Adds what is printed for a line of that number with that answer. `Memory` if an allocation fails.
+/// Returns whether the answer to a line is all that is printed for it.
+pub(crate) fn has_plain_answers(form: LineForm) -> bool
+    ensures { IsTrue result → (number : ℕ) (line : List ℕ) (said : Answer) →
+        printed_line form number line said ≡ answer_text said }
+{
+    match form.printed {
+        Printed::Answers => !form.numbered,
+        Printed::Derived | Printed::Refused | Printed::Count | Printed::Nothing => false,
+    }
+}
+
+/// Adds what is printed for a line of that number with that answer; with `is_plain`, that is the answer. `Memory` if an
+/// allocation fails.
 #[inline(always)]
+pub(crate) fn push_if_plain(
+    is_plain: bool,
+    form: LineForm,
+    number: usize,
+    line: &[u8],
+    said: Answer,
+    text: &mut Vec<u8>,
+) -> Result<(), Memory>
+    requires plain { IsTrue is_plain → printed_line form number line.now said ≡ answer_text said }
+    ensures { OnOk result (text.new.items ≡ text.old.items ++ printed_line form number line.now said) }
+{
+    if is_plain {
+        return push_answer(said, text);
+    }
+    push_line(form, number, line, said, text)
+}
+
+/// Adds what is printed for a line of that number with that answer. `Memory` if an allocation fails.
 pub(crate) fn push_line(
     form: LineForm,
     number: usize,

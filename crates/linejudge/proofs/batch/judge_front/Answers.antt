@@ -15,7 +15,7 @@ loop-len-preserved g c = record {
   counted = rw c.behind-next.ensures (omega (arith, c.loop-len.invariant.counted));
   refused = rw c.behind-next.ensures (omega (arith, c.loop-len.invariant.refused, refused_by-one c.in-Ok.said));
   goes_on = λ input rest is.
-      let pushed = (rw take_rest at c.in-Ok-push_line.ensures) in
+      let pushed = (rw take_rest at c.in-Ok-push_if_plain.ensures) in
       rw (c.behind-next.ensures, pushed) (goes_one_on (g.J.Judge.told c.args.judge.now)
       (g.J.Judge.explains c.args.judge.now) (g.J.Judge.refusal c.args.judge.now) c.args.form input
       (sym c.is_explained.ensures ∙ c.if-is_explained.false) c.args.at c.loop-len.next c.loop-len.text.items
