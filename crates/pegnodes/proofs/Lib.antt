@@ -2,6 +2,7 @@ pub mod AreBodiesLemmas
 pub mod AreCutsLemmas
 pub mod BodyOfLemmas
 pub mod ByByteLemmas
+pub mod ByteTablesLemmas
 pub mod DecidesLemmas
 pub mod CutFrontLemmas
 pub mod FilledBlanksLemmas
@@ -20,5 +21,4 @@ pub mod PushCasesLemmas
 pub mod PushedMarksLemmas
 pub mod PutInLemmas
 pub mod RunTablesLemmas
-pub mod StarTablesLemmas
 pub mod WidthsLemmas
