@@ -2,7 +2,8 @@
 -- Serves: check_peg, SoundPeg::run_table, SoundPeg::choice_table
 use Rattle.std.proofs.Common.{◌≡◌, ◌⊎◌, ℕ, suc, zero, Option, List, [], ◌∷◌, ◌++◌, length, IfSome, Some, None}
 use Rattle.std.proofs.Common.{refl, sym, subst, ap, inl, inr, ⊎_elim, ◌∙◌, ◌<◌, get_or, MatchOption}
-use Rattle.std.specs.Prelude.{slice_get}
+use Rattle.std.specs.Prelude.{slice_get, Result, IfOk}
+use Rattle.std.proofs.lemmas.Result.{IfOk-weaker}
 use Rattle.std.proofs.lemmas.Option.{slice_get-get_or, get_or_from_slice_get}
 use Rattle.pegnodes.specs.ByteTables.{HasTable, IsRunTableOf, IsChoiceTableOf, HasByteTable, AreByteTables}
 use Rattle.pegnodes.specs.KeyLists.{Marks}
@@ -29,6 +30,15 @@ pub some_read : {A : Type 0} (N : Type 0) (P Q : A → Type 0) (r : Option A) �
     → MatchOption r N P → IfSome r Q
 some_read N P Q None f h = tt
 some_read N P Q (Some x) f h = f x h
+
+some_weaker : (P Q : ℕ → Type 0) → ((p : ℕ) → P p → Q p) → (place : Option ℕ) → IfSome place P → IfSome place Q
+some_weaker P Q f None h = tt
+some_weaker P Q f (Some p) h = f p h
+
+-- a place that is returned, if any
+pub placed_as : {E : Type 0} (P Q : ℕ → Type 0) (r : Result (Option ℕ) E) → ((p : ℕ) → P p → Q p)
+    → IfOk r (λ place. IfSome place P) → IfOk r (λ place. IfSome place Q)
+placed_as P Q r f h = IfOk-weaker r (λ place. IfSome place P) (λ place. IfSome place Q) (some_weaker P Q f) h
 
 module _ {T : Type 0} (P : T → Type 0) where
   -- a table that is added at the end
