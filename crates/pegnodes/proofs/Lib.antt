@@ -3,6 +3,7 @@ pub mod AreCutsLemmas
 pub mod BodyOfLemmas
 pub mod ByByteLemmas
 pub mod ByteTablesLemmas
+pub mod ChoiceTablesLemmas
 pub mod DecidesLemmas
 pub mod CutFrontLemmas
 pub mod FilledBlanksLemmas

@@ -1,5 +1,5 @@
 //! Tables by the next byte: of the operands of a grammar's repetitions, and of its choices.
-ghost use Rattle.std.specs.Prelude.{◌≡◌, ◌++◌, List, IfOk, IfSome, slice_get, Some};
+ghost use Rattle.std.specs.Prelude.{◌≡◌, ◌++◌, ℕ, List, IfOk, IfSome, slice_get, Some};
 ghost use Rattle.pegnodes.specs.ByteTables.{AreByteTables, HasByteTable, HasTable, IsChoiceTableOf, IsRunTableOf};
 ghost use Rattle.pegnodes.specs.Decides.{marks_in};
 ghost use Rattle.pegnodes.specs.Nodes.{Choice, shapes_of};
@@ -17,7 +17,7 @@ use std::alloc::Global;
 // microseconds, so a grammar of more repetitions or choices runs the others without.
 const MOST_TABLES: usize = 256;
 
-// The nodes up to this number are considered: those after have no table of a choice.
+// A choice whose node has this number or a greater one has no table, so that a grammar of very many rules starts soon.
 const MOST_NODES: usize = 4000;
 
 /// The tables of a grammar's repetitions and of its choices, and of each node the place of its table, if it has one.
