@@ -29,6 +29,7 @@ use Rattle.packrat.specs.MachineSteps.{State, Works, start_at}
 use Rattle.packrat.specs.Onward.{IsWell, IsLed, entering_of, tail_of, member_of}
 use Rattle.packrat.specs.Skipped.{AreFailed, AreSkipped, IsRest}
 use Rattle.packrat.specs.SpotSteps.{SpotSteps}
+use Rattle.packrat.specs.TurnsLeft.{left, most_begun}
 use Rattle.packrat.specs.Stands.{Stands, IsClosed, key_of, AreWaiting, IsEntered}
 use Rattle.packrat.specs.declared.frames.Frame.{Frame}
 use Rattle.packrat.specs.declared.frames.Wait.TheVariants.{First}
@@ -37,6 +38,7 @@ use Rattle.packrat.specs.declared.machine.Turn.TheVariants.{Ask, Answer}
 use Rattle.packrat.specs.declared.onward.Entering.{Entering}
 use Rattle.packrat.specs.declared.skips.Skips.{Skips}
 use Rattle.packrat.proofs.ByteGivesLemmas.{gives_by, choice_has}
+use Rattle.packrat.proofs.LeftLemmas as T
 use Rattle.packrat.proofs.OnwardLemmas as M
 use Rattle.packrat.proofs.RunTurnsLemmas.{decided_comes}
 use Rattle.packrat.proofs.StandsLemmas as L
@@ -198,3 +200,23 @@ module _ (g : Grammar) (x : List ℕ) (more : Bool) (marks : Marks) (some : WasE
         h.members v s.pairs) (sym all) f.fail in
         stands_failed h.place f.byte f.here f.last root h.node (1 + s.pairs) ls st new links count asked_pair pair_fresh
         (all_fail fail f.at) (subst (λ v. IsClosed g x more marks links v failure st new) h.spot c)
+
+module _ (g : Grammar) (x : List ℕ) (more : Bool) (marks : Marks) where
+  module _ (a : Spot) (s : Skips) (h : AreSkipped g x more marks a s) (well : IsWell g x a) (ls : List Frame)
+      (begun now : ℕ) (is : now ≡ begun + (1 + s.pairs)) (le : now ≤ most_begun g x) where
+    pub less_skipped : (e : Entering) → s.rest ≡ Some e → (key : Bool) (mid new : List Frame) (b : Spot)
+        → AreWaiting key 0 a ls mid → IsEntered marks e mid new b
+        → left g x (Ask b) new now < left g x (Ask a) ls begun
+    less_skipped e rest key mid new b w i =
+        let f = h.failed in
+        let r = subst (IsRest h.node h.members h.index h.place) rest h.rest in
+        let there = subst (IsWell g x) h.spot well in
+        let tail = subst (λ v. IsWell g x (tail_of v)) (sym r.1)
+        (there.0, there.1, (node.Choice h.members, f.at, r.0)) in
+        subst (λ v. left g x (Ask b) new now < left g x (Ask v) ls begun) (sym h.spot)
+        (T.less_skipped g x marks h.node h.place e b key ls mid new begun now (1 + s.pairs) is (omega arith) le tail
+        (subst (λ v. AreWaiting key 0 v ls mid) h.spot w) i)
+
+    pub less_failed : left g x (Answer failure) ls now < left g x (Ask a) ls begun
+    less_failed = subst (λ v. left g x (Answer failure) ls now < left g x (Ask v) ls begun) (sym h.spot)
+        (T.less_ended g x h.node h.place failure ls begun now (1 + s.pairs) is (omega arith) le)

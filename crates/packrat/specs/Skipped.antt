@@ -4,11 +4,19 @@ use Rattle.gramcheck.specs.Grammar.{Grammar}
 use Rattle.pegnodes.specs.ChoiceTables.{FailFirst}
 use Rattle.pegnodes.specs.KeyLists.{Marks, node_marks, tail_marks}
 use Rattle.pegnodes.specs.Nodes.{Choice, shapes_of}
+use Rattle.pegnodes.specs.declared.choice_table.Skip.{Skip}
 use Rattle.memo.specs.declared.spot.Spot.{Spot}
 use Rattle.memo.specs.declared.spot.Spot.TheVariants.{Pair}
 use Rattle.packrat.specs.Onward.{entering_of}
 use Rattle.packrat.specs.declared.onward.Entering.{Entering}
 use Rattle.packrat.specs.declared.skips.Skips.{Skips}
+
+-- A byte stands there, before position `to`, and this is its entry.
+pub record IsSkipAt (entries : List Skip) (x : List ℕ) (at to : ℕ) (skip : Skip) : Type 0 where
+  pub before : at < to
+  pub byte : ℕ
+  pub here : slice_get x at ≡ Some byte
+  pub entry : slice_get entries byte ≡ Some skip
 
 -- the tail of choice n at position p from alternative i on, if there is one
 abbrev pub IsRest : ℕ → List ℕ → ℕ → ℕ → Option Entering → Type 0

@@ -381,7 +381,7 @@ impl Machine {
 
     // Begins a choice whose first alternatives fail, and goes to the next one, or returns that the choice fails.
     #[inline(always)]
-    fn skip(
+    fn run_skips(
         &mut self,
         peg: &SoundPeg,
         window: &[u8],
@@ -456,7 +456,7 @@ impl Machine {
             None => match self.turns_at(peg, window, more, spot) {
                 Some(turns) => Ok(Some(self.run_turns(peg, window, more, turns)?)),
                 None => match skips_at(peg, window, more, spot) {
-                    Some(skips) => Ok(Some(self.skip(peg, window, spot, key, skips)?)),
+                    Some(skips) => Ok(Some(self.run_skips(peg, window, spot, key, skips)?)),
                     None => self.start_spot(peg, window, more, spot, key),
                 },
             },
