@@ -1,12 +1,12 @@
 -- A choice whose first alternatives the byte at its position decides to fail, where the loop skips them.
 -- Serves: Packrat::match_unit
-use Rattle.std.proofs.Common.{◌≡◌, ℕ, zero, suc, ◌+◌, ◌<◌, ◌≤◌, ◌==◌, Bool, true, false, List, ◌∷◌, ◌++◌, Option, length}
+use Rattle.std.proofs.Common.{◌≡◌, ℕ, suc, ◌+◌, ◌<◌, ◌≤◌, Bool, true, false, List, ◌∷◌, ◌++◌, length}
 use Rattle.std.proofs.Common.{Some, None, refl, sym, subst, arith, inl, inr}
 use Rattle.std.proofs.lemmas.Option.{slice_get_past, slice_get_within}
-use Rattle.std.specs.Prelude.{slice_get, get_or}
+use Rattle.std.specs.Prelude.{slice_get}
 use Rattle.pegread.specs.PegViews.{rules_of}
 use Rattle.packrat.specs.declared.events.link.Link.{Link}
-use Rattle.pegnodes.specs.ByByte.{ByByte, by_shape, Below, below, ByShape, by_alternatives, ByAlternatives}
+use Rattle.pegnodes.specs.ByByte.{ByByte, by_shape, below, ByShape, by_alternatives, ByAlternatives}
 use Rattle.pegnodes.specs.ByByte.{alternatives_end, alternative_fails}
 use Rattle.pegnodes.specs.ChoiceTables.{FailFirst, fail_none, fail_more}
 use Rattle.gramcheck.specs.Grammar.{Grammar, IsSoundGrammar}
@@ -26,8 +26,8 @@ use Rattle.memo.specs.declared.spot.Spot.{Spot}
 use Rattle.memo.specs.declared.spot.Spot.TheVariants.{Pair, Tail}
 use Rattle.memo.proofs.PartsLemmas.{in_either}
 use Rattle.packrat.specs.MachineSteps.{State, Works, start_at}
-use Rattle.packrat.specs.Onward.{IsWell, IsLed, entering_of, tail_of, member_of}
-use Rattle.packrat.specs.Skipped.{AreFailed, AreSkipped, IsRest}
+use Rattle.packrat.specs.Onward.{IsWell, entering_of, tail_of}
+use Rattle.packrat.specs.Skipped.{AreSkipped, IsRest}
 use Rattle.packrat.specs.SpotSteps.{SpotSteps}
 use Rattle.packrat.specs.TurnsLeft.{left, most_begun}
 use Rattle.packrat.specs.Stands.{Stands, IsClosed, key_of, AreWaiting, IsEntered}
@@ -52,7 +52,8 @@ module _ {nodes : List Shape} {bodies : List ℕ} {marks : ℕ → Bool} {tails 
       let lt = slice_get_within ms i m there in omega (arith, lt)
 
   alternatives_from : {i c d : ℕ} {v : Verdict} → FailFirst nodes bodies marks tails b n ms i c
-      → ByAlternatives nodes bodies marks tails b n ms i v d → ByAlternatives nodes bodies marks tails b n ms 0 v (c + d)
+      → ByAlternatives nodes bodies marks tails b n ms i v d
+      → ByAlternatives nodes bodies marks tails b n ms 0 v (c + d)
   alternatives_from {d = d} {v = v} fail_none r =
       subst (ByAlternatives nodes bodies marks tails b n ms 0 v) (omega arith) r
   alternatives_from {d = d} {v = v} (fail_more {c = c} {d = e} f there plain h) r =
@@ -62,8 +63,10 @@ module _ {nodes : List Shape} {bodies : List ℕ} {marks : ℕ → Bool} {tails 
   -- a choice of which all alternatives fail
   pub all_fail : {c : ℕ} → FailFirst nodes bodies marks tails b n ms (length ms) c
       → slice_get nodes n ≡ Some (node.Choice ms) → ByByte nodes bodies marks tails b n Fails (1 + c)
-  all_fail {c = c} f at = by_shape at (subst (λ v. ByShape nodes bodies marks tails b n (node.Choice ms) Fails (1 + v))
-      (omega arith) (by_alternatives (alternatives_from f (alternatives_end (slice_get_past ms (length ms) (omega arith))))))
+  all_fail {c = c} f at =
+      let end = alternatives_end (slice_get_past ms (length ms) (omega arith)) in
+      by_shape at (subst (λ v. ByShape nodes bodies marks tails b n (node.Choice ms) Fails (1 + v)) (omega arith)
+      (by_alternatives (alternatives_from f end)))
 
 abbrev failure : Given
 failure = record { found = Failed; events = 0 }
@@ -133,13 +136,13 @@ module _ (g : Grammar) (x : List ℕ) (more : Bool) (marks : Marks) (some : WasE
           → S root (Ask (Tail n (suc i) p)) ls st links (count + d)
       skip_one i m d count there plain free h lt s =
           let w = tail_well i (omega (arith, lt)) in
-          let has = choice_has (rules_of g.rules) g.start (shapes_of g.nodes) g.bodies g.ranks x sound n i m ms at well.0
-          there in
+          let has = choice_has (rules_of g.rules) g.start (shapes_of g.nodes) g.bodies g.ranks x sound n i m ms at
+          well.0 there in
           let down = L.stands_down g x more marks root (Tail n i p) ls st links count s (λ t. absurd (cc (t, plain)))
           (Pair m p) false (sym plain) ((node.Choice ms, at, (m, there, refl)), (has, well.1)) in
+          let stays = L.closed_plain g x more marks links (Pair m p) failure st free in
           let back = stands_failed root m d (record { spot = Tail n i p; key = false; wait = First } ∷ ls) st st links
-          (count + 0) down (λ t. absurd (cc (t, free))) h (L.closed_plain g x more marks links (Pair m p) failure st free)
-          in
+          (count + 0) down (λ t. absurd (cc (t, free))) h stays in
           subst (S root (Ask (Tail n (suc i) p)) ls st links) (omega arith)
           (L.stands_on g x more marks root (Tail n i p) failure ls st links ((count + 0) + d) false back
           (Tail n (suc i) p) ls (M.other_more g x more some sound n i p ms Failed w (suc i) refl at refl lt)
@@ -154,8 +157,8 @@ module _ (g : Grammar) (x : List ℕ) (more : Bool) (marks : Marks) (some : WasE
           (skip_one i m d (count + c) there plain free h lt (skip_all count f (omega (arith, lt)) s))
 
   module _ (root a : Spot) (s : Skips) (h : AreSkipped g x more marks a s) (ls : List Frame) (st : List Stored)
-      (links : List Link) (count : ℕ) (t : S root (Ask a) ls st links count) (key : Bool) (is_key : key ≡ key_of marks a)
-      (fresh : key ≡ true → IsIn a (spots_of st) → ⊥) where
+      (links : List Link) (count : ℕ) (t : S root (Ask a) ls st links count) (key : Bool)
+      (is_key : key ≡ key_of marks a) (fresh : key ≡ true → IsIn a (spots_of st) → ⊥) where
     -- the task, as a pair
     asked_pair : S root (Ask (Pair h.node h.place)) ls st links count
     asked_pair = subst (λ v. S root (Ask v) ls st links count) h.spot t
@@ -196,8 +199,8 @@ module _ (g : Grammar) (x : List ℕ) (more : Bool) (marks : Marks) (some : WasE
     stands_none_left is new c =
         let f = h.failed in
         let all : length h.members ≡ h.index = subst (IsRest h.node h.members h.index h.place) is h.rest in
-        let fail = subst (λ v. FailFirst (shapes_of g.nodes) g.bodies (node_marks marks) (tail_marks marks) f.byte h.node
-        h.members v s.pairs) (sym all) f.fail in
+        let fail = subst (λ v. FailFirst (shapes_of g.nodes) g.bodies (node_marks marks) (tail_marks marks) f.byte
+        h.node h.members v s.pairs) (sym all) f.fail in
         stands_failed h.place f.byte f.here f.last root h.node (1 + s.pairs) ls st new links count asked_pair pair_fresh
         (all_fail fail f.at) (subst (λ v. IsClosed g x more marks links v failure st new) h.spot c)
 

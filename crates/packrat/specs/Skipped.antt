@@ -24,8 +24,8 @@ IsRest n ms i p (Some e) = (i < length ms) × (e ≡ entering_of n ms i p)
 IsRest n ms i p None = length ms ≡ i
 
 module _ (g : Grammar) (x : List ℕ) (more : Bool) (marks : Marks) where
-  -- The byte at position p decides that the first i alternatives of choice n fail there, which is so many pairs. If more
-  -- bytes follow the window, the byte is not its last one.
+  -- The byte at position p decides that the first i alternatives of choice n fail there, which is so many pairs. If
+  -- more bytes follow the window, the byte is not its last one.
   pub record AreFailed (n p : ℕ) (ms : List ℕ) (i pairs : ℕ) : Type 0 where
     pub at : slice_get (shapes_of g.nodes) n ≡ Some (Choice ms)
     pub byte : ℕ

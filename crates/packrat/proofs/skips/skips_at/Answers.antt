@@ -1,4 +1,4 @@
-use Rattle.std.proofs.Common.{◌∙◌, Some, ap, subst, arith, length, ◌≤◌}
+use Rattle.std.proofs.Common.{◌∙◌, Some, ap, subst, arith, length}
 use Rattle.pegmatch.proofs.NodeShapeLemmas.{shape_at}
 use Rattle.packrat.specs.Skipped.{IsRest}
 use Rattle.packrat.proofs.SkippedLemmas.{fail_within}
