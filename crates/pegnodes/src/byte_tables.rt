@@ -6,8 +6,9 @@ ghost use Rattle.pegnodes.specs.Nodes.{Choice, shapes_of};
 ghost use Rattle.pegnodes.specs.declared.choice_table.ChoiceTable.{ChoiceTable};
 ghost use Rattle.pegnodes.specs.declared.run_table.RunTable.{RunTable};
 
-use crate::by_byte::MarkedNodes;
+use crate::by_byte::{MarkedNodes, decide};
 use crate::choice_table::{ChoiceTable, MOST_ALTERNATIVES};
+use crate::keys::mark_or;
 use crate::node::Node;
 use crate::run_table::RunTable;
 use ruletable::Memory;
@@ -51,6 +52,17 @@ fn add_run(
     Ok(Some(place as u16))
 }
 
+// Returns whether byte 0 decides anything of the first alternative, which is no key. Few alternatives begin with that
+// byte, so where it decides nothing, hardly any byte does.
+fn may_skip(grammar: &MarkedNodes<'_>, alternatives: &[usize]) -> bool {
+    match alternatives.first() {
+        Some(first) => {
+            !mark_or(grammar.keys, *first, true) && decide(grammar, *first, 0).is_some()
+        }
+        None => false,
+    }
+}
+
 // Adds the table of a choice, if the table is of use, and returns its place.
 fn add_choice(
     alloc: Global,
@@ -66,6 +78,9 @@ fn add_choice(
 {
     let place = choices.len();
     if place >= MOST_TABLES || alternatives.len() > MOST_ALTERNATIVES {
+        return Ok(None);
+    }
+    if !may_skip(grammar, alternatives) {
         return Ok(None);
     }
     let table = ChoiceTable::new(alloc, grammar, alternatives)?;
