@@ -6,12 +6,12 @@ ghost use Rattle.pegread.specs.PegViews.{rules_of};
 ghost use Rattle.gramcheck.specs.Grammar.{IsNumbered, IsSoundGrammar};
 ghost use Rattle.gramcheck.specs.Printing.{ArePrintMarks};
 ghost use Rattle.pegnodes.specs.Bodies.{AreBodies, IsBuilt};
+ghost use Rattle.pegnodes.specs.ByteTables.{AreByteTables};
 ghost use Rattle.pegnodes.specs.KeyLists.{marks_of, node_marks, tail_marks};
 ghost use Rattle.pegnodes.specs.KeyMarks.{AreMarks};
 ghost use Rattle.pegnodes.specs.NodeLists.{AreNumbered};
 ghost use Rattle.pegnodes.specs.Nodes.{shapes_of};
 ghost use Rattle.pegnodes.specs.Slots.{AreCuts};
-ghost use Rattle.pegnodes.specs.StarTables.{AreStarTables};
 ghost use Rattle.gramcheck.specs.Sound.{IsRanked};
 
 use crate::printing::print_marks;
@@ -111,9 +111,9 @@ fn tables_of(alloc: Global, cut: &Cut, start: usize) -> Result<Tables, Memory>
         × AreMarks start (shapes_of cut.now.nodes.items) cut.now.bodies.items
         (node_marks (marks_of (shapes_of cut.now.nodes.items) t.keys.nodes.items t.keys.behind.items))
         (tail_marks (marks_of (shapes_of cut.now.nodes.items) t.keys.nodes.items t.keys.behind.items))
-        × AreStarTables (shapes_of cut.now.nodes.items) cut.now.bodies.items
+        × AreByteTables (shapes_of cut.now.nodes.items) cut.now.bodies.items
         (marks_of (shapes_of cut.now.nodes.items) t.keys.nodes.items t.keys.behind.items)
-        t.stars.places.items t.stars.tables.items) }
+        t.by_byte.places.items t.by_byte.runs.items t.by_byte.choices.items) }
 {
     let printing = print_marks(alloc, &cut.nodes, &cut.bodies)?;
     let templates = cut_templates(alloc, &cut.nodes)?;
@@ -124,11 +124,11 @@ fn tables_of(alloc: Global, cut: &Cut, start: usize) -> Result<Tables, Memory>
         keys: &keys.nodes,
         behind: &keys.behind,
     };
-    let stars = find_tables(alloc, &marked)?;
+    let by_byte = find_tables(alloc, &marked)?;
     Ok(Tables {
         printing,
         templates,
         keys,
-        stars,
+        by_byte,
     })
 }

@@ -3,18 +3,21 @@ ghost use Rattle.std.specs.Prelude.{◌≡◌, ◌↔◌, ◌<◌, ℕ, IfSome, 
 ghost use Rattle.pegread.specs.Pattern.{Pattern};
 ghost use Rattle.pegread.specs.PegViews.{rules_of};
 ghost use Rattle.gramcheck.specs.Grammar.{HasKeys, IsNumbered, IsSoundGrammar};
+ghost use Rattle.pegnodes.specs.ByteTables.{AreByteTables};
+ghost use Rattle.pegnodes.specs.ChoiceTables.{IsChoiceTable};
 ghost use Rattle.pegnodes.specs.KeyLists.{marks_of, node_marks, tail_marks};
 ghost use Rattle.pegnodes.specs.KeyMarks.{AreMarks};
 ghost use Rattle.pegnodes.specs.NodeCounts.{node_counts};
 ghost use Rattle.pegnodes.specs.NodeLists.{AreNumbered};
-ghost use Rattle.pegnodes.specs.Nodes.{Act, Star, shapes_of, Spells};
+ghost use Rattle.pegnodes.specs.Nodes.{Act, Choice, Star, shapes_of, Spells};
 ghost use Rattle.gramcheck.specs.Printing.{ArePrintMarks, Prints};
 ghost use Rattle.pegnodes.specs.RunTables.{IsTable};
 ghost use Rattle.pegnodes.specs.Slots.{AreCuts, IsCut};
 ghost use Rattle.gramcheck.specs.Sound.{IsRanked};
-ghost use Rattle.pegnodes.specs.StarTables.{AreStarTables};
 
-use pegnodes::{Cut, Keys, Node, RunTable, StarTables, Template, Templates, is_key_from, mark_or};
+use pegnodes::{
+    ByteTables, ChoiceTable, Cut, Keys, Node, RunTable, Template, Templates, is_key_from, mark_or,
+};
 use pegread::Expr;
 use ruletable::RuleTable;
 use std::marker::Model;
@@ -28,8 +31,8 @@ pub(crate) struct Tables {
     pub(crate) templates: Templates,
     /// Which nodes, and which tails of sequences, are keys.
     pub(crate) keys: Keys,
-    /// The outcomes that one byte decides, of the operands of repetitions.
-    pub(crate) stars: StarTables,
+    /// The outcomes that one byte decides, of the operands of repetitions and of choices.
+    pub(crate) by_byte: ByteTables,
 }
 
 /// A grammar that can be run: checked, and with the tables that a matcher looks up by node.
@@ -55,8 +58,8 @@ pub struct SoundPeg {
     templates: Templates,
     /// Which nodes, and which tails of sequences, are keys.
     keys: Keys,
-    /// The outcomes that one byte decides, of the operands of repetitions.
-    stars: StarTables,
+    /// The outcomes that one byte decides, of the operands of repetitions and of choices.
+    by_byte: ByteTables,
 }
 
 impl Model for SoundPeg {
@@ -68,7 +71,7 @@ impl Model for SoundPeg {
     ghost use Rattle.gramcheck.specs.Printing.{ArePrintMarks};
     ghost use Rattle.pegnodes.specs.Slots.{AreCuts};
     ghost use Rattle.gramcheck.specs.Sound.{IsRanked};
-    ghost use Rattle.pegnodes.specs.StarTables.{AreStarTables};
+    ghost use Rattle.pegnodes.specs.ByteTables.{AreByteTables};
     ghost use Rattle.pegnodes.specs.contracts.node.Node as n;
     ghost use Rattle.pegread.specs.PegViews.{rules_of};
     ghost use Rattle.pegread.specs.contracts.expr.Expr as e;
@@ -93,9 +96,9 @@ impl Model for SoundPeg {
         × AreMarks p.start (shapes_of p.nodes.items) p.bodies.items
         (node_marks (marks_of (shapes_of p.nodes.items) p.keys.nodes.items p.keys.behind.items))
         (tail_marks (marks_of (shapes_of p.nodes.items) p.keys.nodes.items p.keys.behind.items))
-        × AreStarTables (shapes_of p.nodes.items) p.bodies.items
+        × AreByteTables (shapes_of p.nodes.items) p.bodies.items
         (marks_of (shapes_of p.nodes.items) p.keys.nodes.items p.keys.behind.items)
-        p.stars.places.items p.stars.tables.items
+        p.by_byte.places.items p.by_byte.runs.items p.by_byte.choices.items
         × AreNumbered (rules_of p.rules) (shapes_of p.nodes.items) p.bodies.items };
 }
 
@@ -115,9 +118,9 @@ impl SoundPeg {
         requires keys { AreMarks start (shapes_of cut.nodes.items) cut.bodies.items
             (node_marks (marks_of (shapes_of cut.nodes.items) tables.keys.nodes.items tables.keys.behind.items))
             (tail_marks (marks_of (shapes_of cut.nodes.items) tables.keys.nodes.items tables.keys.behind.items)) }
-        requires stars { AreStarTables (shapes_of cut.nodes.items) cut.bodies.items
+        requires by_byte { AreByteTables (shapes_of cut.nodes.items) cut.bodies.items
             (marks_of (shapes_of cut.nodes.items) tables.keys.nodes.items tables.keys.behind.items)
-            tables.stars.places.items tables.stars.tables.items }
+            tables.by_byte.places.items tables.by_byte.runs.items tables.by_byte.choices.items }
         requires numbered { AreNumbered (rules_of rules) (shapes_of cut.nodes.items) cut.bodies.items }
         ensures rules { result.rules ≡ rules }
         ensures start { result.start ≡ start }
@@ -133,7 +136,7 @@ impl SoundPeg {
             printing: tables.printing,
             templates: tables.templates,
             keys: tables.keys,
-            stars: tables.stars,
+            by_byte: tables.by_byte,
         }
     }
 
@@ -237,9 +240,22 @@ impl SoundPeg {
             → IsTable (shapes_of self.now.nodes) self.now.bodies (node_marks self.now.keys) (tail_marks self.now.keys)
             k t.now.entries.items) }
     {
-        let place = self.stars.places.get(star)?;
+        let place = self.by_byte.places.get(star)?;
         match *place {
-            Some(place) => self.stars.tables.get(usize::from(place)),
+            Some(place) => self.by_byte.runs.get(usize::from(place)),
+            None => None,
+        }
+    }
+    /// Returns the table of the choice that is the node of that number, if the grammar has one. Only a choice of which
+    /// some byte decides that the first alternative fails has one, and not each does in a grammar of very many.
+    pub fn choice_table(&self, choice: usize) -> Option<&ChoiceTable>
+        ensures { IfSome result (λ t. (ms : List ℕ) → slice_get (shapes_of self.now.nodes) choice ≡ Some (Choice ms)
+            → IsChoiceTable (shapes_of self.now.nodes) self.now.bodies (node_marks self.now.keys)
+            (tail_marks self.now.keys) choice ms t.now.entries.items) }
+    {
+        let place = self.by_byte.places.get(choice)?;
+        match *place {
+            Some(place) => self.by_byte.choices.get(usize::from(place)),
             None => None,
         }
     }

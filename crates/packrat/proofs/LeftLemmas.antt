@@ -244,6 +244,26 @@ module _ (g : Grammar) (x : List ℕ) where
       (let less = down_tail e.node e.index e.place e.member e.place fs (entered e.only (tail_of e) fs) begun w
       (entered_costs e.only (tail_of e) fs) in omega (arith, less)))
 
+  less_tail : (n p m i q : ℕ) (fs gs : List Frame) (begun now pairs : ℕ) → now ≡ begun + pairs → 1 ≤ pairs
+      → now ≤ most_begun g x → frames_cost Most gs ≤ 1 + frames_cost Most fs
+      → left g x (Ask (Tail m i q)) gs now < left g x (Ask (Pair n p)) fs begun
+  unfolding left
+  less_tail n p m i q fs gs begun now pairs is some le few =
+      let more = one_times (4 * Most + 4) (most_begun g x) begun (omega (arith, is, le, some)) in
+      let rest = times_less (4 * Most + 4) (most_begun g x) (begun + 1) now (omega (arith, is, some)) in
+      omega (arith, more, rest, few)
+
+  -- a task that begins so many pairs, with a tail that is entered
+  pub less_skipped : (marks : Marks) (n p : ℕ) (e : Entering) (b : Spot) (key : Bool) (fs mid gs : List Frame)
+      (begun now pairs : ℕ) → now ≡ begun + pairs → 1 ≤ pairs → now ≤ most_begun g x → IsWell g x (tail_of e)
+      → AreWaiting key 0 (Pair n p) fs mid → IsEntered marks e mid gs b
+      → left g x (Ask b) gs now < left g x (Ask (Pair n p)) fs begun
+  less_skipped marks n p e b key fs mid gs begun now pairs is some le well are i =
+      let few = waiting_costs key 0 (Pair n p) fs mid are in
+      let one = less_tail n p e.node e.index e.place fs mid begun now pairs is some le few in
+      let two = entered_less marks e mid gs b now well i in
+      omega (arith, one, two)
+
   pub less_down : (a k : Spot) (key : Bool) (fs : List Frame) (begun now : ℕ) → now ≡ begun + weight a
       → now ≤ most_begun g x → IsWell g x a → F a k
       → left g x (Ask k) (record { spot = a; key = key; wait = First } ∷ fs) now < left g x (Ask a) fs begun

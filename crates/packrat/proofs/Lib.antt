@@ -24,6 +24,7 @@ pub mod RunStepsLemmas
 pub mod RunTurnsLemmas
 pub mod TurnsGiveLemmas
 pub mod TurnedLemmas
+pub mod SkippedLemmas
 pub mod TakeEventLemmas
 pub mod KeptAtLemmas
 pub mod NextWrittenLemmas

@@ -401,6 +401,15 @@ module _ (g : Grammar) (x : List ℕ) (more : Bool) (some : WasEnough x more 0) 
           ),
         )
 
+  -- a tail of a choice that is entered leads to its alternative
+  pub choice_enters : (n i p : ℕ) (ms : List ℕ) → At n (node.Choice ms) → IsWell g x (Tail n i p) → i < length ms
+      → IsLed g x more (i + 1 == length ms) (Tail n i p) (Pair (get_or ms i 0) p)
+  choice_enters n i p ms at w lt = led (i + 1 == length ms) refl
+    where
+      led : (only : Bool) → only ≡ (i + 1 == length ms) → IsLed g x more only (Tail n i p) (Pair (get_or ms i 0) p)
+      led true is = choice_led n i p (get_or ms i 0) ms (slice_get-get_or ms i 0 lt) w true is at
+      led false is = choice_led n i p (get_or ms i 0) ms (slice_get-get_or ms i 0 lt) w false is at
+
   -- a sequence or a choice with members enters its first tail
   module _ (n p : ℕ) (ms : List ℕ) (w : IsWell g x (Pair n p)) (lt : 0 < length ms) where
     pub members_enter : At n (node.Seq ms) → AfterNone g x more (Pair n p) (begun.Enters (entering_of n ms 0 p))
@@ -417,16 +426,8 @@ module _ (g : Grammar) (x : List ℕ) (more : Bool) (some : WasEnough x more 0) 
 
     pub alternatives_enter : At n (node.Choice ms)
         → AfterNone g x more (Pair n p) (begun.Enters (entering_of n ms 0 p))
-    alternatives_enter at = (
-      alternatives_led n p ms w lt at,
-      led (0 + 1 == length ms) refl,
-    )
-      where
-        led : (only : Bool) → only ≡ (0 + 1 == length ms) → IsLed g x more only (Tail n 0 p) (Pair (get_or ms 0 0) p)
-        led true is = choice_led n 0 p (get_or ms 0 0) ms (slice_get-get_or ms 0 0 lt)
-            (w.0, w.1, (node.Choice ms, at, lt)) true is at
-        led false is = choice_led n 0 p (get_or ms 0 0) ms (slice_get-get_or ms 0 0 lt)
-            (w.0, w.1, (node.Choice ms, at, lt)) false is at
+    alternatives_enter at =
+        (alternatives_led n p ms w lt at, choice_enters n 0 p ms at (w.0, w.1, (node.Choice ms, at, lt)) lt)
 
   -- a tail enters the next one
   module _ (n i p : ℕ) (ms : List ℕ) (found : Found) (w : IsWell g x (Tail n i p)) where
@@ -445,12 +446,7 @@ module _ (g : Grammar) (x : List ℕ) (more : Bool) (some : WasEnough x more 0) 
         → After (Tail n i p) found (Enters (entering_of n ms e p))
     other_enters e same at is lt j h es d =
         let more_of = other_more n i p ms found w e same at is (omega (arith, same, lt)) j h es d in
-        (more_of, led more_of.1 (e + 1 == length ms) refl)
-      where
-        led : IsWell g x (Tail n e p) → (only : Bool) → only ≡ (e + 1 == length ms)
-            → IsLed g x more only (Tail n e p) (Pair (get_or ms e 0) p)
-        led v true is = choice_led n e p (get_or ms e 0) ms (slice_get-get_or ms e 0 lt) v true is at
-        led v false is = choice_led n e p (get_or ms e 0) ms (slice_get-get_or ms e 0 lt) v false is at
+        (more_of, choice_enters n e p ms at more_of.1 lt)
 
 pub some_of : (ms : List ℕ) → (length ms ≡ 0 → ⊥) → 0 < length ms
 some_of [] h = absurd (h refl)

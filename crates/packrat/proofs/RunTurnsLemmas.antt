@@ -109,6 +109,13 @@ module _ (rules : List Rule) (start : ℕ) (nodes : List Shape) (bodies ranks x 
   both_fronts =
       total_append Spot (Kids rules nodes bodies x) (NextOf rules nodes bodies x) (is_key marks tails) weight next_all
 
+  abbrev St : State Spot → State Spot → Type 0
+  St u v = SpotSteps rules nodes bodies x marks tails u v
+
+  pub both_steps : {t u v : State Spot} → St t u → St u v → St t v
+  both_steps p q = steps_then Spot (Kids rules nodes bodies x) (NextOf rules nodes bodies x) (is_key marks tails)
+      weight next_all p q
+
   -- a pair that its byte decides
   pub decided_comes : (b n p c : ℕ) (v : Verdict) → ByByte nodes bodies marks tails b n v c → slice_get x p ≡ Some b
       → SpellsSome rules nodes n → (levels : List (Level Spot)) (stored begun : List Spot)
@@ -139,13 +146,6 @@ module _ (rules : List Rule) (start : ℕ) (nodes : List Shape) (bodies ranks x 
   module _ (s k : ℕ) (at : slice_get nodes s ≡ Some (node.Star k)) (spelled : SpellsSome rules nodes s) where
     abbrev Turned : ℕ → ℕ → ℕ → Type 0
     Turned a n c = AreTurns nodes bodies x marks tails k a n c
-
-    abbrev St : State Spot → State Spot → Type 0
-    St u v = SpotSteps rules nodes bodies x marks tails u v
-
-    pub both_steps : {t u v : State Spot} → St t u → St u v → St t v
-    both_steps p q = steps_then Spot (Kids rules nodes bodies x) (NextOf rules nodes bodies x) (is_key marks tails)
-        weight next_all p q
 
     operand_takes : (b p c : ℕ) → ByByte nodes bodies marks tails b k Takes c → slice_get x p ≡ Some b
         → GivesBy rules nodes bodies x k p Takes

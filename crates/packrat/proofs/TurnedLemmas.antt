@@ -271,25 +271,25 @@ module _ (g : Grammar) (x : List ℕ) (more : Bool) (marks : Marks) (sound : IsS
   abbrev T : List Spot → ℕ
   T spots = total Spot (Kids (rules_of g.rules) (shapes_of g.nodes) g.bodies x) (key_of marks) weight spots
 
-  fronts_add : (xs ys : List Spot) → T (xs ++ ys) ≡ T xs + T ys
+  pub fronts_add : (xs ys : List Spot) → T (xs ++ ys) ≡ T xs + T ys
   fronts_add = both_fronts (rules_of g.rules) g.start (shapes_of g.nodes) g.bodies g.ranks x sound body is_body
       (node_marks marks) (tail_marks marks) are
 
-  asks_here : (root a : Spot) (ls : List Frame) (st : List Stored) (links : List Link) (n : ℕ)
+  pub asks_here : (root a : Spot) (ls : List Frame) (st : List Stored) (links : List Link) (n : ℕ)
       (h : S root (Ask a) ls st links n)
       → SS root (Asks a (record { levels = h.levels; stored = spots_of st; begun = h.begun }))
   asks_here root a ls st links n h =
       subst (λ v. SS root (Asks v (record { levels = h.levels; stored = spots_of st; begun = h.begun })))
       (sym (spot_here g x more marks root a ls st links n h)) h.steps
 
-  module _ (s k p q count : ℕ) (t : AreTurned g x more marks s k p q count) where
-    then_steps : {u v w : State Spot} → SpotSteps (rules_of g.rules) (shapes_of g.nodes) g.bodies x (node_marks marks)
-        (tail_marks marks) u v → SpotSteps (rules_of g.rules) (shapes_of g.nodes) g.bodies x (node_marks marks)
-        (tail_marks marks) v w → SpotSteps (rules_of g.rules) (shapes_of g.nodes) g.bodies x (node_marks marks)
-        (tail_marks marks) u w
-    then_steps a b = both_steps (rules_of g.rules) g.start (shapes_of g.nodes) g.bodies g.ranks x sound body is_body
-        (node_marks marks) (tail_marks marks) are s k t.at t.spelled a b
+  abbrev Steps : State Spot → State Spot → Type 0
+  Steps u v = SpotSteps (rules_of g.rules) (shapes_of g.nodes) g.bodies x (node_marks marks) (tail_marks marks) u v
 
+  pub then_steps : {u v w : State Spot} → Steps u v → Steps v w → Steps u w
+  then_steps a b = both_steps (rules_of g.rules) g.start (shapes_of g.nodes) g.bodies g.ranks x sound body is_body
+      (node_marks marks) (tail_marks marks) are a b
+
+  module _ (s k p q count : ℕ) (t : AreTurned g x more marks s k p q count) where
     start_well : IsWell g x (Pair s p)
     start_well = let low = t.low in let within = t.within in (t.spelled, omega (arith, low, within))
 
@@ -378,7 +378,7 @@ module _ (g : Grammar) (x : List ℕ) (more : Bool) (marks : Marks) (sound : IsS
                   levels = turns_on t.star t.operand t.from (t.end - t.from) h.levels;
                   stored = v;
                   begun = come.front ++ h.begun;
-                }))) (sym spots) (then_steps t.star t.operand t.from t.end count d asks_there come.steps));
+                }))) (sym spots) (then_steps asks_there come.steps));
           }
 
       -- the loop goes to the repetition's end
@@ -423,7 +423,7 @@ module _ (g : Grammar) (x : List ℕ) (more : Bool) (marks : Marks) (sound : IsS
               levels = h.levels;
               stored = v;
               begun = come.front ++ h.begun;
-            }))) (sym now) (then_steps t.star t.operand t.from t.end count d asks_there come.steps);
+            }))) (sym now) (then_steps asks_there come.steps);
           }
 
   -- an answer comes to the frame of turns
@@ -462,5 +462,5 @@ module _ (g : Grammar) (x : List ℕ) (more : Bool) (marks : Marks) (sound : IsS
         is = s.is;
         near = s.near;
         steps = subst (λ v. SS root (Works (record { levels = top.rest; stored = v; begun = s.begun }))) (sym now)
-            (then_steps top.star top.operand top.from (last + 1) top.count d at end);
+            (then_steps at end);
       }

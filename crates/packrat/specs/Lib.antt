@@ -7,6 +7,7 @@ pub mod SpotSteps
 pub mod ByteGives
 pub mod Onward
 pub mod Turned
+pub mod Skipped
 pub mod TurnsLeft
 pub mod Stands
 pub mod Done

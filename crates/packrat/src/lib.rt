@@ -10,6 +10,7 @@ mod laws;
 mod machine;
 mod onward;
 mod packrat;
+mod skips;
 mod turns;
 
 pub use byte_laws::{fresh_above_mark, one_byte_decides};

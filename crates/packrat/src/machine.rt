@@ -10,6 +10,7 @@ ghost use Rattle.memo.specs.Parts.{IsIn};
 ghost use Rattle.memo.specs.declared.spot.Spot.{Spot};
 ghost use Rattle.pegnodes.specs.KeyLists.{Marks, node_marks};
 ghost use Rattle.packrat.specs.ByteGives.{operands_on, turns_closed};
+ghost use Rattle.packrat.specs.Skipped.{AreSkipped};
 ghost use Rattle.packrat.specs.Turned.{AreDecided, AreFree, AreTurnedFrames, IsKeyed};
 ghost use Rattle.packrat.specs.TurnsLeft.{left, most_begun};
 ghost use Rattle.packrat.specs.Onward.{IsWell};
@@ -23,6 +24,7 @@ use crate::events::EventLog;
 use crate::frames::{Frame, Frames, Wait};
 use crate::keys::is_key;
 use crate::onward::{Begun, Entering, Onward, begin, go_on};
+use crate::skips::{Skips, skips_at};
 use crate::turns::{Turns, find_turns, is_fresh};
 use gramcheck::SoundPeg;
 use memo::{Found, Given, KeyLog, Spot};
@@ -59,6 +61,15 @@ fn counted(nodes: usize, length: usize, begun: u128, spot: Spot) -> u128
         Spot::Pair { .. } => begun + 1,
         Spot::Tail { .. } => begun,
     }
+}
+
+// Returns how many pairs are begun with a choice and with those of its alternatives that fail.
+#[inline(always)]
+fn counted_skips(nodes: usize, length: usize, begun: u128, pairs: u32) -> u128
+    requires { begun ≤ nodes * (length + 1) }
+    ensures { result ≡ begun + (1 + pairs) }
+{
+    begun + (1 + u128::from(pairs))
 }
 
 // Returns the memoized result of a task, if there is one.
@@ -371,6 +382,52 @@ impl Machine {
         }
     }
 
+    // Begins a choice whose first alternatives fail, and goes to the next one, or returns that the choice fails.
+    #[inline(always)]
+    fn run_skips(
+        &mut self,
+        peg: &SoundPeg,
+        window: &[u8],
+        spot: Spot,
+        key: bool,
+        skips: Skips,
+    ) -> Result<Turn, Memory>
+        requires sound { IsSoundGrammar peg.now }
+        requires keyed { IsKeyed peg.now }
+        requires well { IsWell peg.now window.now spot }
+        requires rows { self.old.log.rows ≡ length peg.now.nodes }
+        requires few { self.old.begun ≤ most_begun peg.now window.now }
+        ensures rows { OnOk result (self.new.log.rows ≡ length peg.now.nodes) }
+        ensures stands { (more : Bool) → WasEnough window.now more 0 →
+            AreSkipped peg.now window.now more peg.now.keys spot skips → (root : Spot) →
+            key ≡ key_of peg.now.keys spot → (key ≡ true → IsIn spot (spots_of self.old.log.stored) → ⊥) →
+            Stands peg.now window.now more peg.now.keys root (Turn.Ask spot) self.old.frames
+            self.old.log.stored self.old.events self.old.begun →
+            IfOk result (λ turn. Stands peg.now window.now more peg.now.keys root turn
+            self.new.frames self.new.log.stored self.new.events self.new.begun) }
+        ensures less { (more : Bool) → AreSkipped peg.now window.now more peg.now.keys spot skips →
+            self.new.begun ≤ most_begun peg.now window.now → IfOk result (λ turn.
+            left peg.now window.now turn self.new.frames self.new.begun
+            < left peg.now window.now (Turn.Ask spot) self.old.frames self.old.begun) }
+    {
+        self.begun = counted_skips(peg.nodes(), window.len(), self.begun, skips.pairs);
+        match skips.rest {
+            Some(entering) => {
+                wait_last(&mut self.frames, spot, key, 0)?;
+                let next = enter(&mut self.frames, peg, entering)?;
+                Ok(Turn::Ask(next))
+            }
+            None => {
+                let given = Given {
+                    found: Found::Failed,
+                    events: 0,
+                };
+                close(&mut self.log, peg, window, spot, key, given)?;
+                Ok(Turn::Answer(given))
+            }
+        }
+    }
+
     // Evaluates a task, or begins it and goes to a child. None if the window is too short.
     #[inline(always)]
     fn ask(
@@ -401,7 +458,10 @@ impl Machine {
             Some(given) => Ok(Some(Turn::Answer(given))),
             None => match self.turns_at(peg, window, more, spot) {
                 Some(turns) => Ok(Some(self.run_turns(peg, window, more, turns)?)),
-                None => self.start_spot(peg, window, more, spot, key),
+                None => match skips_at(peg, window, more, spot) {
+                    Some(skips) => Ok(Some(self.run_skips(peg, window, spot, key, skips)?)),
+                    None => self.start_spot(peg, window, more, spot, key),
+                },
             },
         }
     }

@@ -61,9 +61,9 @@ pub(crate) enum Onward {
     Enters(Entering),
 }
 
-// Returns the tail of a node with these members, from this one on.
+/// Returns the tail of a node with these members, from this one on.
 #[inline(always)]
-fn tail_from(node: usize, members: &[usize], index: usize, place: usize) -> Entering
+pub(crate) fn tail_from(node: usize, members: &[usize], index: usize, place: usize) -> Entering
     requires { index < length members.now }
     ensures { result ≡ entering_of node members.now index place }
 {

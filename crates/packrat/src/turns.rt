@@ -30,9 +30,9 @@ pub(crate) struct Turns {
     pub(crate) whole: bool,
 }
 
-// Returns the position up to which the bytes of a window may decide: the last byte may not if more bytes follow it.
+/// Returns the position up to which the bytes of a window may decide: the last byte may not if more bytes follow it.
 #[inline(always)]
-fn sure_end(window: &[u8], more: bool) -> usize
+pub(crate) fn sure_end(window: &[u8], more: bool) -> usize
     requires { WasEnough window.now more 0 }
     ensures within { result ≤ length window.now }
     ensures last { more ≡ true → result < length window.now }

@@ -2,6 +2,8 @@ pub mod AreBodiesLemmas
 pub mod AreCutsLemmas
 pub mod BodyOfLemmas
 pub mod ByByteLemmas
+pub mod ByteTablesLemmas
+pub mod ChoiceTablesLemmas
 pub mod DecidesLemmas
 pub mod CutFrontLemmas
 pub mod FilledBlanksLemmas
@@ -20,5 +22,4 @@ pub mod PushCasesLemmas
 pub mod PushedMarksLemmas
 pub mod PutInLemmas
 pub mod RunTablesLemmas
-pub mod StarTablesLemmas
 pub mod WidthsLemmas

@@ -1,5 +1,7 @@
 pub mod Bodies
 pub mod ByByte
+pub mod ByteTables
+pub mod ChoiceTables
 pub mod Decides
 pub mod KeyLists
 pub mod KeyMarks
@@ -11,7 +13,6 @@ pub mod NodeWays
 pub mod Nodes
 pub mod Numbering
 pub mod RunTables
-pub mod StarTables
 pub mod Slots
 pub mod Templates
 pub mod Width

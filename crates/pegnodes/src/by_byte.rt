@@ -67,7 +67,7 @@ fn body_at(bodies: &[usize], id: usize) -> Option<usize>
 }
 
 // Returns a verdict with the sum of two numbers, if that is not too great.
-fn summed(verdict: Verdict, count: u16, more: u16) -> Option<Decided>
+pub(crate) fn summed(verdict: Verdict, count: u16, more: u16) -> Option<Decided>
     ensures { IfSome result (λ d. (d.verdict ≡ verdict) × (d.count ≡ count + more)) }
 {
     let count = count.checked_add(more)?;

@@ -3,21 +3,23 @@
 
 mod bodies;
 mod by_byte;
+mod byte_tables;
+mod choice_table;
 mod cut;
 mod keys;
 mod namers;
 mod node;
 mod number;
 mod run_table;
-mod star_tables;
 mod template;
 mod widths;
 
 pub use bodies::body_of;
 pub use by_byte::{Decided, MarkedNodes, Verdict, decide, one_verdict};
+pub use byte_tables::{ByteTables, find_tables};
+pub use choice_table::{ChoiceTable, Skip};
 pub use cut::{Cut, cut_grammar};
 pub use keys::{Keys, find_keys, is_key_from, mark_or};
 pub use node::Node;
 pub use run_table::{Run, RunTable, Stop};
-pub use star_tables::{StarTables, find_tables};
 pub use template::{Put, Slot, Template, Templates, cut_templates};

@@ -14,5 +14,5 @@ returns c = (
     c.deref-7.ensures.value,
     c.deref-8.ensures.value,
     c.deref-9.ensures.value,
-  ) at c.in_ok-stars.ensures,
+  ) at c.in_ok-by_byte.ensures,
 )

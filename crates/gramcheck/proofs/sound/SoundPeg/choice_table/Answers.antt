@@ -1,0 +1,32 @@
+use Rattle.std.proofs.Common.{◌≡◌, ◌<◌, ℕ, List, IfSome, length, Some, sym, subst}
+use Rattle.std.specs.Prelude.{slice_get}
+use Rattle.std.proofs.lemmas.Bool.{ltb-true}
+use Rattle.gramcheck.specs.Grammar.{Grammar}
+use Rattle.pegnodes.specs.ByteTables.{IsChoiceTableOf}
+use Rattle.pegnodes.specs.KeyLists.{marks_of}
+use Rattle.pegnodes.specs.Nodes.{Choice, shapes_of}
+use Rattle.pegnodes.proofs.ByteTablesLemmas.{read_at, some_read, table_read}
+use Rattle.gramcheck.proofs.sound.SoundPeg.choice_table.Goals as goal
+
+module _ (c : goal.After-get-in-Some) where
+  place_is : slice_get c.self.inside.by_byte.places.items c.args.choice ≡ Some (Some c.from.result)
+  place_is =
+      let found = rw c.deref.ensures.value at c.in_ok-place.ensures.lookup in
+      let low : c.args.choice < length c.self.inside.by_byte.places.items =
+      ltb-true c.args.choice (length c.self.inside.by_byte.places.items) (sym found.0) in
+      let from = c.from.ensures in
+      let is = c.in-Some.is in
+      read_at c.self.inside.by_byte.places.items c.args.choice c.in_ok-place.place.now (Some c.from.result) low found.1
+      (cc (is, from))
+
+pub returns-in-Some : goal.returns-in-Some
+returns-in-Some c =
+    let read = rw c.deref-in-Some.ensures.value at c.get-in-Some.ensures.lookup in
+    subst (λ (g : Grammar). IfSome c.get-in-Some.result (λ t. (ms : List ℕ)
+    → slice_get (shapes_of g.nodes) c.args.choice ≡ Some (Choice ms)
+    → IsChoiceTableOf (shapes_of g.nodes) g.bodies g.keys c.args.choice ms t.now)) c.self.view_is
+    (some_read _ _ _ c.get-in-Some.result (λ t is ms at. table_read (IsChoiceTableOf
+    (shapes_of c.self.inside.nodes.items) c.self.inside.bodies.items (marks_of (shapes_of c.self.inside.nodes.items)
+    c.self.inside.keys.nodes.items c.self.inside.keys.behind.items) c.args.choice ms)
+    c.self.inside.by_byte.choices.items c.from.result t.now
+    ((c.self.invariant.4 c.args.choice c.from.result (place_is c)).choice ms at) is) read.1)

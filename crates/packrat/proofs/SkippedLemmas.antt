@@ -1,0 +1,225 @@
+-- A choice whose first alternatives the byte at its position decides to fail, where the loop skips them.
+-- Serves: Packrat::match_unit
+use Rattle.std.proofs.Common.{◌≡◌, ℕ, suc, ◌+◌, ◌<◌, ◌≤◌, Bool, true, false, List, ◌∷◌, ◌++◌, length}
+use Rattle.std.proofs.Common.{Some, None, refl, sym, subst, arith, inl, inr}
+use Rattle.std.proofs.lemmas.Option.{slice_get_past, slice_get_within}
+use Rattle.std.specs.Prelude.{slice_get}
+use Rattle.pegread.specs.PegViews.{rules_of}
+use Rattle.packrat.specs.declared.events.link.Link.{Link}
+use Rattle.pegnodes.specs.ByByte.{ByByte, by_shape, below, ByShape, by_alternatives, ByAlternatives}
+use Rattle.pegnodes.specs.ByByte.{alternatives_end, alternative_fails}
+use Rattle.pegnodes.specs.ChoiceTables.{FailFirst, fail_none, fail_more}
+use Rattle.gramcheck.specs.Grammar.{Grammar, IsSoundGrammar}
+use Rattle.pegnodes.specs.KeyLists.{Marks, node_marks, tail_marks}
+use Rattle.pegnodes.specs.KeyMarks.{AreMarks}
+use Rattle.pegnodes.specs.Nodes as node
+use Rattle.pegnodes.specs.Nodes.{Shape, shapes_of}
+use Rattle.pegnodes.specs.declared.by_byte.Verdict.{Verdict}
+use Rattle.pegnodes.specs.declared.by_byte.Verdict.TheVariants.{Fails}
+use Rattle.pegmatch.specs.Answers.{WasEnough}
+use Rattle.memo.specs.KeyLog.{spots_of}
+use Rattle.memo.specs.Parts.{IsIn}
+use Rattle.memo.specs.declared.found.Found.TheVariants.{Failed}
+use Rattle.memo.specs.declared.key_log.Given.{Given}
+use Rattle.memo.specs.declared.key_log.Stored.{Stored}
+use Rattle.memo.specs.declared.spot.Spot.{Spot}
+use Rattle.memo.specs.declared.spot.Spot.TheVariants.{Pair, Tail}
+use Rattle.memo.proofs.PartsLemmas.{in_either}
+use Rattle.packrat.specs.MachineSteps.{State, Works, start_at}
+use Rattle.packrat.specs.Onward.{IsWell, entering_of, tail_of}
+use Rattle.packrat.specs.Skipped.{AreSkipped, IsRest}
+use Rattle.packrat.specs.SpotSteps.{SpotSteps}
+use Rattle.packrat.specs.TurnsLeft.{left, most_begun}
+use Rattle.packrat.specs.Stands.{Stands, IsClosed, key_of, AreWaiting, IsEntered}
+use Rattle.packrat.specs.declared.frames.Frame.{Frame}
+use Rattle.packrat.specs.declared.frames.Wait.TheVariants.{First}
+use Rattle.packrat.specs.declared.machine.Turn.{Turn}
+use Rattle.packrat.specs.declared.machine.Turn.TheVariants.{Ask, Answer}
+use Rattle.packrat.specs.declared.onward.Entering.{Entering}
+use Rattle.packrat.specs.declared.skips.Skips.{Skips}
+use Rattle.packrat.proofs.ByteGivesLemmas.{gives_by, choice_has}
+use Rattle.packrat.proofs.LeftLemmas as T
+use Rattle.packrat.proofs.OnwardLemmas as M
+use Rattle.packrat.proofs.RunTurnsLemmas.{decided_comes}
+use Rattle.packrat.proofs.StandsLemmas as L
+use Rattle.packrat.proofs.TurnedLemmas.{asks_here, fronts_add, then_steps}
+
+module _ {nodes : List Shape} {bodies : List ℕ} {marks : ℕ → Bool} {tails : ℕ → ℕ → Bool} {b n : ℕ} {ms : List ℕ} where
+  -- each of them is an alternative
+  pub fail_within : {i c : ℕ} → FailFirst nodes bodies marks tails b n ms i c → i ≤ length ms
+  fail_within fail_none = omega arith
+  fail_within (fail_more {i = i} {m = m} f there plain h) =
+      let lt = slice_get_within ms i m there in omega (arith, lt)
+
+  alternatives_from : {i c d : ℕ} {v : Verdict} → FailFirst nodes bodies marks tails b n ms i c
+      → ByAlternatives nodes bodies marks tails b n ms i v d
+      → ByAlternatives nodes bodies marks tails b n ms 0 v (c + d)
+  alternatives_from {d = d} {v = v} fail_none r =
+      subst (ByAlternatives nodes bodies marks tails b n ms 0 v) (omega arith) r
+  alternatives_from {d = d} {v = v} (fail_more {c = c} {d = e} f there plain h) r =
+      subst (ByAlternatives nodes bodies marks tails b n ms 0 v) (omega arith)
+      (alternatives_from f (alternative_fails there plain h r))
+
+  -- a choice of which all alternatives fail
+  pub all_fail : {c : ℕ} → FailFirst nodes bodies marks tails b n ms (length ms) c
+      → slice_get nodes n ≡ Some (node.Choice ms) → ByByte nodes bodies marks tails b n Fails (1 + c)
+  all_fail {c = c} f at =
+      let end = alternatives_end (slice_get_past ms (length ms) (omega arith)) in
+      by_shape at (subst (λ v. ByShape nodes bodies marks tails b n (node.Choice ms) Fails (1 + v)) (omega arith)
+      (by_alternatives (alternatives_from f end)))
+
+abbrev failure : Given
+failure = record { found = Failed; events = 0 }
+
+module _ (g : Grammar) (x : List ℕ) (more : Bool) (marks : Marks) (some : WasEnough x more 0) (sound : IsSoundGrammar g)
+    (body : ℕ) (is_body : slice_get g.bodies g.start ≡ Some body)
+    (are : AreMarks g.start (shapes_of g.nodes) g.bodies (node_marks marks) (tail_marks marks)) where
+  abbrev S : Spot → Turn → List Frame → List Stored → List Link → ℕ → Type 0
+  S root t ls st links n = Stands g x more marks root t ls st links n
+
+  abbrev SS : Spot → State Spot → Type 0
+  SS root s = SpotSteps (rules_of g.rules) (shapes_of g.nodes) g.bodies x (node_marks marks) (tail_marks marks)
+      (start_at Spot root) s
+
+  abbrev Decides : ℕ → ℕ → ℕ → Type 0
+  Decides b n d = ByByte (shapes_of g.nodes) g.bodies (node_marks marks) (tail_marks marks) b n Fails d
+
+  module _ (p b : ℕ) (here : slice_get x p ≡ Some b) (last : more ≡ true → p + 1 < length x) where
+    -- the loop goes from a pair that the byte decides to fail to its end
+    pub stands_failed : (root : Spot) (n d : ℕ) (ls : List Frame) (st new : List Stored) (links : List Link) (count : ℕ)
+        → S root (Ask (Pair n p)) ls st links count → (node_marks marks n ≡ true → IsIn (Pair n p) (spots_of st) → ⊥)
+        → Decides b n d → IsClosed g x more marks links (Pair n p) failure st new
+        → S root (Answer failure) ls new links (count + d)
+    stands_failed root n d ls st new links count s fresh h c =
+        let has = (L.asked_well g x more marks root (Pair n p) ls st links count s).0 in
+        let own = gives_by (rules_of g.rules) g.start (shapes_of g.nodes) g.bodies g.ranks x sound (node_marks marks)
+        (tail_marks marks) b p here h has in
+        let come = decided_comes (rules_of g.rules) g.start (shapes_of g.nodes) g.bodies g.ranks x sound body is_body
+        (node_marks marks) (tail_marks marks) are b n p d Fails h here has s.levels (spots_of st) s.begun fresh in
+        let gives = L.given_none g x more marks links (Pair n p) Failed (
+          own.looked,
+          own.gives,
+          (λ is. let lt = last is in let within = own.within in omega (arith, lt, within)),
+          refl,
+        ) in
+        let one = come.is in
+        let two = s.is in
+        let sum = fronts_add g x more marks sound body is_body are come.front s.begun in
+        record {
+          levels = s.levels;
+          begun = come.front ++ s.begun;
+          spot = Pair n p;
+          are = L.levels_above g x more marks root (Pair n p) ls st links count s;
+          turns = gives;
+          given = c.keeps gives s.given;
+          near = λ m z i. elim (in_either come.front s.begun i) [
+            | inl j ↦ λ t. let le = come.near m z j in let lt = last t in omega (arith, le, lt)
+            | inr j ↦ s.near m z j
+          ];
+          is = omega (arith, one, two, sum);
+          steps = subst (λ v. SS root (Works (record {
+            levels = s.levels;
+            stored = v;
+            begun = come.front ++ s.begun;
+          }))) (sym c.spots) (then_steps g x more marks sound body is_body are
+              (asks_here g x more marks sound body is_body are root (Pair n p) ls st links count s) come.steps);
+        }
+
+    module _ (n : ℕ) (ms : List ℕ) (at : slice_get (shapes_of g.nodes) n ≡ Some (node.Choice ms))
+        (well : IsWell g x (Pair n p)) (root : Spot) (ls : List Frame) (st : List Stored) (links : List Link) where
+      tail_well : (i : ℕ) → i < length ms → IsWell g x (Tail n i p)
+      tail_well i lt = (well.0, well.1, (node.Choice ms, at, lt))
+
+      -- from the tail of an alternative that fails to the next one
+      skip_one : (i m d count : ℕ) → slice_get ms i ≡ Some m → tail_marks marks n i ≡ false
+          → node_marks marks m ≡ false → Decides b m d → suc i < length ms → S root (Ask (Tail n i p)) ls st links count
+          → S root (Ask (Tail n (suc i) p)) ls st links (count + d)
+      skip_one i m d count there plain free h lt s =
+          let w = tail_well i (omega (arith, lt)) in
+          let has = choice_has (rules_of g.rules) g.start (shapes_of g.nodes) g.bodies g.ranks x sound n i m ms at
+          well.0 there in
+          let down = L.stands_down g x more marks root (Tail n i p) ls st links count s (λ t. absurd (cc (t, plain)))
+          (Pair m p) false (sym plain) ((node.Choice ms, at, (m, there, refl)), (has, well.1)) in
+          let stays = L.closed_plain g x more marks links (Pair m p) failure st free in
+          let back = stands_failed root m d (record { spot = Tail n i p; key = false; wait = First } ∷ ls) st st links
+          (count + 0) down (λ t. absurd (cc (t, free))) h stays in
+          subst (S root (Ask (Tail n (suc i) p)) ls st links) (omega arith)
+          (L.stands_on g x more marks root (Tail n i p) failure ls st links ((count + 0) + d) false back
+          (Tail n (suc i) p) ls (M.other_more g x more some sound n i p ms Failed w (suc i) refl at refl lt)
+          (inr (refl, refl, refl)))
+
+      skip_all : {i c : ℕ} (count : ℕ)
+          → FailFirst (shapes_of g.nodes) g.bodies (node_marks marks) (tail_marks marks) b n ms i c → i < length ms
+          → S root (Ask (Tail n 0 p)) ls st links count → S root (Ask (Tail n i p)) ls st links (count + c)
+      skip_all count fail_none lt s = subst (S root (Ask (Tail n 0 p)) ls st links) (omega arith) s
+      skip_all count (fail_more {i = i} {m = m} {c = c} {d = d} f there plain (below free h)) lt s =
+          subst (S root (Ask (Tail n (suc i) p)) ls st links) (omega arith)
+          (skip_one i m d (count + c) there plain free h lt (skip_all count f (omega (arith, lt)) s))
+
+  module _ (root a : Spot) (s : Skips) (h : AreSkipped g x more marks a s) (ls : List Frame) (st : List Stored)
+      (links : List Link) (count : ℕ) (t : S root (Ask a) ls st links count) (key : Bool)
+      (is_key : key ≡ key_of marks a) (fresh : key ≡ true → IsIn a (spots_of st) → ⊥) where
+    -- the task, as a pair
+    asked_pair : S root (Ask (Pair h.node h.place)) ls st links count
+    asked_pair = subst (λ v. S root (Ask v) ls st links count) h.spot t
+
+    pair_key : key ≡ node_marks marks h.node
+    pair_key = subst (λ v. key ≡ key_of marks v) h.spot is_key
+
+    pair_fresh : node_marks marks h.node ≡ true → IsIn (Pair h.node h.place) (spots_of st) → ⊥
+    pair_fresh marked i = fresh (cc (pair_key, marked)) (subst (λ v. IsIn v (spots_of st)) (sym h.spot) i)
+
+    pair_well : IsWell g x (Pair h.node h.place)
+    pair_well = L.asked_well g x more marks root (Pair h.node h.place) ls st links count asked_pair
+
+    -- the loop goes to the next alternative
+    pub stands_skipped : (e : Entering) → s.rest ≡ Some e → (mid new : List Frame) (b : Spot)
+        → AreWaiting key 0 a ls mid → IsEntered marks e mid new b
+        → S root (Ask b) new st links (count + (1 + s.pairs))
+    stands_skipped e is mid new b w i =
+        let f = h.failed in
+        let r = subst (IsRest h.node h.members h.index h.place) is h.rest in
+        let same : e ≡ entering_of h.node h.members h.index h.place = r.1 in
+        let wait = subst (λ v. AreWaiting key 0 v ls mid) h.spot w in
+        let first = L.stands_pass g x more marks root (Pair h.node h.place) ls st links count asked_pair
+        (λ marked. pair_fresh marked) (Tail h.node 0 h.place) key mid pair_key
+        (M.alternatives_led g x more some sound h.node h.place h.members pair_well (let lt = r.0 in omega (arith, lt))
+        f.at) wait in
+        let then = skip_all h.place f.byte f.here f.last h.node h.members f.at pair_well root mid st links (count + 1)
+        f.fail r.0 first in
+        let led = M.choice_enters g x more some sound h.node h.index h.place h.members f.at
+        (pair_well.0, pair_well.1, (node.Choice h.members, f.at, r.0)) r.0 in
+        subst (S root (Ask b) new st links) (omega arith)
+        (L.stands_entered g x more marks root (entering_of h.node h.members h.index h.place) mid st links
+        ((count + 1) + s.pairs) then new b led (subst (λ v. IsEntered marks v mid new b) same i))
+
+    -- the loop goes to the choice's end
+    pub stands_none_left : s.rest ≡ None → (new : List Stored) → IsClosed g x more marks links a failure st new
+        → S root (Answer failure) ls new links (count + (1 + s.pairs))
+    stands_none_left is new c =
+        let f = h.failed in
+        let all : length h.members ≡ h.index = subst (IsRest h.node h.members h.index h.place) is h.rest in
+        let fail = subst (λ v. FailFirst (shapes_of g.nodes) g.bodies (node_marks marks) (tail_marks marks) f.byte
+        h.node h.members v s.pairs) (sym all) f.fail in
+        stands_failed h.place f.byte f.here f.last root h.node (1 + s.pairs) ls st new links count asked_pair pair_fresh
+        (all_fail fail f.at) (subst (λ v. IsClosed g x more marks links v failure st new) h.spot c)
+
+module _ (g : Grammar) (x : List ℕ) (more : Bool) (marks : Marks) where
+  module _ (a : Spot) (s : Skips) (h : AreSkipped g x more marks a s) (well : IsWell g x a) (ls : List Frame)
+      (begun now : ℕ) (is : now ≡ begun + (1 + s.pairs)) (le : now ≤ most_begun g x) where
+    pub less_skipped : (e : Entering) → s.rest ≡ Some e → (key : Bool) (mid new : List Frame) (b : Spot)
+        → AreWaiting key 0 a ls mid → IsEntered marks e mid new b
+        → left g x (Ask b) new now < left g x (Ask a) ls begun
+    less_skipped e rest key mid new b w i =
+        let f = h.failed in
+        let r = subst (IsRest h.node h.members h.index h.place) rest h.rest in
+        let there = subst (IsWell g x) h.spot well in
+        let tail = subst (λ v. IsWell g x (tail_of v)) (sym r.1)
+        (there.0, there.1, (node.Choice h.members, f.at, r.0)) in
+        subst (λ v. left g x (Ask b) new now < left g x (Ask v) ls begun) (sym h.spot)
+        (T.less_skipped g x marks h.node h.place e b key ls mid new begun now (1 + s.pairs) is (omega arith) le tail
+        (subst (λ v. AreWaiting key 0 v ls mid) h.spot w) i)
+
+    pub less_failed : left g x (Answer failure) ls now < left g x (Ask a) ls begun
+    less_failed = subst (λ v. left g x (Answer failure) ls now < left g x (Ask v) ls begun) (sym h.spot)
+        (T.less_ended g x h.node h.place failure ls begun now (1 + s.pairs) is (omega arith) le)

@@ -1,0 +1,117 @@
+-- Tables by the next byte of a grammar's repetitions and choices, added node by node.
+-- Serves: check_peg, SoundPeg::run_table, SoundPeg::choice_table
+use Rattle.std.proofs.Common.{◌≡◌, ◌⊎◌, ℕ, suc, zero, Option, List, [], ◌∷◌, ◌++◌, length, IfSome, Some, None}
+use Rattle.std.proofs.Common.{refl, sym, subst, ap, inl, inr, ⊎_elim, ◌∙◌, ◌<◌, get_or, MatchOption}
+use Rattle.std.specs.Prelude.{slice_get, Result, IfOk}
+use Rattle.std.proofs.lemmas.Result.{IfOk-weaker}
+use Rattle.std.proofs.lemmas.Option.{slice_get-get_or, get_or_from_slice_get}
+use Rattle.pegnodes.specs.ByteTables.{HasTable, IsRunTableOf, IsChoiceTableOf, HasByteTable, AreByteTables}
+use Rattle.pegnodes.specs.KeyLists.{Marks}
+use Rattle.pegnodes.specs.Nodes.{Shape, Star, Choice}
+use Rattle.pegnodes.specs.declared.choice_table.ChoiceTable.{ChoiceTable}
+use Rattle.pegnodes.specs.declared.run_table.RunTable.{RunTable}
+use Rattle.pegnodes.proofs.AreCutsLemmas.{get_before, get_new}
+
+-- an element of a list that grew was there, or is the new one
+pub get_pushed : {A : Type 0} (xs : List A) (x : A) (k : ℕ) (y : A) → slice_get (xs ++ x ∷ []) k ≡ Some y
+    → (slice_get xs k ≡ Some y) ⊎ ((k ≡ length xs) × (x ≡ y))
+get_pushed [] x zero y is = inr (refl, cc)
+get_pushed [] x (suc k) y is = absurd cc
+get_pushed (z ∷ xs) x zero y is = inl is
+get_pushed (z ∷ xs) x (suc k) y is =
+    ⊎_elim (λ old. inl old) (λ new. inr (ap suc new.0, new.1)) (get_pushed xs x k y is)
+
+-- an element that is read
+pub read_at : {A : Type 0} (xs : List A) (n : ℕ) (v w : A) → n < length xs → v ≡ get_or xs n v → v ≡ w
+    → slice_get xs n ≡ Some w
+read_at xs n v w lt is same = slice_get-get_or xs n v lt ∙ ap Some (sym is ∙ same)
+
+pub some_read : {A : Type 0} (N : Type 0) (P Q : A → Type 0) (r : Option A) → ((x : A) → P x → Q x)
+    → MatchOption r N P → IfSome r Q
+some_read N P Q None f h = tt
+some_read N P Q (Some x) f h = f x h
+
+some_weaker : (P Q : ℕ → Type 0) → ((p : ℕ) → P p → Q p) → (place : Option ℕ) → IfSome place P → IfSome place Q
+some_weaker P Q f None h = tt
+some_weaker P Q f (Some p) h = f p h
+
+-- a place that is returned, if any
+pub placed_as : {E : Type 0} (P Q : ℕ → Type 0) (r : Result (Option ℕ) E) → ((p : ℕ) → P p → Q p)
+    → IfOk r (λ place. IfSome place P) → IfOk r (λ place. IfSome place Q)
+placed_as P Q r f h = IfOk-weaker r (λ place. IfSome place P) (λ place. IfSome place Q) (some_weaker P Q f) h
+
+module _ {T : Type 0} (P : T → Type 0) where
+  -- a table that is added at the end
+  pub table_added : (tables new : List T) (t : T) (place : ℕ) → place ≡ length tables → new ≡ tables ++ t ∷ [] → P t
+      → HasTable P new place
+  table_added tables new t place count is h = record {
+    table = t;
+    there = rw (is, count) (get_new tables t);
+    is_table = h;
+  }
+
+  table_kept : (tables new more : List T) (place : ℕ) → new ≡ tables ++ more → HasTable P tables place
+      → HasTable P new place
+  table_kept tables new more place is h = record {
+    table = h.table;
+    there = rw is (get_before tables more place h.there);
+    is_table = h.is_table;
+  }
+
+  -- the table that is read at its place
+  pub table_read : (tables : List T) (place : ℕ) (t : T) → HasTable P tables place → t ≡ get_or tables place t → P t
+  table_read tables place t has is =
+      subst P (sym (is ∙ get_or_from_slice_get tables place has.table t has.there)) has.is_table
+
+module _ (nodes : List Shape) (bodies : List ℕ) (marks : Marks) where
+  -- the place of a repetition's table, and of a choice's
+  pub run_placed : (runs : List RunTable) (choices : List ChoiceTable) (n k : ℕ) → slice_get nodes n ≡ Some (Star k)
+      → (place : ℕ) → HasTable (IsRunTableOf nodes bodies marks k) runs place
+      → HasByteTable nodes bodies marks runs choices n place
+  run_placed runs choices n k at place h = record {
+    run = λ j is. let same : k ≡ j = cc (at, is) in
+        subst (λ m. HasTable (IsRunTableOf nodes bodies marks m) runs place) same h;
+    choice = λ ms is. absurd (cc (at, is));
+  }
+
+  pub choice_placed : (runs : List RunTable) (choices : List ChoiceTable) (n : ℕ) (ms : List ℕ)
+      → slice_get nodes n ≡ Some (Choice ms) → (place : ℕ)
+      → HasTable (IsChoiceTableOf nodes bodies marks n ms) choices place
+      → HasByteTable nodes bodies marks runs choices n place
+  choice_placed runs choices n ms at place h = record {
+    run = λ j is. absurd (cc (at, is));
+    choice = λ ks is. let same : ms ≡ ks = cc (at, is) in
+        subst (λ m. HasTable (IsChoiceTableOf nodes bodies marks n m) choices place) same h;
+  }
+
+  tables_kept : (runs new_runs more : List RunTable) (choices new_choices others : List ChoiceTable) (n place : ℕ)
+      → new_runs ≡ runs ++ more → new_choices ≡ choices ++ others
+      → HasByteTable nodes bodies marks runs choices n place
+      → HasByteTable nodes bodies marks new_runs new_choices n place
+  tables_kept runs new_runs more choices new_choices others n place is_runs is_choices h = record {
+    run = λ k at. table_kept (IsRunTableOf nodes bodies marks k) runs new_runs more place is_runs (h.run k at);
+    choice = λ ms at. table_kept (IsChoiceTableOf nodes bodies marks n ms) choices new_choices others place is_choices
+        (h.choice ms at);
+  }
+
+  table_here : (runs : List RunTable) (choices : List ChoiceTable) (n m : ℕ) (place : Option ℕ) (p : ℕ) → m ≡ n
+      → place ≡ Some p → IfSome place (HasByteTable nodes bodies marks runs choices n)
+      → HasByteTable nodes bodies marks runs choices m p
+  table_here runs choices n m None p same is h = absurd (cc is)
+  table_here runs choices n m (Some q) p same is h =
+      let place : q ≡ p = cc is in
+      subst (λ j. HasByteTable nodes bodies marks runs choices j p) (sym same)
+      (subst (HasByteTable nodes bodies marks runs choices n) place h)
+
+  -- one node more
+  pub tables_next : (places all : List (Option ℕ)) (runs new_runs more : List RunTable)
+      (choices new_choices others : List ChoiceTable) (n : ℕ) (place : Option ℕ) → length places ≡ n
+      → all ≡ places ++ place ∷ [] → new_runs ≡ runs ++ more → new_choices ≡ choices ++ others
+      → AreByteTables nodes bodies marks places runs choices
+      → IfSome place (HasByteTable nodes bodies marks new_runs new_choices n)
+      → AreByteTables nodes bodies marks all new_runs new_choices
+  tables_next places all runs new_runs more choices new_choices others n place long is is_runs is_choices are here m p
+      at =
+      ⊎_elim (λ old. tables_kept runs new_runs more choices new_choices others m p is_runs is_choices (are m p old))
+      (λ last. table_here new_runs new_choices n m place p (last.0 ∙ long) last.1 here)
+      (get_pushed places place m (Some p) (rw is at at))

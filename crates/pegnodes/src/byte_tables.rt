@@ -1,0 +1,140 @@
+//! Tables by the next byte: of the operands of a grammar's repetitions, and of its choices.
+ghost use Rattle.std.specs.Prelude.{◌≡◌, ◌++◌, ℕ, List, IfOk, IfSome, slice_get, Some};
+ghost use Rattle.pegnodes.specs.ByteTables.{AreByteTables, HasByteTable, HasTable, IsChoiceTableOf, IsRunTableOf};
+ghost use Rattle.pegnodes.specs.Decides.{marks_in};
+ghost use Rattle.pegnodes.specs.Nodes.{Choice, shapes_of};
+ghost use Rattle.pegnodes.specs.declared.choice_table.ChoiceTable.{ChoiceTable};
+ghost use Rattle.pegnodes.specs.declared.run_table.RunTable.{RunTable};
+
+use crate::by_byte::{MarkedNodes, decide};
+use crate::choice_table::{ChoiceTable, MOST_ALTERNATIVES};
+use crate::keys::mark_or;
+use crate::node::Node;
+use crate::run_table::RunTable;
+use ruletable::Memory;
+use std::alloc::Global;
+
+// How many tables of repetitions a grammar has at most, and how many of choices. A table takes up to 2 KB and some
+// microseconds, so a grammar of more repetitions or choices runs the others without.
+const MOST_TABLES: usize = 256;
+
+// A choice whose node has this number or a greater one has no table, so that a grammar of very many rules starts soon.
+const MOST_NODES: usize = 4000;
+
+/// The tables of a grammar's repetitions and of its choices, and of each node the place of its table, if it has one.
+#[derive(Drop)]
+pub struct ByteTables {
+    pub runs: Vec<RunTable>,
+    pub choices: Vec<ChoiceTable>,
+    pub places: Vec<Option<u16>>,
+}
+
+// Adds the table of a repetition's operand, if the table is of use, and returns its place.
+fn add_run(
+    alloc: Global,
+    grammar: &MarkedNodes<'_>,
+    operand: usize,
+    runs: &mut Vec<RunTable>,
+) -> Result<Option<u16>, Memory>
+    ensures kept { IfOk result (λ _. (more : List RunTable) × (runs.new.items ≡ runs.old.items ++ more)) }
+    ensures added { IfOk result (λ added. IfSome added (HasTable (IsRunTableOf (shapes_of grammar.now.nodes.now)
+        grammar.now.bodies.now (marks_in grammar.now) operand) runs.new.items)) }
+{
+    let place = runs.len();
+    if place >= MOST_TABLES {
+        return Ok(None);
+    }
+    let table = RunTable::new(alloc, grammar, operand)?;
+    if !table.decides_some() {
+        return Ok(None);
+    }
+    runs.push(table)?;
+    Ok(Some(place as u16))
+}
+
+// Returns whether byte 0 decides anything of the first alternative, which is no key. Few alternatives begin with that
+// byte, so where it decides nothing, hardly any byte does.
+fn may_skip(grammar: &MarkedNodes<'_>, alternatives: &[usize]) -> bool {
+    match alternatives.first() {
+        Some(first) => {
+            !mark_or(grammar.keys, *first, true) && decide(grammar, *first, 0).is_some()
+        }
+        None => false,
+    }
+}
+
+// Adds the table of a choice, if the table is of use, and returns its place.
+fn add_choice(
+    alloc: Global,
+    grammar: &MarkedNodes<'_>,
+    alternatives: &[usize],
+    choices: &mut Vec<ChoiceTable>,
+) -> Result<Option<u16>, Memory>
+    ensures kept { IfOk result (λ _. (more : List ChoiceTable) × (choices.new.items ≡ choices.old.items ++ more)) }
+    ensures added { IfOk result (λ added. IfSome added (λ place. (n : ℕ) →
+        slice_get (shapes_of grammar.now.nodes.now) n ≡ Some (Choice alternatives.now) →
+        HasTable (IsChoiceTableOf (shapes_of grammar.now.nodes.now) grammar.now.bodies.now (marks_in grammar.now) n
+        alternatives.now) choices.new.items place)) }
+{
+    let place = choices.len();
+    if place >= MOST_TABLES || alternatives.len() > MOST_ALTERNATIVES {
+        return Ok(None);
+    }
+    if !may_skip(grammar, alternatives) {
+        return Ok(None);
+    }
+    let table = ChoiceTable::new(alloc, grammar, alternatives)?;
+    if !table.skips_some() {
+        return Ok(None);
+    }
+    choices.push(table)?;
+    Ok(Some(place as u16))
+}
+
+// Adds the table of a node, if it has one, and returns its place.
+fn add_table(
+    alloc: Global,
+    grammar: &MarkedNodes<'_>,
+    n: usize,
+    tables: &mut ByteTables,
+) -> Result<Option<u16>, Memory>
+    ensures runs { IfOk result (λ _. (more : List RunTable) × (tables.new.runs.items ≡ tables.old.runs.items ++ more)) }
+    ensures choices { IfOk result (λ _. (more : List ChoiceTable) ×
+        (tables.new.choices.items ≡ tables.old.choices.items ++ more)) }
+    ensures places { IfOk result (λ _. tables.new.places.items ≡ tables.old.places.items) }
+    ensures added { IfOk result (λ added. IfSome added (HasByteTable (shapes_of grammar.now.nodes.now)
+        grammar.now.bodies.now (marks_in grammar.now) tables.new.runs.items tables.new.choices.items n)) }
+{
+    match grammar.nodes.get(n) {
+        Some(Node::Star(operand)) => add_run(alloc, grammar, *operand, &mut tables.runs),
+        Some(Node::Choice(alternatives)) => {
+            if n >= MOST_NODES {
+                return Ok(None);
+            }
+            add_choice(alloc, grammar, alternatives, &mut tables.choices)
+        }
+        _ => Ok(None),
+    }
+}
+
+/// Makes the tables of the operands of a grammar's repetitions, of those of which some byte decides anything, and of
+/// the choices of which some byte decides that the first alternative fails.
+///
+/// # Errors
+/// `Memory` if an allocation fails.
+pub fn find_tables(alloc: Global, grammar: &MarkedNodes<'_>) -> Result<ByteTables, Memory>
+    ensures { IfOk result (λ tables. AreByteTables (shapes_of grammar.now.nodes.now) grammar.now.bodies.now
+        (marks_in grammar.now) tables.places.items tables.runs.items tables.choices.items) }
+{
+    let places = Vec::with_capacity(alloc, grammar.nodes.len())?;
+    let mut tables = ByteTables {
+        runs: Vec::new(alloc),
+        choices: Vec::new(alloc),
+        places,
+    };
+    for n in 0..grammar.nodes.len() {
+        let place = add_table(alloc, grammar, n, &mut tables)?;
+        tables.places.push(place)?;
+    }
+    Ok(tables)
+}
