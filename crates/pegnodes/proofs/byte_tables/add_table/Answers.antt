@@ -17,7 +17,7 @@ returns-in-Some-Star-clause-added c =
     (marks_in c.args.grammar.now) c.add_run.new.runs.items c.args.tables.now.choices.items c.args.n
     c.in-Some-Star.operand (rw c.in-Some-Star.field-0-is at at)) c.add_run.ensures.added
 
-pub returns-else-n-ge-MOST_NODES-clause-added : goal.returns-in-Some-Choice-clause-added
+pub returns-else-n-ge-MOST_NODES-clause-added : goal.returns-else-n-ge-MOST_NODES-clause-added
 returns-else-n-ge-MOST_NODES-clause-added c =
     let found = c.in-Some-Choice.ensures.lookup in
     let low : c.args.n < length c.args.grammar.now.nodes.now =
