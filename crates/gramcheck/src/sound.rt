@@ -238,6 +238,7 @@ impl SoundPeg {
             None => None,
         }
     }
+
     /// Returns the table of the choice that is the node of that number, if the grammar has one. Only a choice of which
     /// some byte decides that the first alternative fails has one, and not each does in a grammar of very many.
     pub fn choice_table(&self, choice: usize) -> Option<&ChoiceTable>
