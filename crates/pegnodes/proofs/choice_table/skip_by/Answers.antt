@@ -1,6 +1,5 @@
-use Rattle.std.proofs.Common.{arith, refl, sym}
 use Rattle.pegnodes.specs.ChoiceTables.{fail_none}
-use Rattle.pegnodes.proofs.ChoiceTablesLemmas.{fails_as, fails_next}
+use Rattle.pegnodes.proofs.ChoiceTablesLemmas.{fails_next}
 use Rattle.pegnodes.proofs.choice_table.skip_by.Goals as goal
 
 pub loop-i-init : goal.loop-i-init
