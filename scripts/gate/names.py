@@ -45,7 +45,7 @@ TWINS = set(
     """.split()
 )
 # The most crates of the workspace, and the most that a chain of uses has which ends in a program.
-MOST_CRATES = 49
+MOST_CRATES = 50
 LONGEST_CHAIN = 10
 # The programs, each with the parts of crates.txt of which it uses nothing, and the most crates below it.
 PROGRAMS = {

@@ -1,0 +1,5 @@
+mod ComesFirstLemmas
+mod StatePairsLemmas
+mod StackSetsLemmas
+mod FoundPairsLemmas
+mod TurnedLemmas

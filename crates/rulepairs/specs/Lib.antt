@@ -1,0 +1,4 @@
+pub mod StatePairs
+pub mod StackSets
+pub mod FirstLines
+pub mod FoundPairs
