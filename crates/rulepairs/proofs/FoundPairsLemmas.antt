@@ -1,14 +1,13 @@
 -- What a breadth-first search says of the lines of the old rule alone.
 -- Serves: first_line, no_line_up_to, no_line.
 use Rattle.std.proofs.Common.{◌≡◌, ℕ, zero, suc, ◌+◌, ◌<◌, ◌≤◌, List, [], ◌∷◌, ◌++◌, length, refl, sym, ◌∙◌, ap, subst}
-use Rattle.std.proofs.Common.{arith, inl, inr, ◌⊎◌, ◌↔◌, length-append, take, drop, append_assoc, append-nil}
+use Rattle.std.proofs.Common.{arith, inl, inr, ◌⊎◌, length-append, take, drop, append_assoc, append-nil}
 use Rattle.std.specs.Prelude.{Bool, true, false, slice_get, Some, Contains}
 use Rattle.std.proofs.lemmas.Bool.{cases_lt}
 use Rattle.std.proofs.lemmas.List.{take-append-drop}
 use Rattle.std.proofs.lemmas.Option.{slice_get_within}
-use Rattle.std.proofs.Math.Seq.{take-length}
 use Rattle.abnfread.specs.Element.{Rule}
-use Rattle.abnfcheck.specs.Derivable.{AreLetters, RuleDerives}
+use Rattle.abnfcheck.specs.Derivable.{AreLetters}
 use Rattle.flatgrammar.specs.Flat.{Flat, Place}
 use Rattle.letterclasses.specs.Stacks.{Accepts, ReadBy, Reach, begins, moved, has_read}
 use Rattle.letterclasses.proofs.FrontLemmas.{taken_by_tops, nothing_below}
@@ -16,7 +15,7 @@ use Rattle.rulepairs.specs.FirstLines.{ComesFirst, HasNoLineUpTo, IsFirstLine, I
 use Rattle.rulepairs.specs.FirstLines.{sort_key}
 use Rattle.rulepairs.specs.FoundPairs.{AreFound, AreSearched, EndWithNew, FoundPair, IsFoundBefore, IsOldDead, IsWordOf}
 use Rattle.rulepairs.specs.FoundPairs.{LeadsToFound, next, start}
-use Rattle.rulepairs.specs.StatePairs.{AcceptsRule, AreSamples, HasSample, StatePair}
+use Rattle.rulepairs.specs.StatePairs.{AcceptsRule, AreSamples, HasSample}
 use Rattle.rulepairs.proofs.ComesFirstLemmas.{before_extends, first_append, first_length, first_trans, last_before}
 use Rattle.rulepairs.proofs.ComesFirstLemmas.{last_first, nothing_before, nothing_first, prefix_first}
 use Rattle.rulepairs.proofs.StatePairsLemmas.{accepted_derived, ArePairFronts, derived_accepted, element_at}

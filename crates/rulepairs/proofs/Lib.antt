@@ -2,4 +2,4 @@ mod ComesFirstLemmas
 mod StatePairsLemmas
 mod StackSetsLemmas
 mod FoundPairsLemmas
-mod TurnedLemmas
+mod SwappedLemmas

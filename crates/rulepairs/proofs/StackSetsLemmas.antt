@@ -4,7 +4,7 @@ use Rattle.std.proofs.Common.{◌≡◌, ℕ, zero, suc, ◌+◌, ◌<◌, ◌�
 use Rattle.std.proofs.Common.{subst, arith, length-append, drop}
 use Rattle.std.specs.Prelude.{Bool, true, false, Contains, slice_get, Some}
 use Rattle.abnfcheck.specs.Derivable.{AreLetters}
-use Rattle.flatgrammar.specs.Flat.{Calls, calls, Calling, Flat, Has, Node, Place, Reading, Reads, Starts}
+use Rattle.flatgrammar.specs.Flat.{Calls, calls, Calling, Flat, Has, Node, Place, Reading, Reads}
 use Rattle.flatgrammar.specs.Flat as f
 use Rattle.letterclasses.specs.Stacks.{Accepts, AreAlike, IsDoneAt, is_done, IsNext, IsReading, reading, Led, led}
 use Rattle.letterclasses.specs.Stacks.{Moves, call, tail_call, return, Reach, ReadBy}
@@ -87,7 +87,8 @@ module _ (flat : Flat) (last : Place → Bool) where
   split_some [] part w some full d = absurd (some refl)
   split_some (t ∷ top) part w some full d = split_drain d t top part full refl
 
-  rejoin_some : (tops parts stacks : List (List Place)) → AreAllJoined tops parts stacks → AreFull parts → {u v w : List ℕ}
+  rejoin_some : (tops parts stacks : List (List Place)) → AreAllJoined tops parts stacks → AreFull parts
+      → {u v w : List ℕ}
       → SomeDrains flat last (Contains tops) u → SomeDrains flat last (Contains parts) v → w ≡ u ++ v
       → SomeDrains flat last (Contains stacks) w
   rejoin_some tops parts stacks joined full t r same = record {
@@ -103,7 +104,11 @@ module _ (flat : Flat) (last : Place → Bool) where
     into_state l (done {p = p} d) = ends (is.ended_is.1 (record { place = p; led_to = l; done = d }))
     into_state l (moves m d) = into_state (Led.moves l m) d
     into_state l (reads {q = q} {r = r} {below = below} rd lies d) =
-        by_stack (record { stack = q ∷ below; is = (is.tops_are (q ∷ below)).1 (reading rd, l); drains = reads rd lies d })
+        by_stack (record {
+          stack = q ∷ below;
+          is = (is.tops_are (q ∷ below)).1 (reading rd, l);
+          drains = reads rd lies d;
+        })
 
     led_back : {s : List Place} {w : List ℕ} → Led flat last from s → Drain s w → SomeDrains flat last from w
     led_back {s = s} (led f) d = record { stack = s; is = f; drains = d }
@@ -163,7 +168,8 @@ module _ (flat : Flat) (last : Place → Bool) where
     state_after : IsStateFrom flat last (ReadBy flat last (Contains tops) d) next ended
     state_after = record { tops_are = is.tops_are; ended_is = is.ended_is }
 
-    after_symbol : (all_read : (top : List Place) → Contains tops top → IsReading flat top) {s : List Place} {w : List ℕ}
+    after_symbol : (all_read : (top : List Place) → Contains tops top → IsReading flat top) {s : List Place}
+        {w : List ℕ}
         → Contains tops s → Drain s w → (v : List ℕ) → w ≡ c ∷ v → StateAccepts flat last next ended v
     after_symbol all_read h (done dn) v same = cc same
     after_symbol all_read h (moves m dr) v same = absurd (no_move (all_read _ h) m)
@@ -275,7 +281,8 @@ module _ (has : ℕ → Bool) (old : Flat) (old_last : Place → Bool) (new : Fl
       → AreLetters has w → length w ≤ n → Old p w → New p w
   follows_too n up {p = p} (one is) w all le h = up p is w all le h
   follows_too n up (more asks follows) w all le h =
-      wider_accepts asks.new_are asks.new_ends (follows_too n up follows w all le (wider_accepts asks.old_are asks.old_ends h))
+      wider_accepts asks.new_are asks.new_ends
+      (follows_too n up follows w all le (wider_accepts asks.old_are asks.old_ends h))
   follows_too n up {p = p} (cut {tops = tops} {below = below} c on_tops on_below) w all le h =
       let o = of_top c.runs h in
       let g = c.cut o.stack o.is in
@@ -285,8 +292,8 @@ module _ (has : ℕ → Bool) (old : Flat) (old_last : Place → Bool) (new : Fl
       let each = symbols_in has s.first s.rest (subst (λ v. AreLetters has v) s.word all) in
       let t = of_top c.new_tops_run (follows_too n up on_tops s.first each.0 (omega (arith, le, size))
       (by_stack (record { stack = g.top; is = g.is_top; drains = s.top_drains }))) in
-      let old_rest = into_state old old_last (Contains c.old_parts) below.old below.old_ended c.old_below (led g.is_part)
-      s.part_drains in
+      let old_rest = into_state old old_last (Contains c.old_parts) below.old below.old_ended c.old_below
+      (led g.is_part) s.part_drains in
       let r = out_of_state new new_last (Contains c.new_parts) below.new below.new_ended c.new_below
       (follows_too n up on_below s.rest each.1 (omega (arith, le, size)) old_rest) in
       by_stack (rejoin_some new new_last tops.new c.new_parts p.new c.joined c.new_full t r s.word)
@@ -309,8 +316,8 @@ module _ (has : ℕ → Bool) (old : Flat) (old_last : Place → Bool) (new : Fl
       let o = some_symbol h in
       by_stack (before_symbol new new_last p.new l.next.new l.next.new_ended c a.sample a.new_alike l.leads.new_next
       (follows_too n (up_to n) l.follows w all.1 (omega (arith, le))
-      (after_symbol old old_last p.old l.next.old l.next.old_ended c a.sample a.old_alike l.leads.old_next (closed.reading p is)
-      o.is o.drains w refl)))
+      (after_symbol old old_last p.old l.next.old l.next.old_ended c a.sample a.old_alike l.leads.old_next
+      (closed.reading p is) o.is o.drains w refl)))
     where
       some_symbol : {v : List ℕ} {b : ℕ} → Old p (b ∷ v) → SomeDrains old old_last (Contains p.old) (b ∷ v)
       some_symbol (by_stack g) = g

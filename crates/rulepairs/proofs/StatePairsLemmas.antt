@@ -50,7 +50,8 @@ module _ (old : Flat) (old_last : Place → Bool) (new : Flat) (new_last : Place
 
 module _ (has : ℕ → Bool) (old : Flat) (old_last : Place → Bool) (new : Flat) (new_last : Place → Bool)
     (samples : List ℕ) (each : AreSamples old new has samples) (pairs : List StatePair) (first : StatePair)
-    (closed : AreClosed old old_last new new_last samples pairs) (is_one : Contains pairs first) (starts : IsStartPair old old_last new new_last first) (x : List ℕ)
+    (closed : AreClosed old old_last new new_last samples pairs) (is_one : Contains pairs first)
+    (starts : IsStartPair old old_last new new_last first) (x : List ℕ)
     (symbols : AreLetters has x) where
   -- one of the pairs does so
   record AtPair (j : ℕ) : Type 0 where

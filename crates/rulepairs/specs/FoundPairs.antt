@@ -1,8 +1,8 @@
 -- Pairs of states in the order in which a breadth-first search finds them.
-use Rattle.std.specs.Prelude.{◌≡◌, ◌⊎◌, ℕ, ◌<◌, ◌≤◌, Bool, true, List, [], ◌∷◌, ◌++◌, length, slice_get, Some, Contains}
+use Rattle.std.specs.Prelude.{◌≡◌, ◌⊎◌, ℕ, ◌<◌, ◌≤◌, Bool, true, List, [], ◌∷◌, ◌++◌, slice_get, Some, Contains}
 use Rattle.flatgrammar.specs.Flat.{Flat, Place}
 use Rattle.rulepairs.specs.FirstLines.{sort_key}
-use Rattle.rulepairs.specs.StatePairs.{IsStartPair, PairLeads, StatePair, turned}
+use Rattle.rulepairs.specs.StatePairs.{IsStartPair, PairLeads, StatePair, swapped}
 
 -- a pair of states, the index of the pair that it was found from, and the symbol that leads from there
 pub record FoundPair : Type 0 where
@@ -10,8 +10,8 @@ pub record FoundPair : Type 0 where
   pub parent : ℕ
   pub symbol : ℕ
 
-abbrev pub turned_found : FoundPair → FoundPair
-turned_found e = record { pair = turned e.pair; parent = e.parent; symbol = e.symbol }
+abbrev pub swapped_found : FoundPair → FoundPair
+swapped_found e = record { pair = swapped e.pair; parent = e.parent; symbol = e.symbol }
 
 -- the symbols that lead to the pair of that index: none to the first one, else those to its parent and its own
 pub data IsWordOf (found : List FoundPair) : ℕ → List ℕ → Type 0 where

@@ -15,8 +15,8 @@ pub record StatePair : Type 0 where
   pub new_ended : Bool
 
 -- the same two states in the other order
-abbrev pub turned : StatePair → StatePair
-turned p = record { old = p.new; old_ended = p.new_ended; new = p.old; new_ended = p.old_ended }
+abbrev pub swapped : StatePair → StatePair
+swapped p = record { old = p.new; old_ended = p.new_ended; new = p.old; new_ended = p.old_ended }
 
 module _ (old new : Flat) where
   -- one of the samples is in exactly the sets that have the symbol, and comes no later

@@ -7,7 +7,7 @@ ghost use Rattle.flatgrammar.specs.Flat.{Flat, Place};
 ghost use Rattle.letterclasses.specs.Stacks.{Accepts};
 ghost use Rattle.rulepairs.specs.FirstLines.{HasNoLine, HasNoLineUpTo, IsFirstLine, IsOfOldAlone};
 ghost use Rattle.rulepairs.specs.FoundPairs.{AreFound, AreSearched, EndWithNew, FoundPair, IsNewDead, IsOldDead};
-ghost use Rattle.rulepairs.specs.FoundPairs.{IsWordOf, turned_found};
+ghost use Rattle.rulepairs.specs.FoundPairs.{IsWordOf, swapped_found};
 ghost use Rattle.rulepairs.specs.StackSets.{AreClosedByParts, IsStartStack, IsStateFrom};
 ghost use Rattle.rulepairs.specs.StatePairs.{AcceptsRule, AreClosed, AreSamples, IsStartPair, StatePair};
 
@@ -81,13 +81,13 @@ pub fn no_line()
         HasNoLine (IsOfOldAlone has old_rules old_rule new_rules new_rule) }
 {}
 
-/// Returns nothing. Its contract is a law: a search is one of the turned pairs too, and the same symbols lead to them.
-pub fn turned_pairs()
+/// Returns nothing. Its contract is a law: a search is one of the swapped pairs too, and the same symbols lead to them.
+pub fn swapped_pairs()
     ensures { (has : ℕ → Bool) (old new : Flat) (old_last new_last : Place → Bool) (samples : List ℕ)
         (found : List FoundPair) (n : ℕ) → (AreSamples old new has samples → AreSamples new old has samples) ×
         (AreFound old old_last new new_last found has →
-        AreFound new new_last old old_last (map turned_found found) has) ×
+        AreFound new new_last old old_last (map swapped_found found) has) ×
         (AreSearched old old_last new new_last found IsNewDead samples n →
-        AreSearched new new_last old old_last (map turned_found found) IsOldDead samples n) ×
-        ((w : List ℕ) → IsWordOf found n w ↔ IsWordOf (map turned_found found) n w) }
+        AreSearched new new_last old old_last (map swapped_found found) IsOldDead samples n) ×
+        ((w : List ℕ) → IsWordOf found n w ↔ IsWordOf (map swapped_found found) n w) }
 {}

@@ -5,5 +5,5 @@ mod laws;
 
 pub use laws::{
     closed_pairs_include, first_line, included_lines, no_line, no_line_up_to, parts_include,
-    turned_pairs,
+    swapped_pairs,
 };
