@@ -58,7 +58,7 @@ LARGEST_CRATE = 105
 LARGER = {}
 # The most entries that a folder has, and the folders that have more.
 LARGEST_FOLDER = 40
-WIDER = {"crates": MOST_CRATES}
+WIDER = {"crates": MOST_CRATES, "docs/crates": MOST_CRATES}
 # Folders that hold no sources.
 BUILT = {".git", "__pycache__", "bin", "out"}
 TEXTS = {".antt", ".edit", ".md", ".py", ".rt", ".sh"}
