@@ -3,3 +3,4 @@ mod StatePairsLemmas
 mod StackSetsLemmas
 mod FoundPairsLemmas
 mod SwappedLemmas
+mod CountsWithinLemmas

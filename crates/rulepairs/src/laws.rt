@@ -4,12 +4,23 @@ ghost use Rattle.std.specs.Prelude.{slice_get};
 ghost use Rattle.abnfcheck.specs.Derivable.{AreLetters, RuleDerives};
 ghost use Rattle.abnfread.specs.Element.{Rule};
 ghost use Rattle.flatgrammar.specs.Flat.{Flat, Place};
+ghost use Rattle.flatgrammar.specs.FlatVerdicts.{DerivesLine};
 ghost use Rattle.letterclasses.specs.Stacks.{Accepts};
+ghost use Rattle.lowering.specs.Lowered.{IsLowered};
+ghost use Rattle.rulepairs.specs.CountsWithin.{RuleCountsWithin};
 ghost use Rattle.rulepairs.specs.FirstLines.{HasNoLine, HasNoLineUpTo, IsFirstLine, IsOfOldAlone};
 ghost use Rattle.rulepairs.specs.FoundPairs.{AreFound, AreSearched, EndWithNew, FoundPair, IsNewDead, IsOldDead};
 ghost use Rattle.rulepairs.specs.FoundPairs.{IsWordOf, swapped_found};
 ghost use Rattle.rulepairs.specs.StackSets.{AreClosedByParts, IsStartStack, IsStateFrom};
 ghost use Rattle.rulepairs.specs.StatePairs.{AcceptsRule, AreClosed, AreSamples, IsStartPair, StatePair};
+
+/// Returns nothing. Its contract is a law: if no repeat count is greater than the limit of a lowered grammar, it derives
+/// exactly the lines that the judged rule derives, whatever their length.
+pub fn any_length()
+    ensures { (has : ℕ → Bool) (rules : List Rule) (judged : ℕ) (flat : Flat) → IsLowered rules judged flat →
+        RuleCountsWithin flat.limit rules → (x : List ℕ) → AreLetters has x →
+        DerivesLine flat x ↔ RuleDerives has rules judged x }
+{}
 
 /// Returns nothing. Its contract is a law: if the start states are one of closed pairs, the new grammar accepts each
 /// line that the old one accepts.

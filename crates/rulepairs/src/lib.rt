@@ -4,6 +4,6 @@
 mod laws;
 
 pub use laws::{
-    closed_pairs_include, first_line, included_lines, no_line, no_line_up_to, parts_include,
-    swapped_pairs,
+    any_length, closed_pairs_include, first_line, included_lines, no_line, no_line_up_to,
+    parts_include, swapped_pairs,
 };
