@@ -2,16 +2,15 @@
 -- Serves: any_length.
 use Rattle.std.proofs.Common.{◌≡◌, ℕ, ◌+◌, ◌≤◌, Bool, true, leb, List, length, refl, ◌∙◌}
 use Rattle.std.proofs.Common.{arith, ◌↔◌, le-leb}
-use Rattle.std.specs.Prelude.{slice_get, Option, Some, None}
+use Rattle.std.specs.Prelude.{Option, Some, None}
 use Rattle.std.proofs.lemmas.Bool.Decides.{nat_tests}
-use Rattle.abnfread.specs.Element as e
 use Rattle.abnfread.specs.Element.{Element, Elements, Rule}
 use Rattle.abnfcheck.specs.Derivable.{AreLetters, RuleDerives}
 use Rattle.flatgrammar.specs.Flat.{calls, Calls, capped, Ends, ends, Flat, name_ends, name_starts, Node, Place, reads, Reads}
 use Rattle.flatgrammar.specs.Flat.{Set, Starts, starts, Takes, in_turns}
 use Rattle.flatgrammar.specs.FlatVerdicts.{DerivesLine}
 use Rattle.flatgrammar.specs.Holds.{begins, called, has_read, Holds, returned}
-use Rattle.lowering.specs.Lowered.{AreBodies, capped_most, IsLowered, Shows, shows_alt, shows_concat, shows_name, shows_opt}
+use Rattle.lowering.specs.Lowered.{capped_most, IsLowered, Shows, shows_alt, shows_concat, shows_name, shows_opt}
 use Rattle.lowering.specs.Lowered.{shows_prose, shows_range, shows_rep, shows_reversed, shows_text, shows_turns}
 use Rattle.lowering.specs.Lowered.{shows_values, spell_more, spell_none, SpellAll, Spells, spells}
 use Rattle.lowering.proofs.RuleDerivesLemmas.{derives_exactly}

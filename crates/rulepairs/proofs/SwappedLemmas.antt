@@ -1,6 +1,6 @@
 -- Pairs of states in the other order.
 -- Serves: swapped_pairs.
-use Rattle.std.proofs.Common.{◌≡◌, ℕ, ◌+◌, List, [], ◌∷◌, ◌++◌, refl, sym, ap, subst, arith}
+use Rattle.std.proofs.Common.{◌≡◌, ℕ, List, [], ◌∷◌, ◌++◌, refl, sym, ap, subst, arith}
 use Rattle.std.proofs.Common.{inl, inr, ◌⊎◌}
 use Rattle.std.specs.Prelude.{Bool, slice_get, map, Option, Some, None, option_map}
 use Rattle.std.proofs.lemmas.Option.{slice_get-map}
