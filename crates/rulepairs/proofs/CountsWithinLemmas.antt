@@ -6,8 +6,8 @@ use Rattle.std.specs.Prelude.{Option, Some, None}
 use Rattle.std.proofs.lemmas.Bool.Decides.{nat_tests}
 use Rattle.abnfread.specs.Element.{Element, Elements, Rule}
 use Rattle.abnfcheck.specs.Derivable.{AreLetters, RuleDerives}
-use Rattle.flatgrammar.specs.Flat.{calls, Calls, capped, Ends, ends, Flat, name_ends, name_starts, Node, Place, reads, Reads}
-use Rattle.flatgrammar.specs.Flat.{Set, Starts, starts, Takes, in_turns}
+use Rattle.flatgrammar.specs.Flat.{calls, Calls, capped, Ends, ends, Flat, name_ends, name_starts}
+use Rattle.flatgrammar.specs.Flat.{Node, Place, reads, Reads, Set, Starts, starts, Takes, in_turns}
 use Rattle.flatgrammar.specs.FlatVerdicts.{DerivesLine}
 use Rattle.flatgrammar.specs.Holds.{begins, called, has_read, Holds, returned}
 use Rattle.lowering.specs.Lowered.{capped_most, IsLowered, Shows, shows_alt, shows_concat, shows_name, shows_opt}
@@ -38,7 +38,8 @@ module _ (flat : Flat) (l m : ℕ) where
   takes_same : {p : Place} → Takes (with_limit flat m) p → Takes (with_limit flat l) p
   takes_same (in_turns is t) = in_turns is t
 
-  holds_same : (x : List ℕ) {j i : ℕ} {p : Place} → Holds (with_limit flat l) x j p i → Holds (with_limit flat m) x j p i
+  holds_same : (x : List ℕ) {j i : ℕ} {p : Place} → Holds (with_limit flat l) x j p i
+      → Holds (with_limit flat m) x j p i
   holds_same x (begins st) = begins (starts_same st)
   holds_same x (called h c st) = called (holds_same x h) (calls_same c) (starts_same st)
   holds_same x (has_read h rd is lies) = has_read (holds_same x h) (reads_same rd) is lies

@@ -14,8 +14,8 @@ ghost use Rattle.rulepairs.specs.FoundPairs.{IsWordOf, swapped_found};
 ghost use Rattle.rulepairs.specs.StackSets.{AreClosedByParts, IsStartStack, IsStateFrom};
 ghost use Rattle.rulepairs.specs.StatePairs.{AcceptsRule, AreClosed, AreSamples, IsStartPair, StatePair};
 
-/// Returns nothing. Its contract is a law: if no repeat count is greater than the limit of a lowered grammar, it derives
-/// exactly the lines that the judged rule derives, whatever their length.
+/// Returns nothing. Its contract is a law: if no repeat count is greater than the limit of a lowered grammar, that
+/// grammar derives exactly the lines that the judged rule derives, whatever their length.
 pub fn any_length()
     ensures { (has : ℕ → Bool) (rules : List Rule) (judged : ℕ) (flat : Flat) → IsLowered rules judged flat →
         RuleCountsWithin flat.limit rules → (x : List ℕ) → AreLetters has x →
