@@ -45,7 +45,7 @@ TWINS = set(
     """.split()
 )
 # The most crates of the workspace, and the most that a chain of uses has which ends in a program.
-MOST_CRATES = 49
+MOST_CRATES = 50
 LONGEST_CHAIN = 10
 # The programs, each with the parts of crates.txt of which it uses nothing, and the most crates below it.
 PROGRAMS = {
@@ -58,7 +58,7 @@ LARGEST_CRATE = 105
 LARGER = {}
 # The most entries that a folder has, and the folders that have more.
 LARGEST_FOLDER = 40
-WIDER = {"crates": MOST_CRATES}
+WIDER = {"crates": MOST_CRATES, "docs/crates": MOST_CRATES}
 # Folders that hold no sources.
 BUILT = {".git", "__pycache__", "bin", "out"}
 TEXTS = {".antt", ".edit", ".md", ".py", ".rt", ".sh"}

@@ -1,0 +1,6 @@
+mod ComesFirstLemmas
+mod StatePairsLemmas
+mod StackSetsLemmas
+mod FoundPairsLemmas
+mod SwappedLemmas
+mod CountsWithinLemmas

@@ -1,0 +1,5 @@
+pub mod StatePairs
+pub mod StackSets
+pub mod FirstLines
+pub mod FoundPairs
+pub mod CountsWithin
