@@ -383,6 +383,7 @@ impl Machine {
     }
 
     // Begins a choice whose first alternatives fail, and goes to the next one, or returns that the choice fails.
+    #[inline(always)]
     fn run_skips(
         &mut self,
         peg: &SoundPeg,
