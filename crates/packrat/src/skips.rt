@@ -56,10 +56,6 @@ pub(crate) fn skips_at(peg: &SoundPeg, window: &[u8], more: bool, spot: Spot) ->
         Spot::Tail { .. } => None,
         Spot::Pair { node, place } => match peg.node(node) {
             Node::Choice(alternatives) => {
-                // two alternatives are tried sooner than a table is looked up
-                if alternatives.len() < 3 {
-                    return None;
-                }
                 let table = peg.choice_table(node)?;
                 let skip = skip_before(table, window, place, sure_end(window, more))?;
                 Some(Skips {
