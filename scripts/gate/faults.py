@@ -116,6 +116,9 @@ GROWING = [
     PRINTED,
     peg("an action met four times in a unit", b"S <- A A 'x'\nA <- B B\nB <- {b}", b"x", [b"b\nb\nb\nb\n"]),
     WORDS,
+    # the file of the grammar is named again, as that of the input
+    abnf("a file of the input", b"a = *%x20-7E\n", b"", [YES], words=["grammar"]),
+    peg("a file of the input", b"a <- .+ {x}", b"", [b"x\n"], words=["grammar"]),
     VIABLE,
     abnf("an ambiguous rule", b's = s s / "a" / ""', b"aaa\n\nb\n", [YES, YES, NO], status=1),
     abnf("a counted repetition of an option", b's = 2*3["a"] "b"', b"aab\nab\nac\n", [YES, YES, b"no 1\n"], status=1,
