@@ -58,8 +58,8 @@ UNREAD = {
     # of which cells and in which of how many buckets the result is the last one
     "memo: last_of.cells", "memo: last_of.count",
     # what is evaluated, and on which bytes
-    "matchfailure: FailureSearch.failure_in.unit", "packrat: Machine.run_turns.more", "packrat: begin_tail.more",
-    "packrat: begin_tail.window", "packrat: close.peg", "packrat: close.window", "packrat: go_on_node.window",
+    "matchfailure: FailureSearch.failure_in.unit", "packrat: Machine.run_turns.more",
+    "packrat: close.peg", "packrat: close.window", "packrat: go_on_node.window",
     "packrat: go_on_tail.window", "packrat: put_operands.window", "packrat: put_turns.window",
     # of which tables, sets or rows the lists are
     "earley: complete_rest.places", "earley: keep_set.places", "earley: predict_row.row",

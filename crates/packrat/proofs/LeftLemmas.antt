@@ -22,13 +22,14 @@ use Rattle.packrat.specs.Spots.{KidsBy, TailKidsBy}
 use Rattle.packrat.specs.Spots.{Kids}
 use Rattle.packrat.specs.View.{weight}
 use Rattle.packrat.specs.declared.frames.Frame.{Frame}
-use Rattle.packrat.specs.Stands.{AreWaiting, entered, IsEntered}
+use Rattle.memo.specs.declared.key_log.Stored.{Stored}
+use Rattle.packrat.specs.Stands.{key_of, AreWaiting, AreEntered, IsEntered}
 use Rattle.packrat.specs.Onward.{tail_of, member_of}
 use Rattle.packrat.specs.declared.onward.Entering.{Entering}
 use Rattle.pegnodes.specs.KeyLists.{Marks}
 use Rattle.packrat.specs.declared.frames.Wait.{Wait}
 use Rattle.packrat.specs.declared.frames.Wait.TheVariants.{First, Last, Turned}
-use Rattle.packrat.specs.declared.machine.Turn.TheVariants.{Ask, Answer}
+use Rattle.packrat.specs.Turns.{Turn, Ask, Answer}
 
 member_counted : (shape : Shape) (i : ℕ) → HasMember shape i → i < members_of (way_of 0 shape)
 member_counted node.Any i h = absurd h
@@ -226,23 +227,27 @@ module _ (g : Grammar) (x : List ℕ) where
       let lt = member_below n i p w in
       omega (arith, lt, few)
 
-  entered_costs : (only : Bool) (a : Spot) (fs : List Frame)
-      → frames_cost Most (entered only a fs) ≤ wait_cost Most First a + frames_cost Most fs
-  entered_costs true a fs = omega arith
-  entered_costs false a fs = omega arith
+  entered_costs : (only key : Bool) (a : Spot) (fs gs : List Frame) → AreEntered only key a fs gs
+      → frames_cost Most gs ≤ wait_cost Most First a + frames_cost Most fs
+  entered_costs true key a fs gs are =
+      let some = waits_some First a in
+      let few = waiting_costs key 0 a fs gs are in
+      omega (arith, some, few)
+  entered_costs false key a fs gs is =
+      subst (λ v. frames_cost Most v ≤ wait_cost Most First a + frames_cost Most fs) (sym is) (omega arith)
 
   -- a tail that is entered costs no more than one that is asked for
-  pub entered_less : (marks : Marks) (e : Entering) (fs gs : List Frame) (a : Spot) (begun : ℕ)
-      → IsWell g x (tail_of e) → IsEntered marks e fs gs a
-      → left g x (Ask a) gs begun ≤ left g x (Ask (tail_of e)) fs begun
-  entered_less marks e fs gs a begun w (inl is) =
-      subst (λ v. left g x (Ask v) gs begun ≤ left g x (Ask (tail_of e)) fs begun) (sym is.0)
-      (subst (λ v. left g x (Ask (tail_of e)) v begun ≤ left g x (Ask (tail_of e)) fs begun) (sym is.1) (omega arith))
-  entered_less marks e fs gs a begun w (inr is) =
-      subst (λ v. left g x (Ask v) gs begun ≤ left g x (Ask (tail_of e)) fs begun) (sym is.1)
-      (subst (λ v. left g x (Ask (member_of e)) v begun ≤ left g x (Ask (tail_of e)) fs begun) (sym is.2)
-      (let less = down_tail e.node e.index e.place e.member e.place fs (entered e.only (tail_of e) fs) begun w
-      (entered_costs e.only (tail_of e) fs) in omega (arith, less)))
+  pub entered_less : (marks : Marks) (stored : List Stored) (e : Entering) (fs gs : List Frame) (t : Turn) (begun : ℕ)
+      → IsWell g x (tail_of e) → IsEntered marks stored e fs gs t
+      → left g x t gs begun ≤ left g x (Ask (tail_of e)) fs begun
+  entered_less marks stored e fs gs t begun w (inl i) =
+      subst (λ v. left g x v gs begun ≤ left g x (Ask (tail_of e)) fs begun) (sym i.3)
+      (subst (λ v. left g x (Answer i.0) v begun ≤ left g x (Ask (tail_of e)) fs begun) (sym i.4)
+      (let less = less_stored (tail_of e) i.0 fs begun w in omega (arith, less)))
+  entered_less marks stored e fs gs t begun w (inr i) =
+      subst (λ v. left g x v gs begun ≤ left g x (Ask (tail_of e)) fs begun) (sym i.1)
+      (let less = down_tail e.node e.index e.place e.member e.place fs gs begun w
+      (entered_costs e.only (key_of marks (tail_of e)) (tail_of e) fs gs i.2) in omega (arith, less))
 
   less_tail : (n p m i q : ℕ) (fs gs : List Frame) (begun now pairs : ℕ) → now ≡ begun + pairs → 1 ≤ pairs
       → now ≤ most_begun g x → frames_cost Most gs ≤ 1 + frames_cost Most fs
@@ -254,14 +259,14 @@ module _ (g : Grammar) (x : List ℕ) where
       omega (arith, more, rest, few)
 
   -- a task that begins so many pairs, with a tail that is entered
-  pub less_skipped : (marks : Marks) (n p : ℕ) (e : Entering) (b : Spot) (key : Bool) (fs mid gs : List Frame)
-      (begun now pairs : ℕ) → now ≡ begun + pairs → 1 ≤ pairs → now ≤ most_begun g x → IsWell g x (tail_of e)
-      → AreWaiting key 0 (Pair n p) fs mid → IsEntered marks e mid gs b
-      → left g x (Ask b) gs now < left g x (Ask (Pair n p)) fs begun
-  less_skipped marks n p e b key fs mid gs begun now pairs is some le well are i =
+  pub less_skipped : (marks : Marks) (stored : List Stored) (n p : ℕ) (e : Entering) (t : Turn) (key : Bool)
+      (fs mid gs : List Frame) (begun now pairs : ℕ) → now ≡ begun + pairs → 1 ≤ pairs → now ≤ most_begun g x
+      → IsWell g x (tail_of e) → AreWaiting key 0 (Pair n p) fs mid → IsEntered marks stored e mid gs t
+      → left g x t gs now < left g x (Ask (Pair n p)) fs begun
+  less_skipped marks stored n p e t key fs mid gs begun now pairs is some le well are i =
       let few = waiting_costs key 0 (Pair n p) fs mid are in
       let one = less_tail n p e.node e.index e.place fs mid begun now pairs is some le few in
-      let two = entered_less marks e mid gs b now well i in
+      let two = entered_less marks stored e mid gs t now well i in
       omega (arith, one, two)
 
   pub less_down : (a k : Spot) (key : Bool) (fs : List Frame) (begun now : ℕ) → now ≡ begun + weight a
@@ -300,20 +305,20 @@ module _ (g : Grammar) (x : List ℕ) where
   less_up l own given fs begun = let some = waits_some l.wait l.spot in omega arith
 
   -- with a tail that is entered
-  pub less_pass_in : (marks : Marks) (a b : Spot) (e : Entering) (key : Bool) (head : ℕ) (fs mid gs : List Frame)
-      (begun now : ℕ) → now ≡ begun + weight a
+  pub less_pass_in : (marks : Marks) (stored : List Stored) (a : Spot) (t : Turn) (e : Entering) (key : Bool)
+      (head : ℕ) (fs mid gs : List Frame) (begun now : ℕ) → now ≡ begun + weight a
       → now ≤ most_begun g x → IsWell g x a → F a (tail_of e) → IsWell g x (tail_of e) → AreWaiting key head a fs mid
-      → IsEntered marks e mid gs b → left g x (Ask b) gs now < left g x (Ask a) fs begun
-  less_pass_in marks a b e key head fs mid gs begun now is le w h well are i =
+      → IsEntered marks stored e mid gs t → left g x t gs now < left g x (Ask a) fs begun
+  less_pass_in marks stored a t e key head fs mid gs begun now is le w h well are i =
       let one = less_pass a (tail_of e) key head fs mid begun now is le w h are in
-      let two = entered_less marks e mid gs b now well i in
+      let two = entered_less marks stored e mid gs t now well i in
       omega (arith, one, two)
 
-  pub less_on_in : (marks : Marks) (a j b : Spot) (e : Entering) (given : Given) (key : Bool) (head : ℕ)
-      (fs mid gs : List Frame) (begun : ℕ) → K a (j ∷ (tail_of e ∷ [])) → IsWell g x (tail_of e)
-      → AreWaiting key head a fs mid → IsEntered marks e mid gs b → left g x (Ask b) gs begun
+  pub less_on_in : (marks : Marks) (stored : List Stored) (a j : Spot) (t : Turn) (e : Entering) (given : Given)
+      (key : Bool) (head : ℕ) (fs mid gs : List Frame) (begun : ℕ) → K a (j ∷ (tail_of e ∷ [])) → IsWell g x (tail_of e)
+      → AreWaiting key head a fs mid → IsEntered marks stored e mid gs t → left g x t gs begun
       < left g x (Answer given) (record { spot = a; key = key; wait = First } ∷ fs) begun
-  less_on_in marks a j b e given key head fs mid gs begun h well are i =
+  less_on_in marks stored a j t e given key head fs mid gs begun h well are i =
       let one = less_on a j (tail_of e) given key head fs mid begun h are in
-      let two = entered_less marks e mid gs b begun well i in
+      let two = entered_less marks stored e mid gs t begun well i in
       omega (arith, one, two)

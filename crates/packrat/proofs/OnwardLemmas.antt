@@ -31,7 +31,9 @@ use Rattle.packrat.specs.declared.onward.Onward.{Onward}
 use Rattle.packrat.specs.declared.onward.Onward.TheVariants.{Gives, Same, Passes, Enters}
 use Rattle.packrat.specs.declared.onward.Begun.{Begun}
 use Rattle.packrat.specs.declared.onward.Begun.TheVariants as begun
-use Rattle.packrat.specs.Onward.{IsWell, AfterOne, HasMember, AfterNone, IsLeaf, IsLed, led_to, entering_of}
+use Rattle.packrat.specs.declared.onward.Start.TheVariants as start
+use Rattle.packrat.specs.Begins.{AfterNone, IsLeaf}
+use Rattle.packrat.specs.Onward.{IsWell, AfterOne, GoesOn, HasMember, AfterStart, IsLed, entering_of}
 use Rattle.packrat.specs.SpotSteps.{FirstBy, TailFirstBy, IsFirst}
 
 module _ (g : Grammar) (x : List ℕ) (more : Bool) (some : WasEnough x more 0) (sound : IsSoundGrammar g) where
@@ -47,6 +49,9 @@ module _ (g : Grammar) (x : List ℕ) (more : Bool) (some : WasEnough x more 0) 
   abbrev pub After : Spot → Found → Onward → Type 0
   After a found o =
       (j : Spot) → F a j → (events : List Event) → SG j found events → AfterOne g x more a j found events o
+
+  abbrev pub Then : Spot → Found → Spot → Type 0
+  Then a found k = (j : Spot) → F a j → (events : List Event) → SG j found events → GoesOn g x more a j events k
 
   by_first : (n p : ℕ) (shape : Shape) → At n shape → (j : Spot) → F (Pair n p) j
       → FirstBy (rules_of g.rules) (shapes_of g.nodes) g.bodies x (way_of n shape) n p j
@@ -106,16 +111,18 @@ module _ (g : Grammar) (x : List ℕ) (more : Bool) (some : WasEnough x more 0) 
       → Spells (rules_of g.rules) (shapes_of g.nodes) n e
       → Outcomes.Gives (rules_of g.rules) x e p (quiet_outcome tried.found) tried.looked → tried.looked ≤ length x
       → IsLeaf tried (length x) more o → AfterNone g x more (Pair n p) o
-  leaf_after n p tried (begun.Gives f) e k s d le h = (
+  leaf_after n p tried (begun.Starts (start.Gives f)) e k s d le h = (
     k,
     subst (λ v. SG (Pair n p) v []) (sym h.0)
         (L.leaf_spot g x more some sound n p tried.found tried.looked e s d
         (λ is. let ne = h.1 is in omega (arith, ne, le))),
   )
-  leaf_after n p tried (begun.Marks b) e k s d le h = absurd h
-  leaf_after n p tried (begun.Leads b) e k s d le h = absurd h
-  leaf_after n p tried (begun.Passes b) e k s d le h = absurd h
-  leaf_after n p tried (begun.Enters b) e k s d le h = absurd h
+  leaf_after n p tried (begun.Starts (start.Marks b)) e k s d le h = absurd h
+  leaf_after n p tried (begun.Starts (start.Leads b c)) e k s d le h = absurd h
+  leaf_after n p tried (begun.Starts (start.Passes b c)) e k s d le h = absurd h
+  leaf_after n p tried (begun.Starts (start.Enters b)) e k s d le h = absurd h
+  leaf_after n p tried (begun.Skips b) e k s d le h = absurd h
+  leaf_after n p tried (begun.Repeats b) e k s d le h = absurd h
   leaf_after n p tried begun.Need e k s d le h = (
     h.0,
     (
@@ -137,7 +144,7 @@ module _ (g : Grammar) (x : List ℕ) (more : Bool) (some : WasEnough x more 0) 
           L.star_ends g x more some sound n k p w.0 at nf,
         )
 
-    pub star_more : (q : ℕ) → At n (node.Star k) → found ≡ Took q → After (Pair n p) found (Passes (Pair n q))
+    pub star_more : (q : ℕ) → At n (node.Star k) → found ≡ Took q → After (Pair n p) found (Passes n q)
     star_more q at is j h es d =
         let by : j ≡ Pair k p = by_first n p (node.Star k) at j h in
         let nt = kid_takes k p j found es by d q is in (
@@ -157,7 +164,7 @@ module _ (g : Grammar) (x : List ℕ) (more : Bool) (some : WasEnough x more 0) 
           L.plus_failed g x more some sound n k p w.0 s at nf,
         )
 
-    pub plus_more : (s q : ℕ) → At n (node.Plus k s) → found ≡ Took q → After (Pair n p) found (Passes (Pair s q))
+    pub plus_more : (s q : ℕ) → At n (node.Plus k s) → found ≡ Took q → After (Pair n p) found (Passes s q)
     plus_more s q at is j h es d =
         let by : j ≡ Pair k p = by_first n p (node.Plus k s) at j h in
         let nt = kid_takes k p j found es by d q is in (
@@ -260,7 +267,7 @@ module _ (g : Grammar) (x : List ℕ) (more : Bool) (some : WasEnough x more 0) 
         )
 
     pub member_more : (q e : ℕ) → suc i ≡ e → At n (node.Seq ms) → found ≡ Took q → suc i < length ms
-        → After (Tail n i p) found (Passes (Tail n e q))
+        → Then (Tail n i p) found (Tail n e q)
     member_more q e same at is lt j h es d =
         let by = by_rest n i p (node.Seq ms) at j h in
         let nt = kid_takes by.0 p j found es by.2 d q is in
@@ -271,7 +278,7 @@ module _ (g : Grammar) (x : List ℕ) (more : Bool) (some : WasEnough x more 0) 
           takes_there by.0 p q es nt,
           two_kids j (Pair by.0 p) (Tail n (suc i) q) by.2,
         ) in
-        subst (λ v. AfterOne g x more (Tail n i p) j found es (Passes (Tail n v q))) same (
+        subst (λ v. GoesOn g x more (Tail n i p) j es (Tail n v q)) same (
           (
             (node.Seq ms, at, (by.0, by.1, kids)),
             (λ f fs c. L.rest_goes g x more some sound n i p by.0 ms by.1 q f es fs at nt c),
@@ -297,7 +304,7 @@ module _ (g : Grammar) (x : List ℕ) (more : Bool) (some : WasEnough x more 0) 
         )
 
     pub other_more : (e : ℕ) → suc i ≡ e → At n (node.Choice ms) → found ≡ Failed → suc i < length ms
-        → After (Tail n i p) found (Passes (Tail n e p))
+        → Then (Tail n i p) found (Tail n e p)
     other_more e same at is lt j h es d =
         let by = by_rest n i p (node.Choice ms) at j h in
         let nf = kid_fails by.0 p j found es by.2 d is in
@@ -308,8 +315,8 @@ module _ (g : Grammar) (x : List ℕ) (more : Bool) (some : WasEnough x more 0) 
           fails_there by.0 p nf,
           two_kids j (Pair by.0 p) (Tail n (suc i) p) by.2,
         ) in
-        subst (λ v. AfterOne g x more (Tail n i p) j found v (Passes (Tail n e p))) (sym none)
-        (subst (λ v. AfterOne g x more (Tail n i p) j found [] (Passes (Tail n v p))) same (
+        subst (λ v. GoesOn g x more (Tail n i p) j v (Tail n e p)) (sym none)
+        (subst (λ v. GoesOn g x more (Tail n i p) j [] (Tail n v p)) same (
           (
             (node.Choice ms, at, (by.0, by.1, kids)),
             (λ f fs c. L.other_goes g x more some sound n i p by.0 ms by.1 f fs at nf c),
@@ -336,7 +343,7 @@ module _ (g : Grammar) (x : List ℕ) (more : Bool) (some : WasEnough x more 0) 
 
     -- how a tail begins: it leads to its member, and passes on what that gives if it is the last one
     pub seq_led : (only : Bool) → only ≡ (i + 1 == length ms) → At n (node.Seq ms)
-        → AfterNone g x more (Tail n i p) (led_to only (Pair m p))
+        → IsLed g x more only (Tail n i p) (Pair m p)
     seq_led true is at =
         let le : length ms ≤ suc i = let e = eqb-true (i + 1) (length ms) (sym is) in omega (arith, e) in (
           (node.Seq ms, at, (m, there, refl)),
@@ -352,7 +359,7 @@ module _ (g : Grammar) (x : List ℕ) (more : Bool) (some : WasEnough x more 0) 
     )
 
     pub choice_led : (only : Bool) → only ≡ (i + 1 == length ms) → At n (node.Choice ms)
-        → AfterNone g x more (Tail n i p) (led_to only (Pair m p))
+        → IsLed g x more only (Tail n i p) (Pair m p)
     choice_led true is at =
         let le : length ms ≤ suc i = let e = eqb-true (i + 1) (length ms) (sym is) in omega (arith, e) in (
           (node.Choice ms, at, (m, there, refl)),
@@ -369,7 +376,7 @@ module _ (g : Grammar) (x : List ℕ) (more : Bool) (some : WasEnough x more 0) 
 
   -- a name, and a sequence or a choice with members
   pub name_led : (n p k m : ℕ) → IsWell g x (Pair n p) → At n (node.Name k) → slice_get g.bodies k ≡ Some m
-      → IsWell g x (Pair m p) → AfterNone g x more (Pair n p) (begun.Passes (Pair m p))
+      → IsWell g x (Pair m p) → AfterStart g x more (Pair n p) (start.Passes m p)
   name_led n p k m w at body well = (
     (node.Name k, at, (m, body, refl)),
     well,
@@ -377,7 +384,7 @@ module _ (g : Grammar) (x : List ℕ) (more : Bool) (some : WasEnough x more 0) 
   )
 
   module _ (n p : ℕ) (ms : List ℕ) (w : IsWell g x (Pair n p)) (lt : 0 < length ms) where
-    pub members_led : At n (node.Seq ms) → AfterNone g x more (Pair n p) (begun.Passes (Tail n 0 p))
+    pub members_led : At n (node.Seq ms) → IsLed g x more true (Pair n p) (Tail n 0 p)
     members_led at =
         let there = slice_get-get_or ms 0 0 lt in (
           (node.Seq ms, at, (get_or ms 0 0, there, refl)),
@@ -389,7 +396,7 @@ module _ (g : Grammar) (x : List ℕ) (more : Bool) (some : WasEnough x more 0) 
           ),
         )
 
-    pub alternatives_led : At n (node.Choice ms) → AfterNone g x more (Pair n p) (begun.Passes (Tail n 0 p))
+    pub alternatives_led : At n (node.Choice ms) → IsLed g x more true (Pair n p) (Tail n 0 p)
     alternatives_led at =
         let there = slice_get-get_or ms 0 0 lt in (
           (node.Choice ms, at, (get_or ms 0 0, there, refl)),
@@ -412,7 +419,7 @@ module _ (g : Grammar) (x : List ℕ) (more : Bool) (some : WasEnough x more 0) 
 
   -- a sequence or a choice with members enters its first tail
   module _ (n p : ℕ) (ms : List ℕ) (w : IsWell g x (Pair n p)) (lt : 0 < length ms) where
-    pub members_enter : At n (node.Seq ms) → AfterNone g x more (Pair n p) (begun.Enters (entering_of n ms 0 p))
+    pub members_enter : At n (node.Seq ms) → AfterStart g x more (Pair n p) (start.Enters (entering_of n ms 0 p))
     members_enter at = (
       members_led n p ms w lt at,
       led (0 + 1 == length ms) refl,
@@ -423,11 +430,6 @@ module _ (g : Grammar) (x : List ℕ) (more : Bool) (some : WasEnough x more 0) 
             (w.0, w.1, (node.Seq ms, at, lt)) true is at
         led false is = seq_led n 0 p (get_or ms 0 0) ms (slice_get-get_or ms 0 0 lt)
             (w.0, w.1, (node.Seq ms, at, lt)) false is at
-
-    pub alternatives_enter : At n (node.Choice ms)
-        → AfterNone g x more (Pair n p) (begun.Enters (entering_of n ms 0 p))
-    alternatives_enter at =
-        (alternatives_led n p ms w lt at, choice_enters n 0 p ms at (w.0, w.1, (node.Choice ms, at, lt)) lt)
 
   -- a tail enters the next one
   module _ (n i p : ℕ) (ms : List ℕ) (found : Found) (w : IsWell g x (Tail n i p)) where

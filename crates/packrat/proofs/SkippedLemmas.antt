@@ -27,26 +27,27 @@ use Rattle.memo.specs.declared.spot.Spot.TheVariants.{Pair, Tail}
 use Rattle.memo.proofs.PartsLemmas.{in_either}
 use Rattle.packrat.specs.MachineSteps.{State, Works, start_at}
 use Rattle.packrat.specs.Onward.{IsWell, entering_of, tail_of}
-use Rattle.packrat.specs.Skipped.{AreSkipped, IsRest}
+use Rattle.packrat.specs.Skipped.{ArePassed, AreSkipped, IsRest}
 use Rattle.packrat.specs.SpotSteps.{SpotSteps}
 use Rattle.packrat.specs.TurnsLeft.{left, most_begun}
 use Rattle.packrat.specs.Stands.{Stands, IsClosed, key_of, AreWaiting, IsEntered}
 use Rattle.packrat.specs.declared.frames.Frame.{Frame}
 use Rattle.packrat.specs.declared.frames.Wait.TheVariants.{First}
-use Rattle.packrat.specs.declared.machine.Turn.{Turn}
-use Rattle.packrat.specs.declared.machine.Turn.TheVariants.{Ask, Answer}
+use Rattle.packrat.specs.Turns.{Turn, Ask, Answer}
 use Rattle.packrat.specs.declared.onward.Entering.{Entering}
 use Rattle.packrat.specs.declared.skips.Skips.{Skips}
 use Rattle.packrat.proofs.ByteGivesLemmas.{gives_by, choice_has}
 use Rattle.packrat.proofs.LeftLemmas as T
 use Rattle.packrat.proofs.OnwardLemmas as M
 use Rattle.packrat.proofs.RunTurnsLemmas.{decided_comes}
+use Rattle.packrat.proofs.KeptAtLemmas.{grown_same}
+use Rattle.packrat.proofs.SpotGivesLemmas.{choice_empty}
 use Rattle.packrat.proofs.StandsLemmas as L
 use Rattle.packrat.proofs.TurnedLemmas.{asks_here, fronts_add, then_steps}
 
 module _ {nodes : List Shape} {bodies : List ℕ} {marks : ℕ → Bool} {tails : ℕ → ℕ → Bool} {b n : ℕ} {ms : List ℕ} where
   -- each of them is an alternative
-  pub fail_within : {i c : ℕ} → FailFirst nodes bodies marks tails b n ms i c → i ≤ length ms
+  fail_within : {i c : ℕ} → FailFirst nodes bodies marks tails b n ms i c → i ≤ length ms
   fail_within fail_none = omega arith
   fail_within (fail_more {i = i} {m = m} f there plain h) =
       let lt = slice_get_within ms i m there in omega (arith, lt)
@@ -67,6 +68,12 @@ module _ {nodes : List Shape} {bodies : List ℕ} {marks : ℕ → Bool} {tails 
       let end = alternatives_end (slice_get_past ms (length ms) (omega arith)) in
       by_shape at (subst (λ v. ByShape nodes bodies marks tails b n (node.Choice ms) Fails (1 + v)) (omega arith)
       (by_alternatives (alternatives_from f end)))
+
+-- each of the alternatives that are passed is one
+pub passed_within : (g : Grammar) (x : List ℕ) (more : Bool) (marks : Marks) {n p i c : ℕ} {ms : List ℕ}
+    → ArePassed g x more marks n p ms i c → i ≤ length ms
+passed_within g x more marks (inl f) = fail_within f.fail
+passed_within g x more marks (inr z) = let none = z.0 in omega (arith, none)
 
 abbrev failure : Given
 failure = record { found = Failed; events = 0 }
@@ -172,52 +179,78 @@ module _ (g : Grammar) (x : List ℕ) (more : Bool) (marks : Marks) (some : WasE
     pair_well : IsWell g x (Pair h.node h.place)
     pair_well = L.asked_well g x more marks root (Pair h.node h.place) ls st links count asked_pair
 
+    -- the tail after the alternatives that fail, from the first one on
+    passed_to : (mid : List Frame) (n : ℕ) → S root (Ask (Tail h.node 0 h.place)) mid st links n
+        → h.index < length h.members → S root (Ask (Tail h.node h.index h.place)) mid st links (n + s.pairs)
+    passed_to mid n first lt = elim h.passed [
+      | inl f ↦ skip_all h.place f.byte f.here f.last h.node h.members h.at pair_well root mid st links n f.fail lt first
+      | inr z ↦
+          let none = z.1 in
+          subst (λ v. S root (Ask (Tail h.node v h.place)) mid st links (n + s.pairs)) (sym z.0)
+          (subst (S root (Ask (Tail h.node 0 h.place)) mid st links) (omega (arith, none)) first)
+    ]
+
     -- the loop goes to the next alternative
-    pub stands_skipped : (e : Entering) → s.rest ≡ Some e → (mid new : List Frame) (b : Spot)
-        → AreWaiting key 0 a ls mid → IsEntered marks e mid new b
-        → S root (Ask b) new st links (count + (1 + s.pairs))
-    stands_skipped e is mid new b w i =
-        let f = h.failed in
+    pub stands_skipped : (e : Entering) → s.rest ≡ Some e → (mid new : List Frame) (u : Turn)
+        → AreWaiting key 0 a ls mid → IsEntered marks st e mid new u → S root u new st links (count + (1 + s.pairs))
+    stands_skipped e is mid new u w i =
         let r = subst (IsRest h.node h.members h.index h.place) is h.rest in
         let same : e ≡ entering_of h.node h.members h.index h.place = r.1 in
         let wait = subst (λ v. AreWaiting key 0 v ls mid) h.spot w in
         let first = L.stands_pass g x more marks root (Pair h.node h.place) ls st links count asked_pair
         (λ marked. pair_fresh marked) (Tail h.node 0 h.place) key mid pair_key
         (M.alternatives_led g x more some sound h.node h.place h.members pair_well (let lt = r.0 in omega (arith, lt))
-        f.at) wait in
-        let then = skip_all h.place f.byte f.here f.last h.node h.members f.at pair_well root mid st links (count + 1)
-        f.fail r.0 first in
-        let led = M.choice_enters g x more some sound h.node h.index h.place h.members f.at
-        (pair_well.0, pair_well.1, (node.Choice h.members, f.at, r.0)) r.0 in
-        subst (S root (Ask b) new st links) (omega arith)
+        h.at) wait in
+        let then = passed_to mid (count + 1) first r.0 in
+        let led = M.choice_enters g x more some sound h.node h.index h.place h.members h.at
+        (pair_well.0, pair_well.1, (node.Choice h.members, h.at, r.0)) r.0 in
+        subst (S root u new st links) (omega arith)
         (L.stands_entered g x more marks root (entering_of h.node h.members h.index h.place) mid st links
-        ((count + 1) + s.pairs) then new b led (subst (λ v. IsEntered marks v mid new b) same i))
+        ((count + 1) + s.pairs) then new u led (subst (λ v. IsEntered marks st v mid new u) same i))
+
+    -- a choice without alternatives fails
+    stands_no_choice : length h.members ≡ 0 → (new : List Stored)
+        → IsClosed g x more marks links (Pair h.node h.place) failure st new
+        → S root (Answer failure) ls new links (count + 1)
+    stands_no_choice none new c =
+        L.stands_leaf g x more marks root (Pair h.node h.place) ls st links count asked_pair
+        (λ marked. pair_fresh marked) links failure new (grown_same links)
+        (node.Choice h.members, h.at, inl (slice_get_past h.members 0 (omega (arith, none)), refl))
+        (L.given_none g x more marks links (Pair h.node h.place) Failed
+        (choice_empty g x more some sound h.node h.place h.members pair_well.0 h.at none)) c
 
     -- the loop goes to the choice's end
     pub stands_none_left : s.rest ≡ None → (new : List Stored) → IsClosed g x more marks links a failure st new
         → S root (Answer failure) ls new links (count + (1 + s.pairs))
     stands_none_left is new c =
-        let f = h.failed in
         let all : length h.members ≡ h.index = subst (IsRest h.node h.members h.index h.place) is h.rest in
-        let fail = subst (λ v. FailFirst (shapes_of g.nodes) g.bodies (node_marks marks) (tail_marks marks) f.byte
-        h.node h.members v s.pairs) (sym all) f.fail in
-        stands_failed h.place f.byte f.here f.last root h.node (1 + s.pairs) ls st new links count asked_pair pair_fresh
-        (all_fail fail f.at) (subst (λ v. IsClosed g x more marks links v failure st new) h.spot c)
+        let closed = subst (λ v. IsClosed g x more marks links v failure st new) h.spot c in
+        elim h.passed [
+          | inl f ↦
+              let fail = subst (λ v. FailFirst (shapes_of g.nodes) g.bodies (node_marks marks) (tail_marks marks) f.byte
+              h.node h.members v s.pairs) (sym all) f.fail in
+              stands_failed h.place f.byte f.here f.last root h.node (1 + s.pairs) ls st new links count asked_pair
+              pair_fresh (all_fail fail h.at) closed
+          | inr z ↦
+              let none = z.0 in
+              let no = z.1 in
+              subst (S root (Answer failure) ls new links) (omega (arith, no))
+              (stands_no_choice (omega (arith, all, none)) new closed)
+        ]
 
 module _ (g : Grammar) (x : List ℕ) (more : Bool) (marks : Marks) where
   module _ (a : Spot) (s : Skips) (h : AreSkipped g x more marks a s) (well : IsWell g x a) (ls : List Frame)
       (begun now : ℕ) (is : now ≡ begun + (1 + s.pairs)) (le : now ≤ most_begun g x) where
-    pub less_skipped : (e : Entering) → s.rest ≡ Some e → (key : Bool) (mid new : List Frame) (b : Spot)
-        → AreWaiting key 0 a ls mid → IsEntered marks e mid new b
-        → left g x (Ask b) new now < left g x (Ask a) ls begun
-    less_skipped e rest key mid new b w i =
-        let f = h.failed in
+    pub less_skipped : (e : Entering) → s.rest ≡ Some e → (key : Bool) (st : List Stored) (mid new : List Frame)
+        (u : Turn) → AreWaiting key 0 a ls mid → IsEntered marks st e mid new u
+        → left g x u new now < left g x (Ask a) ls begun
+    less_skipped e rest key st mid new u w i =
         let r = subst (IsRest h.node h.members h.index h.place) rest h.rest in
         let there = subst (IsWell g x) h.spot well in
         let tail = subst (λ v. IsWell g x (tail_of v)) (sym r.1)
-        (there.0, there.1, (node.Choice h.members, f.at, r.0)) in
-        subst (λ v. left g x (Ask b) new now < left g x (Ask v) ls begun) (sym h.spot)
-        (T.less_skipped g x marks h.node h.place e b key ls mid new begun now (1 + s.pairs) is (omega arith) le tail
+        (there.0, there.1, (node.Choice h.members, h.at, r.0)) in
+        subst (λ v. left g x u new now < left g x (Ask v) ls begun) (sym h.spot)
+        (T.less_skipped g x marks st h.node h.place e u key ls mid new begun now (1 + s.pairs) is (omega arith) le tail
         (subst (λ v. AreWaiting key 0 v ls mid) h.spot w) i)
 
     pub less_failed : left g x (Answer failure) ls now < left g x (Ask a) ls begun

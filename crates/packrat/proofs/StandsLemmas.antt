@@ -36,14 +36,14 @@ use Rattle.packrat.specs.declared.frames.Frame.{Frame}
 use Rattle.packrat.specs.declared.frames.Wait.{Wait}
 use Rattle.packrat.specs.declared.frames.Wait.TheVariants.{First, Last, Turned}
 use Rattle.packrat.specs.declared.onward.Onward.{Onward}
-use Rattle.packrat.specs.declared.onward.Begun.TheVariants as start
+use Rattle.packrat.specs.declared.onward.Start.TheVariants as start
 use Rattle.packrat.specs.declared.onward.Onward.TheVariants as way
-use Rattle.packrat.specs.declared.machine.Turn.{Turn}
-use Rattle.packrat.specs.declared.machine.Turn.TheVariants.{Ask, Answer}
+use Rattle.packrat.specs.Turns.{Turn, Ask, Answer}
 use Rattle.packrat.specs.MachineSteps.{Level, State, Asks, Works, held, start_at, store, step_stored, step_begin}
 use Rattle.packrat.specs.MachineSteps.{step_next, step_last}
 use Rattle.packrat.specs.MachineSteps.{steps_none, steps_more}
-use Rattle.packrat.specs.Onward.{IsWell, IsNear, IsHere, ReachesEnd, AfterNone, AfterOne, PassesOn, IsLed, tail_of}
+use Rattle.packrat.specs.Onward.{IsWell, IsNear, IsHere, ReachesEnd, AfterStart, AfterOne, GoesOn, PassesOn, IsLed}
+use Rattle.packrat.specs.Onward.{tail_of}
 use Rattle.packrat.specs.Onward.{member_of}
 use Rattle.pegnodes.specs.NodeWays.{Way, Leaf, Body, Members, Alternatives, Turns, Operand, way_of}
 use Rattle.packrat.proofs.GoodLemmas.{in_front}
@@ -51,7 +51,7 @@ use Rattle.packrat.specs.SpotSteps.{FirstBy, TailFirstBy, IsFirst, NextOf, next_
 use Rattle.packrat.specs.Stands.{AreLevels, levels_none, levels_frame, levels_passed, levels_turned}
 use Rattle.packrat.specs.Stands.{Waiting, state_of, key_of}
 use Rattle.packrat.specs.Stands.{Stands, IsClosed, NeedsMore, HeadStands, kept_joined, IsJoined, IsWaitHead}
-use Rattle.packrat.specs.Stands.{AreWaiting, GivenBy, AreGiven, entered, IsEntered}
+use Rattle.packrat.specs.Stands.{AreWaiting, GivenBy, AreGiven, AreEntered, IsEntered}
 use Rattle.packrat.specs.declared.onward.Entering.{Entering}
 use Rattle.packrat.proofs.BegunLemmas.{begun_at_places}
 use Rattle.packrat.proofs.MachineLemmas.{run_of_steps}
@@ -160,7 +160,7 @@ module _ (g : Grammar) (x : List ℕ) (more : Bool) (marks : Marks) where
 
   -- what a task gives that takes nothing, and leaves an event
   pub given_marked : (links : List Link) (a : Spot) (p : ℕ) (kept : Kept) (head : ℕ) → p ≡ place_of a
-      → AfterNone g x more a (start.Marks kept) → IsHead links head → kept_at links head ≡ kept ∷ []
+      → AfterStart g x more a (start.Marks kept) → IsHead links head → kept_at links head ≡ kept ∷ []
       → G links a (record { found = Took p; events = head })
   given_marked links a p kept head place h is at =
       let e = h.1 in
@@ -438,7 +438,7 @@ module _ (g : Grammar) (x : List ℕ) (more : Bool) (marks : Marks) where
         near = begun_near;
       }
 
-      pub stands_down : (k : Spot) (key : Bool) → key ≡ Key a → AfterNone g x more a (start.Leads k)
+      pub stands_down : (k : Spot) (key : Bool) → key ≡ Key a → IsLed g x more false a k
           → S root (Ask k) (record { spot = a; key = key; wait = First } ∷ ls) st links (n + weight a)
       stands_down k key t h = record {
         levels = record { at = a; asked = k ∷ [] } ∷ s.levels;
@@ -455,7 +455,7 @@ module _ (g : Grammar) (x : List ℕ) (more : Bool) (marks : Marks) where
 
       -- a task that passes on what its only child gives
       pub stands_pass : (k : Spot) (key : Bool) (new : List Frame) → key ≡ Key a
-          → AfterNone g x more a (start.Passes k) → AreWaiting key 0 a ls new
+          → IsLed g x more true a k → AreWaiting key 0 a ls new
           → S root (Ask k) new st links (n + weight a)
       stands_pass k key new t h w = record {
         levels = record { at = a; asked = k ∷ [] } ∷ s.levels;
@@ -473,22 +473,22 @@ module _ (g : Grammar) (x : List ℕ) (more : Bool) (marks : Marks) where
   -- a tail that is entered
   module _ (root : Spot) (e : Entering) (ls : List Frame) (st : List Stored) (links : List Link) (n : ℕ)
       (s : S root (Ask (tail_of e)) ls st links n) where
-    member_asked : (only : Bool) → Key (tail_of e) ≡ false → IsLed g x more only (tail_of e) (member_of e)
-        → S root (Ask (member_of e)) (entered only (tail_of e) ls) st links (n + 0)
-    member_asked true plain h =
-        stands_pass root (tail_of e) ls st links n s (λ t. absurd (cc (t, plain))) (member_of e) false ls (sym plain) h
-        (inr (refl, refl, refl))
-    member_asked false plain h =
-        stands_down root (tail_of e) ls st links n s (λ t. absurd (cc (t, plain))) (member_of e) false (sym plain) h
+    member_asked : (only : Bool) (new : List Frame) → (Key (tail_of e) ≡ true → IsIn (tail_of e) (spots_of st) → ⊥)
+        → IsLed g x more only (tail_of e) (member_of e) → AreEntered only (Key (tail_of e)) (tail_of e) ls new
+        → S root (Ask (member_of e)) new st links (n + 0)
+    member_asked true new fresh h w =
+        stands_pass root (tail_of e) ls st links n s fresh (member_of e) (Key (tail_of e)) new refl h w
+    member_asked false new fresh h is =
+        subst (λ v. S root (Ask (member_of e)) v st links (n + 0)) (sym is)
+        (stands_down root (tail_of e) ls st links n s fresh (member_of e) (Key (tail_of e)) refl h)
 
-    pub stands_entered : (new : List Frame) (a : Spot) → IsLed g x more e.only (tail_of e) (member_of e)
-        → IsEntered marks e ls new a → S root (Ask a) new st links n
-    stands_entered new a h (inl is) = subst (λ v. S root (Ask a) v st links n) (sym is.1)
-        (subst (λ v. S root (Ask v) ls st links n) (sym is.0) s)
-    stands_entered new a h (inr is) = subst (λ v. S root (Ask a) v st links n) (sym is.2)
-        (subst (λ v. S root (Ask v) (entered e.only (tail_of e) ls) st links n) (sym is.1)
-        (subst (λ v. S root (Ask (member_of e)) (entered e.only (tail_of e) ls) st links v) (omega arith)
-        (member_asked e.only is.0 h)))
+    pub stands_entered : (new : List Frame) (t : Turn) → IsLed g x more e.only (tail_of e) (member_of e)
+        → IsEntered marks st e ls new t → S root t new st links n
+    stands_entered new t h (inl i) = subst (λ v. S root v new st links n) (sym i.3)
+        (subst (λ v. S root (Answer i.0) v st links n) (sym i.4)
+        (stands_stored root (tail_of e) ls st links n s i.0 i.1 i.2))
+    stands_entered new t h (inr i) = subst (λ v. S root v new st links n) (sym i.1)
+        (subst (S root (Ask (member_of e)) new st links) (omega arith) (member_asked e.only new i.0 h i.2))
 
   module _ (root a : Spot) (given : Given) (ls : List Frame) (st : List Stored) (links : List Link) (n : ℕ)
       (key : Bool) where
@@ -526,18 +526,25 @@ module _ (g : Grammar) (x : List ℕ) (more : Bool) (marks : Marks) where
       pub first_kid : Spot
       first_kid = is_ready.spot
 
-      pub second_kid : (k : Spot) → After (way.Passes k) → K a (first_kid ∷ (k ∷ []))
+      -- it asks for this one then
+      abbrev Then : Spot → Type 0
+      Then k = (j : Spot) → F a j → (es : List Event) → SY j given.found es → GoesOn g x more a j es k
+
+      then_here : (k : Spot) → Then k → GoesOn g x more a is_ready.spot is_ready.gives.events k
+      then_here k then = then is_ready.spot is_ready.are.5.0 is_ready.gives.events is_ready.gives.yields
+
+      pub second_kid : (k : Spot) → Then k → K a (first_kid ∷ (k ∷ []))
       unfolding first_kid
-      second_kid k after = (after_here (way.Passes k) after).0.0
+      second_kid k then = (then_here k then).0.0
 
       pub second_tail : (e : Entering) → After (way.Enters e) → K a (first_kid ∷ (tail_of e ∷ []))
       unfolding first_kid
       second_tail e after = (after_here (way.Enters e) after).0.0.0
 
-      pub stands_on : (k : Spot) (new : List Frame) → After (way.Passes k) → AreWaiting key given.events a ls new
+      pub stands_on : (k : Spot) (new : List Frame) → Then k → AreWaiting key given.events a ls new
           → S root (Ask k) new st links n
-      stands_on k new after w =
-          let h = after_here (way.Passes k) after in
+      stands_on k new then w =
+          let h = then_here k then in
           record {
             levels = record { at = a; asked = is_ready.spot ∷ (k ∷ []) } ∷ is_ready.are.1;
             begun = s.begun;
@@ -555,11 +562,11 @@ module _ (g : Grammar) (x : List ℕ) (more : Bool) (marks : Marks) where
       pub tail_well : (e : Entering) → After (way.Enters e) → IsWell g x (tail_of e)
       tail_well e after = (after_here (way.Enters e) after).0.1
 
-      pub stands_into : (e : Entering) (mid new : List Frame) (b : Spot) → After (way.Enters e)
-          → AreWaiting key given.events a ls mid → IsEntered marks e mid new b → S root (Ask b) new st links n
-      stands_into e mid new b after w i =
+      pub stands_into : (e : Entering) (mid new : List Frame) (t : Turn) → After (way.Enters e)
+          → AreWaiting key given.events a ls mid → IsEntered marks st e mid new t → S root t new st links n
+      stands_into e mid new t after w i =
           stands_entered root e mid st links n (stands_on (tail_of e) mid
-          (λ j f es y. (after j f es y).0) w) new b (after_here (way.Enters e) after).1 i
+          (λ j f es y. (after j f es y).0) w) new t (after_here (way.Enters e) after).1 i
 
       spot_ends : (own : Given) (new : List Stored) → K a (is_ready.spot ∷ []) → G links a own → C links a own st new
           → S root (Answer own) ls new links n

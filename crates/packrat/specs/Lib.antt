@@ -8,6 +8,8 @@ pub mod ByteGives
 pub mod Onward
 pub mod Turned
 pub mod Skipped
+pub mod Begins
+pub mod Turns
 pub mod TurnsLeft
 pub mod Stands
 pub mod Done

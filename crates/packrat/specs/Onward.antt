@@ -9,7 +9,6 @@ use Rattle.memo.specs.declared.found.Found.{Found}
 use Rattle.memo.specs.declared.found.Found.TheVariants.{Took}
 use Rattle.pegmatch.specs.Visits.{NodeGives}
 use Rattle.gramcheck.specs.Outcome.{Event, Outcome}
-use Rattle.pegmatch.specs.declared.leaves.Tried.{Tried}
 use Rattle.pegmatch.specs.KeptEvents.{SpellsSome, StandsFor}
 use Rattle.memo.specs.KeyLog.{place_of}
 use Rattle.memo.specs.declared.spot.Spot.{Spot}
@@ -18,9 +17,9 @@ use Rattle.packrat.specs.SpotGives.{SpotYields, joined}
 use Rattle.packrat.specs.Spots.{Kids}
 use Rattle.packrat.specs.declared.onward.Onward.{Onward}
 use Rattle.packrat.specs.declared.onward.Onward.TheVariants.{Gives, Same, Passes, Enters}
-use Rattle.packrat.specs.declared.onward.Begun.{Begun}
+use Rattle.packrat.specs.declared.onward.Start.{Start}
 use Rattle.packrat.specs.declared.onward.Entering.{Entering}
-use Rattle.packrat.specs.declared.onward.Begun.TheVariants as begun
+use Rattle.packrat.specs.declared.onward.Start.TheVariants as start
 use Rattle.packrat.specs.SpotSteps.{IsFirst}
 
 abbrev pub HasMember : Shape → ℕ → Type 0
@@ -84,16 +83,20 @@ module _ (g : Grammar) (x : List ℕ) where
     IsLed false a k = IsFirst (rules_of g.rules) (shapes_of g.nodes) g.bodies x a k × IsWell k
     IsLed true a k = IsFirst (rules_of g.rules) (shapes_of g.nodes) g.bodies x a k × IsWell k × PassesOn a (k ∷ []) k []
 
-    abbrev pub AfterNone : Spot → Begun → Type 0
-    AfterNone a (begun.Gives f) =
+    abbrev pub AfterStart : Spot → Start → Type 0
+    AfterStart a (start.Gives f) =
         Kids (rules_of g.rules) (shapes_of g.nodes) g.bodies x a [] × SpotYields g x more a f []
-    AfterNone a (begun.Marks kept) = Kids (rules_of g.rules) (shapes_of g.nodes) g.bodies x a []
+    AfterStart a (start.Marks kept) = Kids (rules_of g.rules) (shapes_of g.nodes) g.bodies x a []
         × ((event : Event) × StandsFor (shapes_of g.nodes) kept event
         × SpotYields g x more a (Took (place_of a)) (event ∷ []))
-    AfterNone a (begun.Leads k) = IsLed false a k
-    AfterNone a (begun.Passes k) = IsLed true a k
-    AfterNone a (begun.Enters e) = IsLed true a (tail_of e) × IsLed e.only (tail_of e) (member_of e)
-    AfterNone a begun.Need = ReachesEnd more a
+    AfterStart a (start.Leads n p) = IsLed false a (Pair n p)
+    AfterStart a (start.Passes n p) = IsLed true a (Pair n p)
+    AfterStart a (start.Enters e) = IsLed true a (tail_of e) × IsLed e.only (tail_of e) (member_of e)
+
+    -- after its first child j, a task asks for k, and gives what k gives, with these events before those of k
+    abbrev pub GoesOn : Spot → Spot → List Event → Spot → Type 0
+    GoesOn a j events k =
+        PassesOn a (j ∷ (k ∷ [])) k events × IsWell k × (IsNear x more a → IsNear x more k)
 
     -- after its first child j, which gave this with these events
     abbrev pub AfterOne : Spot → Spot → Found → List Event → Onward → Type 0
@@ -101,23 +104,5 @@ module _ (g : Grammar) (x : List ℕ) where
         Kids (rules_of g.rules) (shapes_of g.nodes) g.bodies x a (j ∷ []) × SpotYields g x more a f []
     AfterOne a j found events Same =
         Kids (rules_of g.rules) (shapes_of g.nodes) g.bodies x a (j ∷ []) × SpotYields g x more a found events
-    AfterOne a j found events (Passes k) =
-        PassesOn a (j ∷ (k ∷ [])) k events × IsWell k × (IsNear x more a → IsNear x more k)
-    AfterOne a j found events (Enters e) =
-        (PassesOn a (j ∷ (tail_of e ∷ [])) (tail_of e) events × IsWell (tail_of e)
-        × (IsNear x more a → IsNear x more (tail_of e)))
-        × IsLed e.only (tail_of e) (member_of e)
-
--- the result of a comparison: what was found, unless it reached the last byte of a window that more bytes follow
-abbrev pub IsLeaf : Tried → ℕ → Bool → Begun → Type 0
-IsLeaf tried n more (begun.Gives f) = (f ≡ tried.found) × (more ≡ true → tried.looked ≡ n → ⊥)
-IsLeaf tried n more (begun.Marks kept) = ⊥
-IsLeaf tried n more (begun.Leads k) = ⊥
-IsLeaf tried n more (begun.Passes k) = ⊥
-IsLeaf tried n more (begun.Enters e) = ⊥
-IsLeaf tried n more begun.Need = (more ≡ true) × (tried.looked ≡ n)
-
--- how a task begins that leads to k, if k is its only one or not
-abbrev pub led_to : Bool → Spot → Begun
-led_to true k = begun.Passes k
-led_to false k = begun.Leads k
+    AfterOne a j found events (Passes n p) = GoesOn a j events (Pair n p)
+    AfterOne a j found events (Enters e) = GoesOn a j events (tail_of e) × IsLed e.only (tail_of e) (member_of e)

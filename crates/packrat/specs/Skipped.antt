@@ -1,22 +1,14 @@
 -- A choice whose first alternatives the byte at its position decides to fail.
-use Rattle.std.specs.Prelude.{◌≡◌, ℕ, ◌+◌, ◌<◌, Bool, true, List, Option, length, slice_get, Some, None}
+use Rattle.std.specs.Prelude.{◌≡◌, ◌⊎◌, ℕ, ◌+◌, ◌<◌, Bool, true, List, Option, length, slice_get, Some, None}
 use Rattle.gramcheck.specs.Grammar.{Grammar}
 use Rattle.pegnodes.specs.ChoiceTables.{FailFirst}
 use Rattle.pegnodes.specs.KeyLists.{Marks, node_marks, tail_marks}
 use Rattle.pegnodes.specs.Nodes.{Choice, shapes_of}
-use Rattle.pegnodes.specs.declared.choice_table.Skip.{Skip}
 use Rattle.memo.specs.declared.spot.Spot.{Spot}
 use Rattle.memo.specs.declared.spot.Spot.TheVariants.{Pair}
 use Rattle.packrat.specs.Onward.{entering_of}
 use Rattle.packrat.specs.declared.onward.Entering.{Entering}
 use Rattle.packrat.specs.declared.skips.Skips.{Skips}
-
--- A byte stands there, before position `to`, and this is its entry.
-pub record IsSkipAt (entries : List Skip) (x : List ℕ) (at to : ℕ) (skip : Skip) : Type 0 where
-  pub before : at < to
-  pub byte : ℕ
-  pub here : slice_get x at ≡ Some byte
-  pub entry : slice_get entries byte ≡ Some skip
 
 -- the tail of choice n at position p from alternative i on, if there is one
 abbrev pub IsRest : ℕ → List ℕ → ℕ → ℕ → Option Entering → Type 0
@@ -27,11 +19,14 @@ module _ (g : Grammar) (x : List ℕ) (more : Bool) (marks : Marks) where
   -- The byte at position p decides that the first i alternatives of choice n fail there, which is so many pairs. If
   -- more bytes follow the window, the byte is not its last one.
   pub record AreFailed (n p : ℕ) (ms : List ℕ) (i pairs : ℕ) : Type 0 where
-    pub at : slice_get (shapes_of g.nodes) n ≡ Some (Choice ms)
     pub byte : ℕ
     pub here : slice_get x p ≡ Some byte
     pub last : more ≡ true → p + 1 < length x
     pub fail : FailFirst (shapes_of g.nodes) g.bodies (node_marks marks) (tail_marks marks) byte n ms i pairs
+
+  -- the byte decides so, or there are none of them
+  abbrev pub ArePassed : ℕ → ℕ → List ℕ → ℕ → ℕ → Type 0
+  ArePassed n p ms i pairs = AreFailed n p ms i pairs ⊎ ((i ≡ 0) × (pairs ≡ 0))
 
   -- the task is a choice, and these are the tail after the alternatives that fail, and their pairs
   pub record AreSkipped (a : Spot) (s : Skips) : Type 0 where
@@ -40,5 +35,6 @@ module _ (g : Grammar) (x : List ℕ) (more : Bool) (marks : Marks) where
     pub members : List ℕ
     pub index : ℕ
     pub spot : a ≡ Pair node place
-    pub failed : AreFailed node place members index s.pairs
+    pub at : slice_get (shapes_of g.nodes) node ≡ Some (Choice members)
+    pub passed : ArePassed node place members index s.pairs
     pub rest : IsRest node members index place s.rest

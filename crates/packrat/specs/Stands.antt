@@ -25,8 +25,8 @@ use Rattle.packrat.specs.View.{weight}
 use Rattle.packrat.specs.declared.frames.Frame.{Frame}
 use Rattle.packrat.specs.declared.frames.Wait.{Wait}
 use Rattle.packrat.specs.declared.frames.Wait.TheVariants.{First, Last, Turned}
-use Rattle.packrat.specs.declared.machine.Turn.{Turn}
-use Rattle.packrat.specs.declared.machine.Turn.TheVariants.{Ask, Answer}
+use Rattle.packrat.specs.Turns.{Turn, Ask, Answer, turn_of}
+use Rattle.packrat.specs.declared.machine.Next.{Next}
 use Rattle.packrat.specs.MachineSteps.{Level, State, Asks, Works, start_at, store}
 use Rattle.packrat.specs.Onward.{IsWell, IsNear, IsHere, ReachesEnd, PassesOn, tail_of, member_of}
 use Rattle.packrat.specs.declared.onward.Entering.{Entering}
@@ -70,15 +70,18 @@ abbrev pub AreWaiting : Bool → ℕ → Spot → List Frame → List Frame → 
 AreWaiting key head a old new = (new ≡ record { spot = a; key = key; wait = Last head } ∷ old)
     ⊎ ((key ≡ false) × (head ≡ 0) × (new ≡ old))
 
--- The frames of a tail that leads to its member: it has one, unless the member is its last one.
-abbrev pub entered : Bool → Spot → List Frame → List Frame
-entered true a ls = ls
-entered false a ls = record { spot = a; key = false; wait = First } ∷ ls
+-- The frames of a tail that leads to its member: it has one, unless the member is its last one, and it is no key.
+abbrev pub AreEntered : Bool → Bool → Spot → List Frame → List Frame → Type 0
+AreEntered true key a old new = AreWaiting key 0 a old new
+AreEntered false key a old new = new ≡ record { spot = a; key = key; wait = First } ∷ old
 
--- The tail is a key, and is asked for; or its member is, and then the tail has begun.
-abbrev pub IsEntered : Marks → Entering → List Frame → List Frame → Spot → Type 0
-IsEntered marks e old new a = ((a ≡ tail_of e) × (new ≡ old))
-    ⊎ ((key_of marks (tail_of e) ≡ false) × (a ≡ member_of e) × (new ≡ entered e.only (tail_of e) old))
+-- The tail is a key that is stored, and that is returned; or it begins, and its member is asked for.
+abbrev pub IsEntered : Marks → List Stored → Entering → List Frame → List Frame → Turn → Type 0
+IsEntered marks stored e old new t =
+    ((given : Given) × (key_of marks (tail_of e) ≡ true) × IsIn (record { spot = tail_of e; given = given }) stored
+    × (t ≡ Answer given) × (new ≡ old))
+    ⊎ ((key_of marks (tail_of e) ≡ true → IsIn (tail_of e) (spots_of stored) → ⊥) × (t ≡ Ask (member_of e))
+    × AreEntered e.only (key_of marks (tail_of e)) (tail_of e) old new)
 
 module _ (g : Grammar) (x : List ℕ) (more : Bool) where
   -- a task gives this, and its head keeps its events
@@ -159,8 +162,8 @@ module _ (g : Grammar) (x : List ℕ) (more : Bool) where
       pub right : AreRight g x more stored
 
     -- what a turn comes to; none where it needs more
-    abbrev pub AreOn : Spot → Option Turn → List Frame → List Stored → List Link → ℕ → Type 0
-    AreOn root (Some turn) frames stored links count = Stands root turn frames stored links count
+    abbrev pub AreOn : Spot → Option Next → List Frame → List Stored → List Link → ℕ → Type 0
+    AreOn root (Some next) frames stored links count = Stands root (turn_of next) frames stored links count
     AreOn root None frames stored links count = NeedsMore root stored count
 
     -- an evaluation that ended with this
@@ -178,6 +181,6 @@ module _ (g : Grammar) (x : List ℕ) (more : Bool) where
     IsEvaluated root None frames stored links count = NeedsMore root stored count × (frames ≡ [])
 
 -- a turn lowers what is left, unless it needs more
-abbrev pub LowersLeft : Grammar → List ℕ → Option Turn → List Frame → ℕ → ℕ → Type 0
-LowersLeft g x (Some turn) frames begun before = left g x turn frames begun < before
+abbrev pub LowersLeft : Grammar → List ℕ → Option Next → List Frame → ℕ → ℕ → Type 0
+LowersLeft g x (Some next) frames begun before = left g x (turn_of next) frames begun < before
 LowersLeft g x None frames begun before = Unit {0}

@@ -12,29 +12,30 @@ ghost use Rattle.pegnodes.specs.KeyLists.{Marks, node_marks};
 ghost use Rattle.packrat.specs.ByteGives.{operands_on, turns_closed};
 ghost use Rattle.packrat.specs.Skipped.{AreSkipped};
 ghost use Rattle.packrat.specs.Turned.{AreDecided, AreFree, AreTurnedFrames, IsKeyed};
+ghost use Rattle.packrat.specs.Turns.{Ask, Answer, turn_of};
 ghost use Rattle.packrat.specs.TurnsLeft.{left, most_begun};
-ghost use Rattle.packrat.specs.Onward.{IsWell};
+ghost use Rattle.packrat.specs.Begins.{IsRepeated, repeated_of};
+ghost use Rattle.packrat.specs.Onward.{AfterStart, IsWell};
 ghost use Rattle.packrat.specs.Stands.{Stands, IsClosed, AreOn, IsEvaluated, LowersLeft, key_of};
 ghost use Rattle.packrat.specs.Stands.{AreWaiting, IsWaitHead, IsEntered, IsJoined, GivenBy, AreGiven};
 ghost use Rattle.packrat.specs.View.{weight};
 ghost use Rattle.packrat.specs.declared.frames.Wait.{Wait};
-ghost use Rattle.packrat.specs.declared.machine.Turn.{Turn};
 
 use crate::events::EventLog;
 use crate::frames::{Frame, Frames, Wait};
 use crate::keys::is_key;
-use crate::onward::{Begun, Entering, Onward, begin, go_on};
-use crate::skips::{Skips, skips_at};
+use crate::onward::{Begun, Entering, Onward, Repeated, Start, begin_node, go_on};
+use crate::skips::Skips;
 use crate::turns::{Turns, find_turns, is_fresh};
 use gramcheck::SoundPeg;
 use memo::{Found, Given, KeyLog, Spot};
 use pegnodes::Node;
 use ruletable::Memory;
 
-/// The machine's next step: to evaluate a task, or to return a task's result to its frame.
+/// The machine's next step: to evaluate a node at a position, or to return a task's result to its frame.
 #[derive(Clone, Copy)]
-pub(crate) enum Turn {
-    Ask(Spot),
+pub(crate) enum Next {
+    Ask { node: usize, place: usize },
     Answer(Given),
 }
 
@@ -123,28 +124,38 @@ fn wait_last(frames: &mut Frames, spot: Spot, key: bool, events: usize) -> Resul
     })
 }
 
-// Enters a tail, and returns the task to evaluate. A tail that is no key goes to its member at once, and pushes a frame
-// only if it has another member.
+// Enters a tail, and goes to its member, or returns the tail's stored result. A tail that is no key pushes a frame only
+// if it has another member.
 #[inline(always)]
-fn enter(frames: &mut Frames, peg: &SoundPeg, entering: Entering) -> Result<Spot, Memory>
-    ensures { IfOk result (λ spot. IsEntered peg.now.keys entering frames.old frames.new spot) }
+fn enter(
+    log: &mut KeyLog,
+    frames: &mut Frames,
+    peg: &SoundPeg,
+    entering: Entering,
+) -> Result<Next, Memory>
+    ensures same { log.new ≡ log.old }
+    ensures entered { IfOk result (λ next. IsEntered peg.now.keys log.old.stored entering frames.old frames.new
+        (turn_of next)) }
 {
     let tail = Spot::Tail {
         node: entering.node,
         index: entering.index,
         place: entering.place,
     };
-    if is_key(peg, tail) {
-        return Ok(tail);
+    let key = is_key(peg, tail);
+    if let Some(given) = stored(log, tail, key)? {
+        return Ok(Next::Answer(given));
     }
-    if !entering.only {
+    if entering.only {
+        wait_last(frames, tail, key, 0)?;
+    } else {
         frames.push(Frame {
             spot: tail,
-            key: false,
+            key,
             wait: Wait::First,
         })?;
     }
-    Ok(Spot::Pair {
+    Ok(Next::Ask {
         node: entering.member,
         place: entering.place,
     })
@@ -238,97 +249,99 @@ fn wait_turned(frames: &mut Frames, peg: &SoundPeg, turns: Turns) -> Result<(), 
 }
 
 impl Machine {
-    // Begins a task that is not stored, and goes to a child or returns a result. None if the window is too short.
+    // Begins a task that is neither a choice nor a repetition, and goes to a child or returns a result.
     #[inline(always)]
     fn start_spot(
         &mut self,
         peg: &SoundPeg,
         window: &[u8],
-        more: bool,
         spot: Spot,
         key: bool,
-    ) -> Result<Option<Turn>, Memory>
-        requires some { WasEnough window.now more 0 }
-        requires sound { IsSoundGrammar peg.now }
+        start: Start,
+    ) -> Result<Next, Memory>
         requires well { IsWell peg.now window.now spot }
         requires rows { self.old.log.rows ≡ length peg.now.nodes }
         requires few { self.old.begun ≤ most_begun peg.now window.now }
         ensures rows { OnOk result (self.new.log.rows ≡ length peg.now.nodes) }
-        ensures stands { (root : Spot) → key ≡ key_of peg.now.keys spot →
-            (key ≡ true → IsIn spot (spots_of self.old.log.stored) → ⊥) →
-            Stands peg.now window.now more peg.now.keys root (Turn.Ask spot) self.old.frames
+        ensures stands { (more : Bool) → AfterStart peg.now window.now more spot start → (root : Spot) →
+            key ≡ key_of peg.now.keys spot → (key ≡ true → IsIn spot (spots_of self.old.log.stored) → ⊥) →
+            Stands peg.now window.now more peg.now.keys root (Ask spot) self.old.frames
             self.old.log.stored self.old.events self.old.begun →
-            IfOk result (λ turn. AreOn peg.now window.now more peg.now.keys root turn
+            IfOk result (λ turn. Stands peg.now window.now more peg.now.keys root (turn_of turn)
             self.new.frames self.new.log.stored self.new.events self.new.begun) }
-        ensures less { self.new.begun ≤ most_begun peg.now window.now → IfOk result (λ turn.
-            LowersLeft peg.now window.now turn self.new.frames self.new.begun
-            (left peg.now window.now (Turn.Ask spot) self.old.frames self.old.begun)) }
+        ensures less { (more : Bool) → AfterStart peg.now window.now more spot start →
+            self.new.begun ≤ most_begun peg.now window.now → IfOk result (λ turn.
+            left peg.now window.now (turn_of turn) self.new.frames self.new.begun
+            < left peg.now window.now (Ask spot) self.old.frames self.old.begun) }
     {
         self.begun = counted(peg.nodes(), window.len(), self.begun, spot);
-        match begin(peg, window, more, spot) {
-            Begun::Gives(found) => {
+        match start {
+            Start::Gives(found) => {
                 let given = Given { found, events: 0 };
                 close(&mut self.log, peg, window, spot, key, given)?;
-                Ok(Some(Turn::Answer(given)))
+                Ok(Next::Answer(given))
             }
-            Begun::Marks(event) => {
+            Start::Marks(event) => {
                 let given = Given {
                     found: Found::Took(spot.place()),
                     events: self.events.mark(event)?,
                 };
                 close(&mut self.log, peg, window, spot, key, given)?;
-                Ok(Some(Turn::Answer(given)))
+                Ok(Next::Answer(given))
             }
-            Begun::Leads(kid) => {
+            Start::Leads { node, place } => {
                 self.frames.push(Frame {
                     spot,
                     key,
                     wait: Wait::First,
                 })?;
-                Ok(Some(Turn::Ask(kid)))
+                Ok(Next::Ask { node, place })
             }
-            Begun::Passes(kid) => {
+            Start::Passes { node, place } => {
                 wait_last(&mut self.frames, spot, key, 0)?;
-                Ok(Some(Turn::Ask(kid)))
+                Ok(Next::Ask { node, place })
             }
-            Begun::Enters(entering) => {
+            Start::Enters(entering) => {
                 wait_last(&mut self.frames, spot, key, 0)?;
-                let next = enter(&mut self.frames, peg, entering)?;
-                Ok(Some(Turn::Ask(next)))
+                Ok(enter(&mut self.log, &mut self.frames, peg, entering)?)
             }
-            Begun::Need => Ok(None),
         }
     }
 
-    // Returns the iterations from a task on that bytes decide, if it is a pair of a repetition and no key among their
-    // pairs is stored.
+    // Returns the iterations of a repetition that bytes decide, if no key among their pairs is stored.
     #[inline(always)]
-    fn turns_at(&self, peg: &SoundPeg, window: &[u8], more: bool, spot: Spot) -> Option<Turns>
+    fn turns_at(
+        &self,
+        peg: &SoundPeg,
+        window: &[u8],
+        more: bool,
+        repeated: Repeated,
+    ) -> Option<Turns>
         requires some { WasEnough window.now more 0 }
-        requires well { IsWell peg.now window.now spot }
+        requires well { IsWell peg.now window.now (repeated_of repeated) }
+        requires is { IsRepeated peg.now window.now more repeated }
         ensures free { IfSome result (λ t. AreFree peg.now window.now more peg.now.keys (spots_of self.now.log.stored)
-            spot t) }
+            (repeated_of repeated) t) }
         ensures fits { IfSome result (λ t. self.now.begun + t.pairs < 2 ^ 128) }
     {
-        match spot {
-            Spot::Tail { .. } => None,
-            Spot::Pair { node, place } => match peg.node(node) {
-                Node::Star(operand) => {
-                    if !is_fresh(&self.log, peg, node, place) {
-                        return None;
-                    }
-                    if !is_fresh(&self.log, peg, *operand, place) {
-                        return None;
-                    }
-                    let turns = find_turns(peg, window, more, node, *operand, place)?;
-                    if u128::MAX - self.begun < turns.pairs {
-                        return None;
-                    }
-                    Some(turns)
-                }
-                _ => None,
-            },
+        if !is_fresh(&self.log, peg, repeated.star, repeated.place) {
+            return None;
         }
+        if !is_fresh(&self.log, peg, repeated.operand, repeated.place) {
+            return None;
+        }
+        let turns = find_turns(
+            peg,
+            window,
+            more,
+            repeated.star,
+            repeated.operand,
+            repeated.place,
+        )?;
+        if u128::MAX - self.begun < turns.pairs {
+            return None;
+        }
+        Some(turns)
     }
 
     // Goes over iterations that bytes decide, to the repetition's end or to its pair after them.
@@ -338,7 +351,7 @@ impl Machine {
         window: &[u8],
         more: bool,
         turns: Turns,
-    ) -> Result<Turn, Memory>
+    ) -> Result<Next, Memory>
         requires sound { IsSoundGrammar peg.now }
         requires keyed { IsKeyed peg.now }
         requires rows { self.old.log.rows ≡ length peg.now.nodes }
@@ -347,13 +360,13 @@ impl Machine {
         requires fits { self.old.begun + turns.pairs < 2 ^ 128 }
         ensures rows { OnOk result (self.new.log.rows ≡ length peg.now.nodes) }
         ensures stands { (root : Spot) → Stands peg.now window.now more peg.now.keys root
-            (Turn.Ask (Spot.Pair turns.star turns.from)) self.old.frames
+            (Ask (Spot.Pair turns.star turns.from)) self.old.frames
             self.old.log.stored self.old.events self.old.begun →
-            IfOk result (λ turn. Stands peg.now window.now more peg.now.keys root turn
+            IfOk result (λ turn. Stands peg.now window.now more peg.now.keys root (turn_of turn)
             self.new.frames self.new.log.stored self.new.events self.new.begun) }
         ensures less { self.new.begun ≤ most_begun peg.now window.now → IfOk result (λ turn.
-            left peg.now window.now turn self.new.frames self.new.begun
-            < left peg.now window.now (Turn.Ask (Spot.Pair turns.star turns.from)) self.old.frames self.old.begun) }
+            left peg.now window.now (turn_of turn) self.new.frames self.new.begun
+            < left peg.now window.now (Ask (Spot.Pair turns.star turns.from)) self.old.frames self.old.begun) }
     {
         self.begun += turns.pairs;
         put_operands(&mut self.log, peg, window, turns)?;
@@ -372,13 +385,13 @@ impl Machine {
                 events: 0,
             };
             put_turns(&mut self.log, peg, window, turns, given)?;
-            Ok(Turn::Answer(given))
+            Ok(Next::Answer(given))
         } else {
             wait_turned(&mut self.frames, peg, turns)?;
-            Ok(Turn::Ask(Spot::Pair {
+            Ok(Next::Ask {
                 node: turns.star,
                 place: turns.end,
-            }))
+            })
         }
     }
 
@@ -391,7 +404,7 @@ impl Machine {
         spot: Spot,
         key: bool,
         skips: Skips,
-    ) -> Result<Turn, Memory>
+    ) -> Result<Next, Memory>
         requires sound { IsSoundGrammar peg.now }
         requires keyed { IsKeyed peg.now }
         requires well { IsWell peg.now window.now spot }
@@ -401,21 +414,20 @@ impl Machine {
         ensures stands { (more : Bool) → WasEnough window.now more 0 →
             AreSkipped peg.now window.now more peg.now.keys spot skips → (root : Spot) →
             key ≡ key_of peg.now.keys spot → (key ≡ true → IsIn spot (spots_of self.old.log.stored) → ⊥) →
-            Stands peg.now window.now more peg.now.keys root (Turn.Ask spot) self.old.frames
+            Stands peg.now window.now more peg.now.keys root (Ask spot) self.old.frames
             self.old.log.stored self.old.events self.old.begun →
-            IfOk result (λ turn. Stands peg.now window.now more peg.now.keys root turn
+            IfOk result (λ turn. Stands peg.now window.now more peg.now.keys root (turn_of turn)
             self.new.frames self.new.log.stored self.new.events self.new.begun) }
         ensures less { (more : Bool) → AreSkipped peg.now window.now more peg.now.keys spot skips →
             self.new.begun ≤ most_begun peg.now window.now → IfOk result (λ turn.
-            left peg.now window.now turn self.new.frames self.new.begun
-            < left peg.now window.now (Turn.Ask spot) self.old.frames self.old.begun) }
+            left peg.now window.now (turn_of turn) self.new.frames self.new.begun
+            < left peg.now window.now (Ask spot) self.old.frames self.old.begun) }
     {
         self.begun = counted_skips(peg.nodes(), window.len(), self.begun, skips.pairs);
         match skips.rest {
             Some(entering) => {
                 wait_last(&mut self.frames, spot, key, 0)?;
-                let next = enter(&mut self.frames, peg, entering)?;
-                Ok(Turn::Ask(next))
+                Ok(enter(&mut self.log, &mut self.frames, peg, entering)?)
             }
             None => {
                 let given = Given {
@@ -423,45 +435,100 @@ impl Machine {
                     events: 0,
                 };
                 close(&mut self.log, peg, window, spot, key, given)?;
-                Ok(Turn::Answer(given))
+                Ok(Next::Answer(given))
             }
         }
     }
 
-    // Evaluates a task, or begins it and goes to a child. None if the window is too short.
+    // Begins a repetition: goes over iterations that bytes decide, or to its operand.
+    #[inline(always)]
+    fn repeat(
+        &mut self,
+        peg: &SoundPeg,
+        window: &[u8],
+        more: bool,
+        key: bool,
+        repeated: Repeated,
+    ) -> Result<Next, Memory>
+        requires some { WasEnough window.now more 0 }
+        requires sound { IsSoundGrammar peg.now }
+        requires keyed { IsKeyed peg.now }
+        requires well { IsWell peg.now window.now (repeated_of repeated) }
+        requires is { IsRepeated peg.now window.now more repeated }
+        requires rows { self.old.log.rows ≡ length peg.now.nodes }
+        requires few { self.old.begun ≤ most_begun peg.now window.now }
+        ensures rows { OnOk result (self.new.log.rows ≡ length peg.now.nodes) }
+        ensures stands { (root : Spot) → key ≡ key_of peg.now.keys (repeated_of repeated) →
+            (key ≡ true → IsIn (repeated_of repeated) (spots_of self.old.log.stored) → ⊥) →
+            Stands peg.now window.now more peg.now.keys root (Ask (repeated_of repeated)) self.old.frames
+            self.old.log.stored self.old.events self.old.begun →
+            IfOk result (λ turn. Stands peg.now window.now more peg.now.keys root (turn_of turn)
+            self.new.frames self.new.log.stored self.new.events self.new.begun) }
+        ensures less { self.new.begun ≤ most_begun peg.now window.now → IfOk result (λ turn.
+            left peg.now window.now (turn_of turn) self.new.frames self.new.begun
+            < left peg.now window.now (Ask (repeated_of repeated)) self.old.frames self.old.begun) }
+    {
+        match self.turns_at(peg, window, more, repeated) {
+            Some(turns) => self.run_turns(peg, window, more, turns),
+            None => {
+                let spot = Spot::Pair {
+                    node: repeated.star,
+                    place: repeated.place,
+                };
+                let begun = counted(peg.nodes(), window.len(), self.begun, spot);
+                self.begun = begun;
+                self.frames.push(Frame {
+                    spot,
+                    key,
+                    wait: Wait::First,
+                })?;
+                Ok(Next::Ask {
+                    node: repeated.operand,
+                    place: repeated.place,
+                })
+            }
+        }
+    }
+
+    // Evaluates a node at a position, or begins it and goes to a child. None if the window is too short.
     #[inline(always)]
     fn ask(
         &mut self,
         peg: &SoundPeg,
         window: &[u8],
         more: bool,
-        spot: Spot,
-    ) -> Result<Option<Turn>, Memory>
+        node: usize,
+        place: usize,
+    ) -> Result<Option<Next>, Memory>
         requires some { WasEnough window.now more 0 }
         requires sound { IsSoundGrammar peg.now }
         requires keyed { IsKeyed peg.now }
-        requires well { IsWell peg.now window.now spot }
+        requires well { IsWell peg.now window.now (Spot.Pair node place) }
         requires rows { self.old.log.rows ≡ length peg.now.nodes }
         requires few { self.old.begun ≤ most_begun peg.now window.now }
         ensures rows { OnOk result (self.new.log.rows ≡ length peg.now.nodes) }
         ensures stands { (root : Spot) →
-            Stands peg.now window.now more peg.now.keys root (Turn.Ask spot) self.old.frames
+            Stands peg.now window.now more peg.now.keys root (Ask (Spot.Pair node place)) self.old.frames
             self.old.log.stored self.old.events self.old.begun →
             IfOk result (λ turn. AreOn peg.now window.now more peg.now.keys root turn
             self.new.frames self.new.log.stored self.new.events self.new.begun) }
         ensures less { self.new.begun ≤ most_begun peg.now window.now → IfOk result (λ turn.
             LowersLeft peg.now window.now turn self.new.frames self.new.begun
-            (left peg.now window.now (Turn.Ask spot) self.old.frames self.old.begun)) }
+            (left peg.now window.now (Ask (Spot.Pair node place)) self.old.frames self.old.begun)) }
     {
-        let key = is_key(peg, spot);
+        let spot = Spot::Pair { node, place };
+        let key = peg.is_key_node(node);
         match stored(&mut self.log, spot, key)? {
-            Some(given) => Ok(Some(Turn::Answer(given))),
-            None => match self.turns_at(peg, window, more, spot) {
-                Some(turns) => Ok(Some(self.run_turns(peg, window, more, turns)?)),
-                None => match skips_at(peg, window, more, spot) {
-                    Some(skips) => Ok(Some(self.run_skips(peg, window, spot, key, skips)?)),
-                    None => self.start_spot(peg, window, more, spot, key),
-                },
+            Some(given) => Ok(Some(Next::Answer(given))),
+            None => match begin_node(peg, window, more, node, place) {
+                Begun::Starts(start) => Ok(Some(self.start_spot(peg, window, spot, key, start)?)),
+                Begun::Skips(skips) => Ok(Some(self.run_skips(peg, window, spot, key, skips)?)),
+                Begun::Repeats(it) => Ok(Some(self.repeat(peg, window, more, key, it)?)),
+                Begun::Need => {
+                    let begun = counted(peg.nodes(), window.len(), self.begun, spot);
+                    self.begun = begun;
+                    Ok(None)
+                }
             },
         }
     }
@@ -475,43 +542,42 @@ impl Machine {
         spot: Spot,
         key: bool,
         given: Given,
-    ) -> Result<Turn, Memory>
+    ) -> Result<Next, Memory>
         requires sound { IsSoundGrammar peg.now }
         requires well { IsWell peg.now window.now spot }
         requires rows { self.old.log.rows ≡ length peg.now.nodes }
         ensures rows { OnOk result (self.new.log.rows ≡ length peg.now.nodes) }
         ensures stands { (more : Bool) → WasEnough window.now more 0 → (root : Spot) →
-            Stands peg.now window.now more peg.now.keys root (Turn.Answer given)
+            Stands peg.now window.now more peg.now.keys root (Answer given)
             (record { spot = spot; key = key; wait = Wait.First } ∷ self.old.frames)
             self.old.log.stored self.old.events self.old.begun →
-            IfOk result (λ turn. Stands peg.now window.now more peg.now.keys root turn
+            IfOk result (λ turn. Stands peg.now window.now more peg.now.keys root (turn_of turn)
             self.new.frames self.new.log.stored self.new.events self.new.begun) }
         ensures less { (more : Bool) → WasEnough window.now more 0 → (root : Spot) →
-            Stands peg.now window.now more peg.now.keys root (Turn.Answer given)
+            Stands peg.now window.now more peg.now.keys root (Answer given)
             (record { spot = spot; key = key; wait = Wait.First } ∷ self.old.frames)
             self.old.log.stored self.old.events self.old.begun → IfOk result (λ turn.
-            left peg.now window.now turn self.new.frames self.new.begun
-            < left peg.now window.now (Turn.Answer given)
+            left peg.now window.now (turn_of turn) self.new.frames self.new.begun
+            < left peg.now window.now (Answer given)
             (record { spot = spot; key = key; wait = Wait.First } ∷ self.old.frames) self.old.begun) }
     {
         match go_on(peg, window, spot, given.found) {
             Onward::Gives(found) => {
                 let own = Given { found, events: 0 };
                 close(&mut self.log, peg, window, spot, key, own)?;
-                Ok(Turn::Answer(own))
+                Ok(Next::Answer(own))
             }
             Onward::Same => {
                 close(&mut self.log, peg, window, spot, key, given)?;
-                Ok(Turn::Answer(given))
+                Ok(Next::Answer(given))
             }
-            Onward::Passes(kid) => {
+            Onward::Passes { node, place } => {
                 wait_last(&mut self.frames, spot, key, given.events)?;
-                Ok(Turn::Ask(kid))
+                Ok(Next::Ask { node, place })
             }
             Onward::Enters(entering) => {
                 wait_last(&mut self.frames, spot, key, given.events)?;
-                let next = enter(&mut self.frames, peg, entering)?;
-                Ok(Turn::Ask(next))
+                Ok(enter(&mut self.log, &mut self.frames, peg, entering)?)
             }
         }
     }
@@ -524,7 +590,7 @@ impl Machine {
         window: &[u8],
         frame: Frame,
         given: Given,
-    ) -> Result<Turn, Memory>
+    ) -> Result<Next, Memory>
         requires sound { IsSoundGrammar peg.now }
         requires keyed { IsKeyed peg.now }
         requires well { IsWell peg.now window.now frame.spot }
@@ -533,27 +599,27 @@ impl Machine {
         requires second { IsHead self.old.events given.events }
         ensures rows { OnOk result (self.new.log.rows ≡ length peg.now.nodes) }
         ensures stands { (more : Bool) → WasEnough window.now more 0 → (root : Spot) →
-            Stands peg.now window.now more peg.now.keys root (Turn.Answer given) (frame ∷ self.old.frames)
+            Stands peg.now window.now more peg.now.keys root (Answer given) (frame ∷ self.old.frames)
             self.old.log.stored self.old.events self.old.begun →
-            IfOk result (λ turn. Stands peg.now window.now more peg.now.keys root turn
+            IfOk result (λ turn. Stands peg.now window.now more peg.now.keys root (turn_of turn)
             self.new.frames self.new.log.stored self.new.events self.new.begun) }
         ensures less { (more : Bool) → WasEnough window.now more 0 → (root : Spot) →
-            Stands peg.now window.now more peg.now.keys root (Turn.Answer given)
+            Stands peg.now window.now more peg.now.keys root (Answer given)
             (frame ∷ self.old.frames) self.old.log.stored self.old.events self.old.begun → IfOk result (λ turn.
-            left peg.now window.now turn self.new.frames self.new.begun
-            < left peg.now window.now (Turn.Answer given) (frame ∷ self.old.frames) self.old.begun) }
+            left peg.now window.now (turn_of turn) self.new.frames self.new.begun
+            < left peg.now window.now (Answer given) (frame ∷ self.old.frames) self.old.begun) }
     {
         match frame.wait {
             Wait::First => self.after_first(peg, window, frame.spot, frame.key, given),
             Wait::Turned(last) => {
                 let spot = frame.spot;
                 self.log.put_run(spot.row(), spot.place(), last, given)?;
-                Ok(Turn::Answer(given))
+                Ok(Next::Answer(given))
             }
             Wait::Last(first) => {
                 let all = joined(&mut self.events, first, given)?;
                 close(&mut self.log, peg, window, frame.spot, frame.key, all)?;
-                Ok(Turn::Answer(all))
+                Ok(Next::Answer(all))
             }
         }
     }
@@ -582,20 +648,20 @@ impl Machine {
         self.begun = 0;
         self.frames.clear();
         self.events.clear();
-        let mut turn = Turn::Ask(Spot::Pair {
+        let mut turn = Next::Ask {
             node: root,
             place: 0,
-        });
+        };
         'turns: loop {
             match turn {
-                Turn::Ask(spot) => match self.ask(peg, window, more, spot)? {
+                Next::Ask { node, place } => match self.ask(peg, window, more, node, place)? {
                     Some(next) => turn = next,
                     None => {
                         self.frames.clear();
                         return Ok(None);
                     }
                 },
-                Turn::Answer(given) => match self.frames.pop() {
+                Next::Answer(given) => match self.frames.pop() {
                     None => return Ok(Some(given)),
                     Some(frame) => turn = self.resume(peg, window, frame, given)?,
                 },

@@ -6,10 +6,12 @@ ghost use Rattle.pegnodes.specs.Nodes.{shapes_of};
 ghost use Rattle.gramcheck.specs.Outcome.{Event};
 ghost use Rattle.pegmatch.specs.Answers.{WasEnough};
 ghost use Rattle.memo.specs.declared.spot.Spot.{Spot};
-ghost use Rattle.packrat.specs.Onward.{IsWell, AfterNone, AfterOne, IsLeaf, led_to, entering_of};
+ghost use Rattle.packrat.specs.Begins.{AfterNone, IsLeaf};
+ghost use Rattle.packrat.specs.Onward.{IsWell, AfterOne, entering_of};
 ghost use Rattle.packrat.specs.SpotGives.{SpotYields};
 ghost use Rattle.packrat.specs.SpotSteps.{IsFirst};
 
+use crate::skips::{Skips, skips_at};
 use gramcheck::SoundPeg;
 use memo::{Found, Spot};
 use pegmatch::{Kept, Tried, match_any, match_bytes, match_set};
@@ -30,20 +32,43 @@ pub(crate) struct Entering {
     pub(crate) only: bool,
 }
 
-/// The first step of a task.
+/// A repetition of an operand, at a position.
+#[derive(Clone, Copy)]
+pub(crate) struct Repeated {
+    /// The node of the repetition.
+    pub(crate) star: usize,
+    /// The node of its operand.
+    pub(crate) operand: usize,
+    /// The position, in bytes from the front of the window.
+    pub(crate) place: usize,
+}
+
+/// The first step of a node that is neither a choice nor a repetition.
 ///
 /// - It has a result without events.
 /// - It takes nothing, and leaves an event.
 /// - It asks for a child.
 /// - It asks for its only child, which may be a tail, and passes on its result.
+#[derive(Clone, Copy)]
+pub(crate) enum Start {
+    Gives(Found),
+    Marks(Kept),
+    Leads { node: usize, place: usize },
+    Passes { node: usize, place: usize },
+    Enters(Entering),
+}
+
+/// The first step of a node at a position.
+///
+/// - It is neither a choice nor a repetition, and has this step.
+/// - It is a choice. Some of its first alternatives fail.
+/// - It is a repetition.
 /// - Its comparison reaches the last byte of a window that more bytes follow.
 #[derive(Clone, Copy)]
 pub(crate) enum Begun {
-    Gives(Found),
-    Marks(Kept),
-    Leads(Spot),
-    Passes(Spot),
-    Enters(Entering),
+    Starts(Start),
+    Skips(Skips),
+    Repeats(Repeated),
     Need,
 }
 
@@ -57,7 +82,7 @@ pub(crate) enum Begun {
 pub(crate) enum Onward {
     Gives(Found),
     Same,
-    Passes(Spot),
+    Passes { node: usize, place: usize },
     Enters(Entering),
 }
 
@@ -86,12 +111,18 @@ fn leaf(tried: Tried, length: usize, more: bool) -> Begun
             return Begun::Need;
         }
     }
-    Begun::Gives(tried.found)
+    Begun::Starts(Start::Gives(tried.found))
 }
 
-// Returns how a node begins at a position.
+/// Returns how a node begins at a position: its result, or the child that it asks for first.
 #[inline(always)]
-fn begin_node(peg: &SoundPeg, window: &[u8], more: bool, node: usize, place: usize) -> Begun
+pub(crate) fn begin_node(
+    peg: &SoundPeg,
+    window: &[u8],
+    more: bool,
+    node: usize,
+    place: usize,
+) -> Begun
     requires some { WasEnough window.now more 0 }
     requires sound { IsSoundGrammar peg.now }
     requires well { IsWell peg.now window.now (Spot.Pair node place) }
@@ -101,107 +132,44 @@ fn begin_node(peg: &SoundPeg, window: &[u8], more: bool, node: usize, place: usi
         Node::Any => leaf(match_any(window, place), window.len(), more),
         Node::Bytes(bytes) => leaf(match_bytes(bytes, window, place), window.len(), more),
         Node::Set(set) => leaf(match_set(set, window, place), window.len(), more),
-        Node::Name(id) => Begun::Passes(Spot::Pair {
+        Node::Name(id) => Begun::Starts(Start::Passes {
             node: peg.body_node(*id),
             place,
         }),
         Node::Seq(members) => {
             if members.is_empty() {
-                Begun::Gives(Found::Took(place))
+                Begun::Starts(Start::Gives(Found::Took(place)))
             } else {
-                Begun::Enters(tail_from(node, members, 0, place))
+                Begun::Starts(Start::Enters(tail_from(node, members, 0, place)))
             }
         }
         Node::Choice(alternatives) => {
-            if alternatives.is_empty() {
-                Begun::Gives(Found::Failed)
-            } else {
-                Begun::Enters(tail_from(node, alternatives, 0, place))
-            }
+            Begun::Skips(skips_at(peg, window, more, node, alternatives, place))
         }
-        Node::Star(operand) => Begun::Leads(Spot::Pair {
+        Node::Star(operand) => Begun::Repeats(Repeated {
+            star: node,
+            operand: *operand,
+            place,
+        }),
+        Node::Not(operand) => Begun::Starts(Start::Leads {
             node: *operand,
             place,
         }),
-        Node::Not(operand) => Begun::Leads(Spot::Pair {
+        Node::Plus { operand, star: _ } => Begun::Starts(Start::Leads {
             node: *operand,
             place,
         }),
-        Node::Plus { operand, star: _ } => Begun::Leads(Spot::Pair {
+        Node::Opt(operand) => Begun::Starts(Start::Leads {
             node: *operand,
             place,
         }),
-        Node::Opt(operand) => Begun::Leads(Spot::Pair {
+        Node::And(operand) => Begun::Starts(Start::Leads {
             node: *operand,
             place,
         }),
-        Node::And(operand) => Begun::Leads(Spot::Pair {
-            node: *operand,
-            place,
-        }),
-        Node::Act(_) => Begun::Marks(Kept::Acted(node)),
-        Node::Open => Begun::Marks(Kept::Opened(place)),
-        Node::Close => Begun::Marks(Kept::Closed(place)),
-    }
-}
-
-// Returns how a task begins that asks for this child, and passes on its result if it is the only one.
-#[inline(always)]
-fn led(only: bool, kid: Spot) -> Begun
-    ensures { result ≡ led_to only kid }
-{
-    if only {
-        Begun::Passes(kid)
-    } else {
-        Begun::Leads(kid)
-    }
-}
-
-// Returns how the tail of a node, from the member of that index on, begins at a position.
-#[inline(always)]
-fn begin_tail(
-    peg: &SoundPeg,
-    window: &[u8],
-    more: bool,
-    node: usize,
-    index: usize,
-    place: usize,
-) -> Begun
-    requires some { WasEnough window.now more 0 }
-    requires sound { IsSoundGrammar peg.now }
-    requires well { IsWell peg.now window.now (Spot.Tail node index place) }
-    ensures { AfterNone peg.now window.now more (Spot.Tail node index place) result }
-{
-    match peg.node(node) {
-        Node::Seq(members) => led(
-            index + 1 == members.len(),
-            Spot::Pair {
-                node: members[index],
-                place,
-            },
-        ),
-        Node::Choice(alternatives) => led(
-            index + 1 == alternatives.len(),
-            Spot::Pair {
-                node: alternatives[index],
-                place,
-            },
-        ),
-        _ => Begun::Gives(Found::Failed),
-    }
-}
-
-/// Returns how a task begins: its result, or the child that it asks for first.
-#[inline(always)]
-pub(crate) fn begin(peg: &SoundPeg, window: &[u8], more: bool, spot: Spot) -> Begun
-    requires some { WasEnough window.now more 0 }
-    requires sound { IsSoundGrammar peg.now }
-    requires well { IsWell peg.now window.now spot }
-    ensures { AfterNone peg.now window.now more spot result }
-{
-    match spot {
-        Spot::Pair { node, place } => begin_node(peg, window, more, node, place),
-        Spot::Tail { node, index, place } => begin_tail(peg, window, more, node, index, place),
+        Node::Act(_) => Begun::Starts(Start::Marks(Kept::Acted(node))),
+        Node::Open => Begun::Starts(Start::Marks(Kept::Opened(place))),
+        Node::Close => Begun::Starts(Start::Marks(Kept::Closed(place))),
     }
 }
 
@@ -218,7 +186,7 @@ fn go_on_node(peg: &SoundPeg, window: &[u8], node: usize, place: usize, found: F
     match peg.node(node) {
         Node::Star(_) => match found {
             Found::Failed => Onward::Gives(Found::Took(place)),
-            Found::Took(end) => Onward::Passes(Spot::Pair { node, place: end }),
+            Found::Took(end) => Onward::Passes { node, place: end },
         },
         Node::Not(_) => match found {
             Found::Failed => Onward::Gives(Found::Took(place)),
@@ -226,10 +194,10 @@ fn go_on_node(peg: &SoundPeg, window: &[u8], node: usize, place: usize, found: F
         },
         Node::Plus { operand: _, star } => match found {
             Found::Failed => Onward::Gives(Found::Failed),
-            Found::Took(end) => Onward::Passes(Spot::Pair {
+            Found::Took(end) => Onward::Passes {
                 node: *star,
                 place: end,
-            }),
+            },
         },
         Node::Opt(_) => match found {
             Found::Failed => Onward::Gives(Found::Took(place)),

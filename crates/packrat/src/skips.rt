@@ -1,14 +1,14 @@
 //! Alternatives of a choice that the byte at its position decides to fail.
-ghost use Rattle.std.specs.Prelude.{◌≤◌, length, IfSome};
+ghost use Rattle.std.specs.Prelude.{◌≡◌, ◌≤◌, ℕ, List, length, slice_get, Some};
 ghost use Rattle.pegmatch.specs.Answers.{WasEnough};
-ghost use Rattle.packrat.specs.Onward.{IsWell};
-ghost use Rattle.packrat.specs.Skipped.{AreSkipped, IsRest, IsSkipAt};
+ghost use Rattle.pegnodes.specs.Nodes.{Choice, shapes_of};
+ghost use Rattle.memo.specs.declared.spot.Spot.{Spot};
+ghost use Rattle.packrat.specs.Skipped.{ArePassed, AreSkipped, IsRest};
 
 use crate::onward::{Entering, tail_from};
 use crate::turns::sure_end;
 use gramcheck::SoundPeg;
-use memo::Spot;
-use pegnodes::{ChoiceTable, Node, Skip};
+use pegnodes::Skip;
 
 /// Names the tail of a choice after its first alternatives, which fail, if an alternative is left. So many pairs begin
 /// with those that fail.
@@ -18,17 +18,20 @@ pub(crate) struct Skips {
     pub(crate) pairs: u32,
 }
 
-// Returns a table's entry of the byte at a position, if that is before `to`.
+// Returns how many of the first alternatives of a choice the byte at a position decides to fail: none if the choice has
+// no table.
 #[inline(always)]
-fn skip_before(table: &ChoiceTable, window: &[u8], at: usize, to: usize) -> Option<Skip>
-    requires { to ≤ length window.now }
-    ensures { IfSome result (IsSkipAt table.now.entries.items window.now at to) }
+fn skip_at(peg: &SoundPeg, window: &[u8], more: bool, choice: usize, place: usize) -> Skip
+    requires some { WasEnough window.now more 0 }
+    ensures { (ms : List ℕ) → slice_get (shapes_of peg.now.nodes) choice ≡ Some (Choice ms) →
+        ArePassed peg.now window.now more peg.now.keys choice place ms result.index result.pairs }
 {
-    if at < to {
-        Some(table.skip(window[at]))
-    } else {
-        None
+    if place < sure_end(window, more) {
+        if let Some(table) = peg.choice_table(choice) {
+            return table.skip(window[place]);
+        }
     }
+    Skip { index: 0, pairs: 0 }
 }
 
 // Returns the tail of a choice from an alternative on, if there is one.
@@ -44,26 +47,23 @@ fn rest_from(node: usize, alternatives: &[usize], index: usize, place: usize) ->
     }
 }
 
-/// Returns the alternatives that the byte at a task's position decides to fail, if the task is a choice that has a
-/// table.
+/// Returns the tail of a choice after the alternatives that the byte at its position decides to fail.
 #[inline(always)]
-pub(crate) fn skips_at(peg: &SoundPeg, window: &[u8], more: bool, spot: Spot) -> Option<Skips>
+pub(crate) fn skips_at(
+    peg: &SoundPeg,
+    window: &[u8],
+    more: bool,
+    choice: usize,
+    alternatives: &[usize],
+    place: usize,
+) -> Skips
     requires some { WasEnough window.now more 0 }
-    requires well { IsWell peg.now window.now spot }
-    ensures { IfSome result (AreSkipped peg.now window.now more peg.now.keys spot) }
+    requires at { slice_get (shapes_of peg.now.nodes) choice ≡ Some (Choice alternatives.now) }
+    ensures { AreSkipped peg.now window.now more peg.now.keys (Spot.Pair choice place) result }
 {
-    match spot {
-        Spot::Tail { .. } => None,
-        Spot::Pair { node, place } => match peg.node(node) {
-            Node::Choice(alternatives) => {
-                let table = peg.choice_table(node)?;
-                let skip = skip_before(table, window, place, sure_end(window, more))?;
-                Some(Skips {
-                    rest: rest_from(node, alternatives, usize::from(skip.index), place),
-                    pairs: skip.pairs,
-                })
-            }
-            _ => None,
-        },
+    let skip = skip_at(peg, window, more, choice, place);
+    Skips {
+        rest: rest_from(choice, alternatives, usize::from(skip.index), place),
+        pairs: skip.pairs,
     }
 }

@@ -73,45 +73,17 @@ returns-else-is_empty c =
     c.args.place
     c.in-Seq.members.items well some here)
 
-pub returns-then-is_empty-2 : goal.returns-then-is_empty-2
-returns-then-is_empty-2 c =
+pub skips_at-requires-clause-at : goal.skips_at-requires-clause-at
+skips_at-requires-clause-at c =
     let here = shape_at c.args.peg.now.nodes c.args.node _ (c.node.ensures ∙ ap Some c.in-Choice.is) in
-    let well = c.requires.well in
-    let none : length c.in-Choice.alternatives.items ≡ 0 = let zero_len = L.empty_is _ _ c.is_empty-in-Choice.ensures
-    c.if-is_empty-2.true in omega (arith, zero_len) in
-    ((
-      (
-        shape.Choice c.in-Choice.alternatives.items,
-        here,
-        inl (
-          slice_get_past c.in-Choice.alternatives.items 0 (omega
-              (arith, none)),
-          refl,
-        ),
-      ),
-      L.choice_empty c.args.peg.now c.args.window.now c.args.more c.requires.some c.requires.sound c.args.node
-          c.args.place
-          c.in-Choice.alternatives.items well.0 here none,
-    ))
-
-pub returns-else-is_empty-2 : goal.returns-else-is_empty-2
-returns-else-is_empty-2 c =
-    let here = shape_at c.args.peg.now.nodes c.args.node _ (c.node.ensures ∙ ap Some c.in-Choice.is) in
-    let well = c.requires.well in
-    let not_none : length c.in-Choice.alternatives.items ≡ 0 → ⊥ = let more = L.empty_not _ _
-    c.is_empty-in-Choice.ensures c.if-is_empty-2.false in (λ h. more (omega (arith, h))) in
-    let some : 0 < length c.in-Choice.alternatives.items = M.some_of c.in-Choice.alternatives.items not_none in
-    rw (c.tail_from-else-is_empty-2.ensures, c.deref-else-is_empty-2.ensures.value)
-    (M.alternatives_enter c.args.peg.now c.args.window.now c.args.more c.requires.some c.requires.sound c.args.node
-    c.args.place
-    c.in-Choice.alternatives.items well some here)
+    rw c.deref-in-Choice.ensures.value here
 
 pub returns-in-Star : goal.returns-in-Star
 returns-in-Star c =
     let here = shape_at c.args.peg.now.nodes c.args.node _ (c.node.ensures ∙ ap Some c.in-Star.is) in
     let well = c.requires.well in
     let like = has_shape _ _ well.0.1 (shape.Star c.in-Star.operand) here in
-    (((shape.Star c.in-Star.operand, here, refl), ((like.0, like.2), well.1)))
+    (refl, (here, ((shape.Star c.in-Star.operand, here, refl), ((like.0, like.2), well.1))))
 
 pub returns-in-Not : goal.returns-in-Not
 returns-in-Not c =

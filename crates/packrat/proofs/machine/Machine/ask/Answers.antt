@@ -1,6 +1,9 @@
-use Rattle.std.proofs.Common.{refl}
+use Rattle.std.proofs.Common.{◌+◌, refl, sym, subst, ◌∙◌}
+use Rattle.packrat.specs.Stands.{NeedsMore}
+use Rattle.packrat.specs.View.{weight}
 use Rattle.packrat.proofs.StandsLemmas as L
 use Rattle.packrat.proofs.LeftLemmas as M
+use Rattle.memo.specs.declared.spot.Spot.TheVariants.{Pair}
 use Rattle.packrat.proofs.machine.Machine.ask.Goals as goal
 
 pub returns-in-Some-clause-stands : goal.returns-in-Some-clause-stands
@@ -8,11 +11,27 @@ returns-in-Some-clause-stands c = λ root s.
     let same = c.in_ok-given.ensures.same in
     let some = rw c.in-Some.is at c.in_ok-given.ensures.some in
     L.stands_as c.args.peg.now c.args.window.now c.args.more c.args.peg.now.keys refl refl (cc same) refl refl
-    (L.stands_stored c.args.peg.now c.args.window.now c.args.more c.args.peg.now.keys root c.args.spot
-    c.args.self.now.frames c.args.self.now.log.stored c.args.self.now.events c.args.self.now.begun s c.in-Some.given
-    (cc (c.is_key-key.ensures, some.0)) some.1)
+    (L.stands_stored c.args.peg.now c.args.window.now c.args.more c.args.peg.now.keys root
+    (Pair c.args.node c.args.place) c.args.self.now.frames c.args.self.now.log.stored c.args.self.now.events
+    c.args.self.now.begun s c.in-Some.given (cc (c.is_key_node-key.ensures, some.0)) some.1)
 
 pub returns-in-Some-clause-less : goal.returns-in-Some-clause-less
 returns-in-Some-clause-less c = λ le.
-    M.less_stored c.args.peg.now c.args.window.now c.args.spot c.in-Some.given c.args.self.now.frames
-    c.args.self.now.begun c.requires.well
+    M.less_stored c.args.peg.now c.args.window.now (Pair c.args.node c.args.place) c.in-Some.given
+    c.args.self.now.frames c.args.self.now.begun c.requires.well
+
+pub returns-in_ok-start_spot-in-Starts-clause-less : goal.returns-in_ok-start_spot-in-Starts-clause-less
+returns-in_ok-start_spot-in-Starts-clause-less c = λ le.
+    c.in_ok-start_spot-in-Starts.ensures.less c.args.more c.in-Starts.ensures le
+
+pub returns-in-Need-clause-stands : goal.returns-in-Need-clause-stands
+returns-in-Need-clause-stands c = λ root s.
+    let same = c.in_ok-given.ensures.same in
+    let none = rw c.in-None.is at c.in_ok-given.ensures.none in
+    subst (λ v. NeedsMore c.args.peg.now c.args.window.now c.args.more c.args.peg.now.keys root
+    c.stored.new.log.stored v) (sym c.counted-begun.ensures)
+    (subst (λ v. NeedsMore c.args.peg.now c.args.window.now c.args.more c.args.peg.now.keys root v.stored
+    (c.args.self.now.begun + weight (Pair c.args.node c.args.place))) (sym same)
+    (L.stands_need c.args.peg.now c.args.window.now c.args.more c.args.peg.now.keys root
+    (Pair c.args.node c.args.place) c.args.self.now.frames c.args.self.now.log.stored c.args.self.now.events
+    c.args.self.now.begun s (λ t. none (c.is_key_node-key.ensures ∙ t)) c.in-Need.ensures))

@@ -1,5 +1,5 @@
 use Rattle.std.proofs.Common.{◌≡◌, ◌<◌, ◌∷◌, ◌++◌, IfOk, sym, subst}
-use Rattle.packrat.specs.declared.machine.Turn.TheVariants.{Answer}
+use Rattle.packrat.specs.Turns.{Answer, turn_of}
 use Rattle.packrat.specs.Stands.{Stands}
 use Rattle.packrat.specs.TurnsLeft.{left}
 use Rattle.packrat.proofs.StandsLemmas as L
@@ -13,7 +13,7 @@ returns-in-First-clause-less c = λ more some root.
     subst (λ v. Stands c.args.peg.now c.args.window.now more c.args.peg.now.keys root (Answer c.args.given)
     (record { spot = c.args.frame.spot; key = c.args.frame.key; wait = v } ∷ c.args.self.now.frames)
     c.args.self.now.log.stored c.args.self.now.events c.args.self.now.begun → IfOk c.after_first.result (λ turn.
-    left c.args.peg.now c.args.window.now turn c.after_first.new.self.frames c.after_first.new.self.begun
+    left c.args.peg.now c.args.window.now (turn_of turn) c.after_first.new.self.frames c.after_first.new.self.begun
     < left c.args.peg.now c.args.window.now (Answer c.args.given)
     (record { spot = c.args.frame.spot; key = c.args.frame.key; wait = v } ∷ c.args.self.now.frames)
     c.args.self.now.begun)) (sym c.in-First.is) (c.after_first.ensures.less more some root)

@@ -1,24 +1,27 @@
 use Rattle.std.proofs.Common.{refl, sym}
+use Rattle.packrat.specs.Turns.{turn_of}
 use Rattle.packrat.proofs.StandsLemmas as L
 use Rattle.packrat.proofs.SkippedLemmas as K
 use Rattle.packrat.proofs.machine.Machine.run_skips.Goals as goal
 
-pub returns-in_ok-next-in-Some-clause-stands : goal.returns-in_ok-next-in-Some-clause-stands
-returns-in_ok-next-in-Some-clause-stands c = λ more some h root key fresh s.
-    L.stands_as c.args.peg.now c.args.window.now more c.args.peg.now.keys refl refl refl refl
+pub returns-in_ok-enter-in-Some-clause-stands : goal.returns-in_ok-enter-in-Some-clause-stands
+returns-in_ok-enter-in-Some-clause-stands c = λ more some h root key fresh s.
+    let same = c.in_ok-enter-in-Some.ensures.same in
+    L.stands_as c.args.peg.now c.args.window.now more c.args.peg.now.keys refl refl (cc (sym same)) refl
     (sym c.counted_skips-self.ensures)
     (K.stands_skipped c.args.peg.now c.args.window.now more c.args.peg.now.keys some c.requires.sound
     c.requires.keyed.1.0 c.requires.keyed.1.1 c.requires.keyed.0 root c.args.spot c.args.skips h c.args.self.now.frames
     c.args.self.now.log.stored c.args.self.now.events c.args.self.now.begun s c.args.key key fresh c.in-Some.entering
-    c.in-Some.is c.wait_last.new.frames c.enter.new.frames c.in_ok-next-in-Some.next c.in_ok-wait_last-in-Some.ensures
-    c.in_ok-next-in-Some.ensures)
+    c.in-Some.is c.wait_last.new.frames c.enter.new.frames (turn_of c.in_ok-enter-in-Some.field-0)
+    c.in_ok-wait_last-in-Some.ensures c.in_ok-enter-in-Some.ensures.entered)
 
-pub returns-in_ok-next-in-Some-clause-less : goal.returns-in_ok-next-in-Some-clause-less
-returns-in_ok-next-in-Some-clause-less c = λ more h le.
+pub returns-in_ok-enter-in-Some-clause-less : goal.returns-in_ok-enter-in-Some-clause-less
+returns-in_ok-enter-in-Some-clause-less c = λ more h le.
     K.less_skipped c.args.peg.now c.args.window.now more c.args.peg.now.keys c.args.spot c.args.skips h
     c.requires.well c.args.self.now.frames c.args.self.now.begun c.counted_skips-self.result
-    c.counted_skips-self.ensures le c.in-Some.entering c.in-Some.is c.args.key c.wait_last.new.frames c.enter.new.frames
-    c.in_ok-next-in-Some.next c.in_ok-wait_last-in-Some.ensures c.in_ok-next-in-Some.ensures
+    c.counted_skips-self.ensures le c.in-Some.entering c.in-Some.is c.args.key c.args.self.now.log.stored
+    c.wait_last.new.frames c.enter.new.frames (turn_of c.in_ok-enter-in-Some.field-0) c.in_ok-wait_last-in-Some.ensures
+    c.in_ok-enter-in-Some.ensures.entered
 
 pub returns-in_ok-close-in-None-clause-stands : goal.returns-in_ok-close-in-None-clause-stands
 returns-in_ok-close-in-None-clause-stands c = λ more some h root key fresh s.
