@@ -23,7 +23,7 @@ use Rattle.packrat.specs.Spots.{Kids}
 use Rattle.packrat.specs.View.{weight}
 use Rattle.packrat.specs.declared.frames.Frame.{Frame}
 use Rattle.memo.specs.declared.key_log.Stored.{Stored}
-use Rattle.packrat.specs.Stands.{key_of, AreWaiting, AreEntered, IsEntered}
+use Rattle.packrat.specs.Stands.{AreWaiting, AreEntered, IsEntered}
 use Rattle.packrat.specs.Onward.{tail_of, member_of}
 use Rattle.packrat.specs.declared.onward.Entering.{Entering}
 use Rattle.pegnodes.specs.KeyLists.{Marks}
@@ -237,17 +237,17 @@ module _ (g : Grammar) (x : List ℕ) where
       subst (λ v. frames_cost Most v ≤ wait_cost Most First a + frames_cost Most fs) (sym is) (omega arith)
 
   -- a tail that is entered costs no more than one that is asked for
-  pub entered_less : (marks : Marks) (stored : List Stored) (e : Entering) (fs gs : List Frame) (t : Turn) (begun : ℕ)
-      → IsWell g x (tail_of e) → IsEntered marks stored e fs gs t
+  pub entered_less : (stored : List Stored) (e : Entering) (fs gs : List Frame) (t : Turn) (begun : ℕ)
+      → IsWell g x (tail_of e) → IsEntered stored e fs gs t
       → left g x t gs begun ≤ left g x (Ask (tail_of e)) fs begun
-  entered_less marks stored e fs gs t begun w (inl i) =
+  entered_less stored e fs gs t begun w (inl i) =
       subst (λ v. left g x v gs begun ≤ left g x (Ask (tail_of e)) fs begun) (sym i.3)
       (subst (λ v. left g x (Answer i.0) v begun ≤ left g x (Ask (tail_of e)) fs begun) (sym i.4)
       (let less = less_stored (tail_of e) i.0 fs begun w in omega (arith, less)))
-  entered_less marks stored e fs gs t begun w (inr i) =
+  entered_less stored e fs gs t begun w (inr i) =
       subst (λ v. left g x v gs begun ≤ left g x (Ask (tail_of e)) fs begun) (sym i.1)
       (let less = down_tail e.node e.index e.place e.member e.place fs gs begun w
-      (entered_costs e.only (key_of marks (tail_of e)) (tail_of e) fs gs i.2) in omega (arith, less))
+      (entered_costs e.only e.key (tail_of e) fs gs i.2) in omega (arith, less))
 
   less_tail : (n p m i q : ℕ) (fs gs : List Frame) (begun now pairs : ℕ) → now ≡ begun + pairs → 1 ≤ pairs
       → now ≤ most_begun g x → frames_cost Most gs ≤ 1 + frames_cost Most fs
@@ -259,14 +259,14 @@ module _ (g : Grammar) (x : List ℕ) where
       omega (arith, more, rest, few)
 
   -- a task that begins so many pairs, with a tail that is entered
-  pub less_skipped : (marks : Marks) (stored : List Stored) (n p : ℕ) (e : Entering) (t : Turn) (key : Bool)
+  pub less_skipped : (stored : List Stored) (n p : ℕ) (e : Entering) (t : Turn) (key : Bool)
       (fs mid gs : List Frame) (begun now pairs : ℕ) → now ≡ begun + pairs → 1 ≤ pairs → now ≤ most_begun g x
-      → IsWell g x (tail_of e) → AreWaiting key 0 (Pair n p) fs mid → IsEntered marks stored e mid gs t
+      → IsWell g x (tail_of e) → AreWaiting key 0 (Pair n p) fs mid → IsEntered stored e mid gs t
       → left g x t gs now < left g x (Ask (Pair n p)) fs begun
-  less_skipped marks stored n p e t key fs mid gs begun now pairs is some le well are i =
+  less_skipped stored n p e t key fs mid gs begun now pairs is some le well are i =
       let few = waiting_costs key 0 (Pair n p) fs mid are in
       let one = less_tail n p e.node e.index e.place fs mid begun now pairs is some le few in
-      let two = entered_less marks stored e mid gs t now well i in
+      let two = entered_less stored e mid gs t now well i in
       omega (arith, one, two)
 
   pub less_down : (a k : Spot) (key : Bool) (fs : List Frame) (begun now : ℕ) → now ≡ begun + weight a
@@ -305,20 +305,20 @@ module _ (g : Grammar) (x : List ℕ) where
   less_up l own given fs begun = let some = waits_some l.wait l.spot in omega arith
 
   -- with a tail that is entered
-  pub less_pass_in : (marks : Marks) (stored : List Stored) (a : Spot) (t : Turn) (e : Entering) (key : Bool)
+  pub less_pass_in : (stored : List Stored) (a : Spot) (t : Turn) (e : Entering) (key : Bool)
       (head : ℕ) (fs mid gs : List Frame) (begun now : ℕ) → now ≡ begun + weight a
       → now ≤ most_begun g x → IsWell g x a → F a (tail_of e) → IsWell g x (tail_of e) → AreWaiting key head a fs mid
-      → IsEntered marks stored e mid gs t → left g x t gs now < left g x (Ask a) fs begun
-  less_pass_in marks stored a t e key head fs mid gs begun now is le w h well are i =
+      → IsEntered stored e mid gs t → left g x t gs now < left g x (Ask a) fs begun
+  less_pass_in stored a t e key head fs mid gs begun now is le w h well are i =
       let one = less_pass a (tail_of e) key head fs mid begun now is le w h are in
-      let two = entered_less marks stored e mid gs t now well i in
+      let two = entered_less stored e mid gs t now well i in
       omega (arith, one, two)
 
-  pub less_on_in : (marks : Marks) (stored : List Stored) (a j : Spot) (t : Turn) (e : Entering) (given : Given)
+  pub less_on_in : (stored : List Stored) (a j : Spot) (t : Turn) (e : Entering) (given : Given)
       (key : Bool) (head : ℕ) (fs mid gs : List Frame) (begun : ℕ) → K a (j ∷ (tail_of e ∷ [])) → IsWell g x (tail_of e)
-      → AreWaiting key head a fs mid → IsEntered marks stored e mid gs t → left g x t gs begun
+      → AreWaiting key head a fs mid → IsEntered stored e mid gs t → left g x t gs begun
       < left g x (Answer given) (record { spot = a; key = key; wait = First } ∷ fs) begun
-  less_on_in marks stored a j t e given key head fs mid gs begun h well are i =
+  less_on_in stored a j t e given key head fs mid gs begun h well are i =
       let one = less_on a j (tail_of e) given key head fs mid begun h are in
-      let two = entered_less marks stored e mid gs t begun well i in
+      let two = entered_less stored e mid gs t begun well i in
       omega (arith, one, two)

@@ -419,10 +419,11 @@ module _ (g : Grammar) (x : List ℕ) (more : Bool) (some : WasEnough x more 0) 
 
   -- a sequence or a choice with members enters its first tail
   module _ (n p : ℕ) (ms : List ℕ) (w : IsWell g x (Pair n p)) (lt : 0 < length ms) where
-    pub members_enter : At n (node.Seq ms) → AfterStart g x more (Pair n p) (start.Enters (entering_of n ms 0 p))
+    pub members_enter : At n (node.Seq ms) → AfterStart g x more (Pair n p) (start.Enters (entering_of g.keys n ms 0 p))
     members_enter at = (
       members_led n p ms w lt at,
       led (0 + 1 == length ms) refl,
+      refl,
     )
       where
         led : (only : Bool) → only ≡ (0 + 1 == length ms) → IsLed g x more only (Tail n 0 p) (Pair (get_or ms 0 0) p)
@@ -434,10 +435,10 @@ module _ (g : Grammar) (x : List ℕ) (more : Bool) (some : WasEnough x more 0) 
   -- a tail enters the next one
   module _ (n i p : ℕ) (ms : List ℕ) (found : Found) (w : IsWell g x (Tail n i p)) where
     pub member_enters : (q e : ℕ) → suc i ≡ e → At n (node.Seq ms) → found ≡ Took q → e < length ms
-        → After (Tail n i p) found (Enters (entering_of n ms e q))
+        → After (Tail n i p) found (Enters (entering_of g.keys n ms e q))
     member_enters q e same at is lt j h es d =
         let more_of = member_more n i p ms found w q e same at is (omega (arith, same, lt)) j h es d in
-        (more_of, led more_of.1 (e + 1 == length ms) refl)
+        (more_of, led more_of.1 (e + 1 == length ms) refl, refl)
       where
         led : IsWell g x (Tail n e q) → (only : Bool) → only ≡ (e + 1 == length ms)
             → IsLed g x more only (Tail n e q) (Pair (get_or ms e 0) q)
@@ -445,10 +446,10 @@ module _ (g : Grammar) (x : List ℕ) (more : Bool) (some : WasEnough x more 0) 
         led v false is = seq_led n e q (get_or ms e 0) ms (slice_get-get_or ms e 0 lt) v false is at
 
     pub other_enters : (e : ℕ) → suc i ≡ e → At n (node.Choice ms) → found ≡ Failed → e < length ms
-        → After (Tail n i p) found (Enters (entering_of n ms e p))
+        → After (Tail n i p) found (Enters (entering_of g.keys n ms e p))
     other_enters e same at is lt j h es d =
         let more_of = other_more n i p ms found w e same at is (omega (arith, same, lt)) j h es d in
-        (more_of, choice_enters n e p ms at more_of.1 lt)
+        (more_of, choice_enters n e p ms at more_of.1 lt, refl)
 
 pub some_of : (ms : List ℕ) → (length ms ≡ 0 → ⊥) → 0 < length ms
 some_of [] h = absurd (h refl)

@@ -192,10 +192,10 @@ module _ (g : Grammar) (x : List ℕ) (more : Bool) (marks : Marks) (some : WasE
 
     -- the loop goes to the next alternative
     pub stands_skipped : (e : Entering) → s.rest ≡ Some e → (mid new : List Frame) (u : Turn)
-        → AreWaiting key 0 a ls mid → IsEntered marks st e mid new u → S root u new st links (count + (1 + s.pairs))
+        → AreWaiting key 0 a ls mid → IsEntered st e mid new u → S root u new st links (count + (1 + s.pairs))
     stands_skipped e is mid new u w i =
-        let r = subst (IsRest h.node h.members h.index h.place) is h.rest in
-        let same : e ≡ entering_of h.node h.members h.index h.place = r.1 in
+        let r = subst (IsRest marks h.node h.members h.index h.place) is h.rest in
+        let same : e ≡ entering_of marks h.node h.members h.index h.place = r.1 in
         let wait = subst (λ v. AreWaiting key 0 v ls mid) h.spot w in
         let first = L.stands_pass g x more marks root (Pair h.node h.place) ls st links count asked_pair
         (λ marked. pair_fresh marked) (Tail h.node 0 h.place) key mid pair_key
@@ -205,8 +205,8 @@ module _ (g : Grammar) (x : List ℕ) (more : Bool) (marks : Marks) (some : WasE
         let led = M.choice_enters g x more some sound h.node h.index h.place h.members h.at
         (pair_well.0, pair_well.1, (node.Choice h.members, h.at, r.0)) r.0 in
         subst (S root u new st links) (omega arith)
-        (L.stands_entered g x more marks root (entering_of h.node h.members h.index h.place) mid st links
-        ((count + 1) + s.pairs) then new u led (subst (λ v. IsEntered marks st v mid new u) same i))
+        (L.stands_entered g x more marks root (entering_of marks h.node h.members h.index h.place) mid st links
+        ((count + 1) + s.pairs) then new u refl led (subst (λ v. IsEntered st v mid new u) same i))
 
     -- a choice without alternatives fails
     stands_no_choice : length h.members ≡ 0 → (new : List Stored)
@@ -223,7 +223,7 @@ module _ (g : Grammar) (x : List ℕ) (more : Bool) (marks : Marks) (some : WasE
     pub stands_none_left : s.rest ≡ None → (new : List Stored) → IsClosed g x more marks links a failure st new
         → S root (Answer failure) ls new links (count + (1 + s.pairs))
     stands_none_left is new c =
-        let all : length h.members ≡ h.index = subst (IsRest h.node h.members h.index h.place) is h.rest in
+        let all : length h.members ≡ h.index = subst (IsRest marks h.node h.members h.index h.place) is h.rest in
         let closed = subst (λ v. IsClosed g x more marks links v failure st new) h.spot c in
         elim h.passed [
           | inl f ↦
@@ -242,15 +242,15 @@ module _ (g : Grammar) (x : List ℕ) (more : Bool) (marks : Marks) where
   module _ (a : Spot) (s : Skips) (h : AreSkipped g x more marks a s) (well : IsWell g x a) (ls : List Frame)
       (begun now : ℕ) (is : now ≡ begun + (1 + s.pairs)) (le : now ≤ most_begun g x) where
     pub less_skipped : (e : Entering) → s.rest ≡ Some e → (key : Bool) (st : List Stored) (mid new : List Frame)
-        (u : Turn) → AreWaiting key 0 a ls mid → IsEntered marks st e mid new u
+        (u : Turn) → AreWaiting key 0 a ls mid → IsEntered st e mid new u
         → left g x u new now < left g x (Ask a) ls begun
     less_skipped e rest key st mid new u w i =
-        let r = subst (IsRest h.node h.members h.index h.place) rest h.rest in
+        let r = subst (IsRest marks h.node h.members h.index h.place) rest h.rest in
         let there = subst (IsWell g x) h.spot well in
         let tail = subst (λ v. IsWell g x (tail_of v)) (sym r.1)
         (there.0, there.1, (node.Choice h.members, h.at, r.0)) in
         subst (λ v. left g x u new now < left g x (Ask v) ls begun) (sym h.spot)
-        (T.less_skipped g x marks st h.node h.place e u key ls mid new begun now (1 + s.pairs) is (omega arith) le tail
+        (T.less_skipped g x st h.node h.place e u key ls mid new begun now (1 + s.pairs) is (omega arith) le tail
         (subst (λ v. AreWaiting key 0 v ls mid) h.spot w) i)
 
     pub less_failed : left g x (Answer failure) ls now < left g x (Ask a) ls begun

@@ -473,22 +473,24 @@ module _ (g : Grammar) (x : List ℕ) (more : Bool) (marks : Marks) where
   -- a tail that is entered
   module _ (root : Spot) (e : Entering) (ls : List Frame) (st : List Stored) (links : List Link) (n : ℕ)
       (s : S root (Ask (tail_of e)) ls st links n) where
-    member_asked : (only : Bool) (new : List Frame) → (Key (tail_of e) ≡ true → IsIn (tail_of e) (spots_of st) → ⊥)
-        → IsLed g x more only (tail_of e) (member_of e) → AreEntered only (Key (tail_of e)) (tail_of e) ls new
+    member_asked : (only : Bool) (new : List Frame) → e.key ≡ Key (tail_of e)
+        → (Key (tail_of e) ≡ true → IsIn (tail_of e) (spots_of st) → ⊥)
+        → IsLed g x more only (tail_of e) (member_of e) → AreEntered only e.key (tail_of e) ls new
         → S root (Ask (member_of e)) new st links (n + 0)
-    member_asked true new fresh h w =
-        stands_pass root (tail_of e) ls st links n s fresh (member_of e) (Key (tail_of e)) new refl h w
-    member_asked false new fresh h is =
+    member_asked true new key fresh h w =
+        stands_pass root (tail_of e) ls st links n s fresh (member_of e) e.key new key h w
+    member_asked false new key fresh h is =
         subst (λ v. S root (Ask (member_of e)) v st links (n + 0)) (sym is)
-        (stands_down root (tail_of e) ls st links n s fresh (member_of e) (Key (tail_of e)) refl h)
+        (stands_down root (tail_of e) ls st links n s fresh (member_of e) e.key key h)
 
-    pub stands_entered : (new : List Frame) (t : Turn) → IsLed g x more e.only (tail_of e) (member_of e)
-        → IsEntered marks st e ls new t → S root t new st links n
-    stands_entered new t h (inl i) = subst (λ v. S root v new st links n) (sym i.3)
+    pub stands_entered : (new : List Frame) (t : Turn) → e.key ≡ Key (tail_of e)
+        → IsLed g x more e.only (tail_of e) (member_of e) → IsEntered st e ls new t → S root t new st links n
+    stands_entered new t key h (inl i) = subst (λ v. S root v new st links n) (sym i.3)
         (subst (λ v. S root (Answer i.0) v st links n) (sym i.4)
-        (stands_stored root (tail_of e) ls st links n s i.0 i.1 i.2))
-    stands_entered new t h (inr i) = subst (λ v. S root v new st links n) (sym i.1)
-        (subst (S root (Ask (member_of e)) new st links) (omega arith) (member_asked e.only new i.0 h i.2))
+        (stands_stored root (tail_of e) ls st links n s i.0 (sym key ∙ i.1) i.2))
+    stands_entered new t key h (inr i) = subst (λ v. S root v new st links n) (sym i.1)
+        (subst (S root (Ask (member_of e)) new st links) (omega arith)
+        (member_asked e.only new key (λ k. i.0 (key ∙ k)) h i.2))
 
   module _ (root a : Spot) (given : Given) (ls : List Frame) (st : List Stored) (links : List Link) (n : ℕ)
       (key : Bool) where
@@ -562,11 +564,15 @@ module _ (g : Grammar) (x : List ℕ) (more : Bool) (marks : Marks) where
       pub tail_well : (e : Entering) → After (way.Enters e) → IsWell g x (tail_of e)
       tail_well e after = (after_here (way.Enters e) after).0.1
 
-      pub stands_into : (e : Entering) (mid new : List Frame) (t : Turn) → After (way.Enters e)
-          → AreWaiting key given.events a ls mid → IsEntered marks st e mid new t → S root t new st links n
-      stands_into e mid new t after w i =
+      pub stands_into : (e : Entering) (mid new : List Frame) (t : Turn) → e.key ≡ Key (tail_of e)
+          → After (way.Enters e) → AreWaiting key given.events a ls mid → IsEntered st e mid new t
+          → S root t new st links n
+      stands_into e mid new t own after w i =
           stands_entered root e mid st links n (stands_on (tail_of e) mid
-          (λ j f es y. (after j f es y).0) w) new t (after_here (way.Enters e) after).1 i
+          (λ j f es y. (after j f es y).0) w) new t own (after_here (way.Enters e) after).1 i
+
+      pub tail_marked : (e : Entering) → After (way.Enters e) → e.key ≡ tail_marks g.keys e.node e.index
+      tail_marked e after = (after_here (way.Enters e) after).2
 
       spot_ends : (own : Given) (new : List Stored) → K a (is_ready.spot ∷ []) → G links a own → C links a own st new
           → S root (Answer own) ls new links n

@@ -3,6 +3,7 @@ use Rattle.std.specs.Prelude.{◌≡◌, ℕ, ◌+◌, ◌<◌, ◌≤◌, ◌==
 use Rattle.std.specs.Prelude.{Bool, true, false}
 use Rattle.pegread.specs.PegViews.{rules_of}
 use Rattle.gramcheck.specs.Grammar.{Grammar}
+use Rattle.pegnodes.specs.KeyLists.{Marks, tail_marks}
 use Rattle.pegnodes.specs.Nodes.{Shape, Any, Bytes, Set, Name, Seq, Choice, Star, Plus, Opt, And, Not, Act, Open}
 use Rattle.pegnodes.specs.Nodes.{Close, shapes_of}
 use Rattle.memo.specs.declared.found.Found.{Found}
@@ -45,10 +46,20 @@ tail_of e = Tail e.node e.index e.place
 abbrev pub member_of : Entering → Spot
 member_of e = Pair e.member e.place
 
+-- it says whether the tail is a key
+abbrev pub IsMarked : Marks → Entering → Type 0
+IsMarked marks e = e.key ≡ tail_marks marks e.node e.index
+
 -- the tail of a node with these members, from this one on
-abbrev pub entering_of : ℕ → List ℕ → ℕ → ℕ → Entering
-entering_of n ms i p =
-    record { node = n; index = i; place = p; member = get_or ms i 0; only = i + 1 == length ms }
+abbrev pub entering_of : Marks → ℕ → List ℕ → ℕ → ℕ → Entering
+entering_of marks n ms i p = record {
+  node = n;
+  index = i;
+  place = p;
+  member = get_or ms i 0;
+  only = i + 1 == length ms;
+  key = tail_marks marks n i;
+}
 
 -- if more bytes follow the window, the task stands before the window's end
 abbrev pub IsNear : List ℕ → Bool → Spot → Type 0
@@ -91,7 +102,8 @@ module _ (g : Grammar) (x : List ℕ) where
         × SpotYields g x more a (Took (place_of a)) (event ∷ []))
     AfterStart a (start.Leads n p) = IsLed false a (Pair n p)
     AfterStart a (start.Passes n p) = IsLed true a (Pair n p)
-    AfterStart a (start.Enters e) = IsLed true a (tail_of e) × IsLed e.only (tail_of e) (member_of e)
+    AfterStart a (start.Enters e) =
+        IsLed true a (tail_of e) × IsLed e.only (tail_of e) (member_of e) × IsMarked g.keys e
 
     -- after its first child j, a task asks for k, and gives what k gives, with these events before those of k
     abbrev pub GoesOn : Spot → Spot → List Event → Spot → Type 0
@@ -105,4 +117,5 @@ module _ (g : Grammar) (x : List ℕ) where
     AfterOne a j found events Same =
         Kids (rules_of g.rules) (shapes_of g.nodes) g.bodies x a (j ∷ []) × SpotYields g x more a found events
     AfterOne a j found events (Passes n p) = GoesOn a j events (Pair n p)
-    AfterOne a j found events (Enters e) = GoesOn a j events (tail_of e) × IsLed e.only (tail_of e) (member_of e)
+    AfterOne a j found events (Enters e) =
+        GoesOn a j events (tail_of e) × IsLed e.only (tail_of e) (member_of e) × IsMarked g.keys e

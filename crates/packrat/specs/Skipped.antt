@@ -11,9 +11,9 @@ use Rattle.packrat.specs.declared.onward.Entering.{Entering}
 use Rattle.packrat.specs.declared.skips.Skips.{Skips}
 
 -- the tail of choice n at position p from alternative i on, if there is one
-abbrev pub IsRest : ℕ → List ℕ → ℕ → ℕ → Option Entering → Type 0
-IsRest n ms i p (Some e) = (i < length ms) × (e ≡ entering_of n ms i p)
-IsRest n ms i p None = length ms ≡ i
+abbrev pub IsRest : Marks → ℕ → List ℕ → ℕ → ℕ → Option Entering → Type 0
+IsRest marks n ms i p (Some e) = (i < length ms) × (e ≡ entering_of marks n ms i p)
+IsRest marks n ms i p None = length ms ≡ i
 
 module _ (g : Grammar) (x : List ℕ) (more : Bool) (marks : Marks) where
   -- The byte at position p decides that the first i alternatives of choice n fail there, which is so many pairs. If
@@ -37,4 +37,4 @@ module _ (g : Grammar) (x : List ℕ) (more : Bool) (marks : Marks) where
     pub spot : a ≡ Pair node place
     pub at : slice_get (shapes_of g.nodes) node ≡ Some (Choice members)
     pub passed : ArePassed node place members index s.pairs
-    pub rest : IsRest node members index place s.rest
+    pub rest : IsRest marks node members index place s.rest

@@ -76,12 +76,12 @@ AreEntered true key a old new = AreWaiting key 0 a old new
 AreEntered false key a old new = new ≡ record { spot = a; key = key; wait = First } ∷ old
 
 -- The tail is a key that is stored, and that is returned; or it begins, and its member is asked for.
-abbrev pub IsEntered : Marks → List Stored → Entering → List Frame → List Frame → Turn → Type 0
-IsEntered marks stored e old new t =
-    ((given : Given) × (key_of marks (tail_of e) ≡ true) × IsIn (record { spot = tail_of e; given = given }) stored
+abbrev pub IsEntered : List Stored → Entering → List Frame → List Frame → Turn → Type 0
+IsEntered stored e old new t =
+    ((given : Given) × (e.key ≡ true) × IsIn (record { spot = tail_of e; given = given }) stored
     × (t ≡ Answer given) × (new ≡ old))
-    ⊎ ((key_of marks (tail_of e) ≡ true → IsIn (tail_of e) (spots_of stored) → ⊥) × (t ≡ Ask (member_of e))
-    × AreEntered e.only (key_of marks (tail_of e)) (tail_of e) old new)
+    ⊎ ((e.key ≡ true → IsIn (tail_of e) (spots_of stored) → ⊥) × (t ≡ Ask (member_of e))
+    × AreEntered e.only e.key (tail_of e) old new)
 
 module _ (g : Grammar) (x : List ℕ) (more : Bool) where
   -- a task gives this, and its head keeps its events

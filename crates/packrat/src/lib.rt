@@ -5,7 +5,6 @@
 mod byte_laws;
 mod events;
 mod frames;
-mod keys;
 mod laws;
 mod machine;
 mod onward;

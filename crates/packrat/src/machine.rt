@@ -23,7 +23,6 @@ ghost use Rattle.packrat.specs.declared.frames.Wait.{Wait};
 
 use crate::events::EventLog;
 use crate::frames::{Frame, Frames, Wait};
-use crate::keys::is_key;
 use crate::onward::{Begun, Entering, Onward, Repeated, Start, begin_node, go_on};
 use crate::skips::Skips;
 use crate::turns::{Turns, find_turns, is_fresh};
@@ -127,31 +126,24 @@ fn wait_last(frames: &mut Frames, spot: Spot, key: bool, events: usize) -> Resul
 // Enters a tail, and goes to its member, or returns the tail's stored result. A tail that is no key pushes a frame only
 // if it has another member.
 #[inline(always)]
-fn enter(
-    log: &mut KeyLog,
-    frames: &mut Frames,
-    peg: &SoundPeg,
-    entering: Entering,
-) -> Result<Next, Memory>
+fn enter(log: &mut KeyLog, frames: &mut Frames, entering: Entering) -> Result<Next, Memory>
     ensures same { log.new ≡ log.old }
-    ensures entered { IfOk result (λ next. IsEntered peg.now.keys log.old.stored entering frames.old frames.new
-        (turn_of next)) }
+    ensures entered { IfOk result (λ next. IsEntered log.old.stored entering frames.old frames.new (turn_of next)) }
 {
     let tail = Spot::Tail {
         node: entering.node,
         index: entering.index,
         place: entering.place,
     };
-    let key = is_key(peg, tail);
-    if let Some(given) = stored(log, tail, key)? {
+    if let Some(given) = stored(log, tail, entering.key)? {
         return Ok(Next::Answer(given));
     }
     if entering.only {
-        wait_last(frames, tail, key, 0)?;
+        wait_last(frames, tail, entering.key, 0)?;
     } else {
         frames.push(Frame {
             spot: tail,
-            key,
+            key: entering.key,
             wait: Wait::First,
         })?;
     }
@@ -303,7 +295,7 @@ impl Machine {
             }
             Start::Enters(entering) => {
                 wait_last(&mut self.frames, spot, key, 0)?;
-                Ok(enter(&mut self.log, &mut self.frames, peg, entering)?)
+                Ok(enter(&mut self.log, &mut self.frames, entering)?)
             }
         }
     }
@@ -379,7 +371,8 @@ impl Machine {
                 found: Found::Failed,
                 events: 0,
             };
-            close(&mut self.log, peg, window, last, is_key(peg, last), failed)?;
+            let key = peg.is_key_node(turns.operand);
+            close(&mut self.log, peg, window, last, key, failed)?;
             let given = Given {
                 found: Found::Took(turns.end),
                 events: 0,
@@ -427,7 +420,7 @@ impl Machine {
         match skips.rest {
             Some(entering) => {
                 wait_last(&mut self.frames, spot, key, 0)?;
-                Ok(enter(&mut self.log, &mut self.frames, peg, entering)?)
+                Ok(enter(&mut self.log, &mut self.frames, entering)?)
             }
             None => {
                 let given = Given {
@@ -577,7 +570,7 @@ impl Machine {
             }
             Onward::Enters(entering) => {
                 wait_last(&mut self.frames, spot, key, given.events)?;
-                Ok(enter(&mut self.log, &mut self.frames, peg, entering)?)
+                Ok(enter(&mut self.log, &mut self.frames, entering)?)
             }
         }
     }

@@ -30,6 +30,8 @@ pub(crate) struct Entering {
     pub(crate) member: usize,
     /// Whether the member is the last one.
     pub(crate) only: bool,
+    /// Whether the tail is a key.
+    pub(crate) key: bool,
 }
 
 /// A repetition of an operand, at a position.
@@ -88,9 +90,15 @@ pub(crate) enum Onward {
 
 /// Returns the tail of a node with these members, from this one on.
 #[inline(always)]
-pub(crate) fn tail_from(node: usize, members: &[usize], index: usize, place: usize) -> Entering
+pub(crate) fn tail_from(
+    peg: &SoundPeg,
+    node: usize,
+    members: &[usize],
+    index: usize,
+    place: usize,
+) -> Entering
     requires { index < length members.now }
-    ensures { result ≡ entering_of node members.now index place }
+    ensures { result ≡ entering_of peg.now.keys node members.now index place }
 {
     Entering {
         node,
@@ -98,6 +106,7 @@ pub(crate) fn tail_from(node: usize, members: &[usize], index: usize, place: usi
         place,
         member: members[index],
         only: index + 1 == members.len(),
+        key: peg.is_key_tail(node, index),
     }
 }
 
@@ -140,7 +149,7 @@ pub(crate) fn begin_node(
             if members.is_empty() {
                 Begun::Starts(Start::Gives(Found::Took(place)))
             } else {
-                Begun::Starts(Start::Enters(tail_from(node, members, 0, place)))
+                Begun::Starts(Start::Enters(tail_from(peg, node, members, 0, place)))
             }
         }
         Node::Choice(alternatives) => {
@@ -241,7 +250,7 @@ fn go_on_tail(
             Found::Failed => Onward::Gives(Found::Failed),
             Found::Took(end) => {
                 if index + 1 < members.len() {
-                    Onward::Enters(tail_from(node, members, index + 1, end))
+                    Onward::Enters(tail_from(peg, node, members, index + 1, end))
                 } else {
                     Onward::Same
                 }
@@ -251,7 +260,7 @@ fn go_on_tail(
             Found::Took(_) => Onward::Same,
             Found::Failed => {
                 if index + 1 < alternatives.len() {
-                    Onward::Enters(tail_from(node, alternatives, index + 1, place))
+                    Onward::Enters(tail_from(peg, node, alternatives, index + 1, place))
                 } else {
                     Onward::Gives(Found::Failed)
                 }

@@ -36,12 +36,18 @@ fn skip_at(peg: &SoundPeg, window: &[u8], more: bool, choice: usize, place: usiz
 
 // Returns the tail of a choice from an alternative on, if there is one.
 #[inline(always)]
-fn rest_from(node: usize, alternatives: &[usize], index: usize, place: usize) -> Option<Entering>
+fn rest_from(
+    peg: &SoundPeg,
+    node: usize,
+    alternatives: &[usize],
+    index: usize,
+    place: usize,
+) -> Option<Entering>
     requires { index ≤ length alternatives.now }
-    ensures { IsRest node alternatives.now index place result }
+    ensures { IsRest peg.now.keys node alternatives.now index place result }
 {
     if index < alternatives.len() {
-        Some(tail_from(node, alternatives, index, place))
+        Some(tail_from(peg, node, alternatives, index, place))
     } else {
         None
     }
@@ -63,7 +69,7 @@ pub(crate) fn skips_at(
 {
     let skip = skip_at(peg, window, more, choice, place);
     Skips {
-        rest: rest_from(choice, alternatives, usize::from(skip.index), place),
+        rest: rest_from(peg, choice, alternatives, usize::from(skip.index), place),
         pairs: skip.pairs,
     }
 }

@@ -54,11 +54,13 @@ returns-in_ok-enter-in-Enters-clause-stands c = λ more some root s.
     (L.stands_into c.args.peg.now c.args.window.now more c.args.peg.now.keys root c.args.spot c.args.given
     c.args.self.now.frames c.args.self.now.log.stored c.args.self.now.events c.args.self.now.begun c.args.key s
     c.in-Enters.entering c.wait_last-in-Enters.new.frames c.enter.new.frames (turn_of c.in_ok-enter-in-Enters.field-0)
-    (c.in-Enters.ensures more some) c.in_ok-wait_last-in-Enters.ensures c.in_ok-enter-in-Enters.ensures.entered)
+    (L.tail_marked c.args.peg.now c.args.window.now more c.args.peg.now.keys root c.args.spot c.args.given
+    c.args.self.now.frames c.args.self.now.log.stored c.args.self.now.events c.args.self.now.begun c.args.key s
+    c.in-Enters.entering (c.in-Enters.ensures more some)) (c.in-Enters.ensures more some) c.in_ok-wait_last-in-Enters.ensures c.in_ok-enter-in-Enters.ensures.entered)
 
 pub returns-in_ok-enter-in-Enters-clause-less : goal.returns-in_ok-enter-in-Enters-clause-less
 returns-in_ok-enter-in-Enters-clause-less c = λ more some root s.
-    M.less_on_in c.args.peg.now c.args.window.now c.args.peg.now.keys c.args.self.now.log.stored c.args.spot
+    M.less_on_in c.args.peg.now c.args.window.now c.args.self.now.log.stored c.args.spot
     (L.first_kid c.args.peg.now c.args.window.now more c.args.peg.now.keys root c.args.spot c.args.given
     c.args.self.now.frames c.args.self.now.log.stored c.args.self.now.events c.args.self.now.begun c.args.key s)
     (turn_of c.in_ok-enter-in-Enters.field-0) c.in-Enters.entering c.args.given c.args.key c.args.given.events

@@ -43,7 +43,7 @@ returns-in_ok-put_turns-clause-stands c = λ root s.
     let sum = e.2 in
     let low = d.1.low in
     let closed = c.in_ok-close.ensures.closed c.args.more c.args.peg.now.keys c.args.self.now.events
-    c.is_key.ensures in
+    c.is_key_node-key.ensures in
     subst (λ v. Stands c.args.peg.now c.args.window.now c.args.more c.args.peg.now.keys root
     (Answer (record { found = Took t.end; events = 0 })) c.args.self.now.frames c.put_turns.new.log.stored
     c.args.self.now.events (c.args.self.now.begun + v)) (sym sum)

@@ -104,12 +104,12 @@ returns-in_ok-enter-in-Enters-clause-stands c = λ more h root key fresh s.
     c.args.self.now.events c.args.self.now.begun s (λ t. fresh (key ∙ t))
     (tail_of c.in-Enters.entering) c.args.key c.wait_last-in-Enters.new.frames key e.0
     c.in_ok-wait_last-in-Enters.ensures)
-    c.enter.new.frames (turn_of c.in_ok-enter-in-Enters.field-0) e.1 c.in_ok-enter-in-Enters.ensures.entered)
+    c.enter.new.frames (turn_of c.in_ok-enter-in-Enters.field-0) e.2 e.1 c.in_ok-enter-in-Enters.ensures.entered)
 
 pub returns-in_ok-enter-in-Enters-clause-less : goal.returns-in_ok-enter-in-Enters-clause-less
 returns-in_ok-enter-in-Enters-clause-less c = λ more h le.
     let e = subst (AfterStart c.args.peg.now c.args.window.now more c.args.spot) c.in-Enters.is h in
-    M.less_pass_in c.args.peg.now c.args.window.now c.args.peg.now.keys c.args.self.now.log.stored c.args.spot
+    M.less_pass_in c.args.peg.now c.args.window.now c.args.self.now.log.stored c.args.spot
     (turn_of c.in_ok-enter-in-Enters.field-0)
     c.in-Enters.entering c.args.key 0 c.args.self.now.frames c.wait_last-in-Enters.new.frames c.enter.new.frames
     c.args.self.now.begun c.counted-self.result c.counted-self.ensures le c.requires.well e.0.0
