@@ -3,13 +3,13 @@ ghost use Rattle.std.specs.Prelude.{◌≡◌, ◌↔◌, ◌<◌, ℕ, IfSome, 
 ghost use Rattle.pegread.specs.Pattern.{Pattern};
 ghost use Rattle.pegread.specs.PegViews.{rules_of};
 ghost use Rattle.gramcheck.specs.Grammar.{HasKeys, IsNumbered, IsSoundGrammar};
-ghost use Rattle.pegnodes.specs.ByteTables.{AreByteTables};
+ghost use Rattle.pegnodes.specs.ByteTables.{AreByteTables, IsTabled};
 ghost use Rattle.pegnodes.specs.ChoiceTables.{IsChoiceTable};
 ghost use Rattle.pegnodes.specs.KeyLists.{marks_of, node_marks, tail_marks};
 ghost use Rattle.pegnodes.specs.KeyMarks.{AreMarks};
 ghost use Rattle.pegnodes.specs.NodeCounts.{node_counts};
 ghost use Rattle.pegnodes.specs.NodeLists.{AreNumbered};
-ghost use Rattle.pegnodes.specs.Nodes.{Act, Choice, Star, shapes_of, Spells};
+ghost use Rattle.pegnodes.specs.Nodes.{Act, Choice, Shape, shapes_of, Spells};
 ghost use Rattle.gramcheck.specs.Printing.{ArePrintMarks, Prints};
 ghost use Rattle.pegnodes.specs.RunTables.{IsTable};
 ghost use Rattle.pegnodes.specs.Slots.{AreCuts, IsCut};
@@ -233,14 +233,15 @@ impl SoundPeg {
         }
     }
 
-    /// Returns the table of the operand of the repetition that is the node of that number, if the grammar has one. Only
-    /// an operand of which some byte alone decides anything has one, and not each does in a grammar of very many.
-    pub fn run_table(&self, star: usize) -> Option<&RunTable>
-        ensures { IfSome result (λ t. (k : ℕ) → slice_get (shapes_of self.now.nodes) star ≡ Some (Star k)
-            → IsTable (shapes_of self.now.nodes) self.now.bodies (node_marks self.now.keys) (tail_marks self.now.keys)
-            k t.now.entries.items) }
+    /// Returns the table of the outcomes of the node of that number, if the grammar has one. Only an option or a
+    /// predicate has one; that of a repetition is of its operand. A node of which no byte alone decides anything has
+    /// none, and not each other one does in a grammar of very many.
+    pub fn run_table(&self, n: usize) -> Option<&RunTable>
+        ensures { IfSome result (λ t. (s : Shape) (k : ℕ) → slice_get (shapes_of self.now.nodes) n ≡ Some s
+            → IsTabled n s k → IsTable (shapes_of self.now.nodes) self.now.bodies (node_marks self.now.keys)
+            (tail_marks self.now.keys) k t.now.entries.items) }
     {
-        let place = self.by_byte.places.get(star)?;
+        let place = self.by_byte.places.get(n)?;
         match *place {
             Some(place) => self.by_byte.runs.get(usize::from(place)),
             None => None,

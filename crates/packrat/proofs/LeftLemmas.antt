@@ -192,7 +192,7 @@ module _ (g : Grammar) (x : List ℕ) where
   turned_costs true t fs gs is = subst (λ v. frames_cost Most v ≤ 1 + frames_cost Most fs) (sym is) (omega arith)
   turned_costs false t fs gs is = subst (λ v. frames_cost Most v ≤ 1 + frames_cost Most fs) (sym is) (omega arith)
 
-  waiting_costs : (key : Bool) (head : ℕ) (a : Spot) (fs gs : List Frame) → AreWaiting key head a fs gs
+  pub waiting_costs : (key : Bool) (head : ℕ) (a : Spot) (fs gs : List Frame) → AreWaiting key head a fs gs
       → frames_cost Most gs ≤ 1 + frames_cost Most fs
   waiting_costs key head a fs gs (inl is) =
       subst (λ v. frames_cost Most v ≤ 1 + frames_cost Most fs) (sym is) (omega arith)

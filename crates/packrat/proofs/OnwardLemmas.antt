@@ -121,6 +121,8 @@ module _ (g : Grammar) (x : List ℕ) (more : Bool) (some : WasEnough x more 0) 
   leaf_after n p tried (begun.Starts (start.Leads b c)) e k s d le h = absurd h
   leaf_after n p tried (begun.Starts (start.Passes b c)) e k s d le h = absurd h
   leaf_after n p tried (begun.Starts (start.Enters b)) e k s d le h = absurd h
+  leaf_after n p tried (begun.Knows b) e k s d le h = absurd h
+  leaf_after n p tried (begun.Takes b) e k s d le h = absurd h
   leaf_after n p tried (begun.Skips b) e k s d le h = absurd h
   leaf_after n p tried (begun.Repeats b) e k s d le h = absurd h
   leaf_after n p tried begun.Need e k s d le h = (

@@ -61,6 +61,16 @@ in_spots spot (s ∷ stored) i = elim (in_front i) [
   | inr e ↦ let r = in_spots spot stored e in (r.0, in_later r.1, r.2)
 ]
 
+-- where no key of the row stands at the place or beyond, the key is not stored
+pub not_beyond : (stored : List Stored) (spot : Spot)
+    → ((s : Stored) → IsIn s stored → row_of s.spot ≡ row_of spot → place_of s.spot < place_of spot)
+    → IsIn spot (spots_of stored) → ⊥
+not_beyond stored spot below i =
+    let r = in_spots spot stored i in
+    let less = below r.0 r.1 (ap row_of r.2) in
+    let place : place_of r.0.spot ≡ place_of spot = ap place_of r.2 in
+    omega (arith, less, place)
+
 pub fresh_above : (key : Bool) (m a n mark : ℕ) (stored : List Stored)
     → ((s : Stored) → IsIn s stored → row_of s.spot ≡ m → place_of s.spot < mark) → mark ≤ a
     → AreFresh key m a n (spots_of stored)

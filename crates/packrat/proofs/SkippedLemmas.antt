@@ -1,7 +1,7 @@
 -- A choice whose first alternatives the byte at its position decides to fail, where the loop skips them.
 -- Serves: Packrat::match_unit
-use Rattle.std.proofs.Common.{◌≡◌, ℕ, suc, ◌+◌, ◌<◌, ◌≤◌, Bool, true, false, List, ◌∷◌, ◌++◌, length}
-use Rattle.std.proofs.Common.{Some, None, refl, sym, subst, arith, inl, inr}
+use Rattle.std.proofs.Common.{◌≡◌, ℕ, suc, ◌+◌, ◌<◌, ◌≤◌, Bool, true, false, List, [], ◌∷◌, ◌++◌, length}
+use Rattle.std.proofs.Common.{Some, None, refl, sym, subst, arith, inl, inr, ◌∙◌}
 use Rattle.std.proofs.lemmas.Option.{slice_get_past, slice_get_within}
 use Rattle.std.specs.Prelude.{slice_get}
 use Rattle.pegread.specs.PegViews.{rules_of}
@@ -15,11 +15,11 @@ use Rattle.pegnodes.specs.KeyMarks.{AreMarks}
 use Rattle.pegnodes.specs.Nodes as node
 use Rattle.pegnodes.specs.Nodes.{Shape, shapes_of}
 use Rattle.pegnodes.specs.declared.by_byte.Verdict.{Verdict}
-use Rattle.pegnodes.specs.declared.by_byte.Verdict.TheVariants.{Fails}
+use Rattle.pegnodes.specs.declared.by_byte.Verdict.TheVariants.{Takes, Stays, Fails}
 use Rattle.pegmatch.specs.Answers.{WasEnough}
 use Rattle.memo.specs.KeyLog.{spots_of}
 use Rattle.memo.specs.Parts.{IsIn}
-use Rattle.memo.specs.declared.found.Found.TheVariants.{Failed}
+use Rattle.memo.specs.declared.found.Found.TheVariants.{Failed, Took}
 use Rattle.memo.specs.declared.key_log.Given.{Given}
 use Rattle.memo.specs.declared.key_log.Stored.{Stored}
 use Rattle.memo.specs.declared.spot.Spot.{Spot}
@@ -36,6 +36,12 @@ use Rattle.packrat.specs.declared.frames.Wait.TheVariants.{First}
 use Rattle.packrat.specs.Turns.{Turn, Ask, Answer}
 use Rattle.packrat.specs.declared.onward.Entering.{Entering}
 use Rattle.packrat.specs.declared.skips.Skips.{Skips}
+use Rattle.packrat.specs.declared.known.Known.{Known}
+use Rattle.packrat.specs.declared.known.Taken.{Taken}
+use Rattle.packrat.specs.Known.{IsKnown, IsTaken, taken_of}
+use Rattle.packrat.specs.ByteGives.{found_by}
+use Rattle.packrat.specs.SpotGives.{IsQuiet}
+use Rattle.packrat.proofs.ByteKidsLemmas.{by_byte_itself}
 use Rattle.packrat.proofs.ByteGivesLemmas.{gives_by, choice_has}
 use Rattle.packrat.proofs.LeftLemmas as T
 use Rattle.packrat.proofs.OnwardLemmas as M
@@ -75,6 +81,12 @@ pub passed_within : (g : Grammar) (x : List ℕ) (more : Bool) (marks : Marks) {
 passed_within g x more marks (inl f) = fail_within f.fail
 passed_within g x more marks (inr z) = let none = z.0 in omega (arith, none)
 
+-- what a byte decides leaves no events
+quiet_by : (v : Verdict) (p : ℕ) → IsQuiet (found_by v p) []
+quiet_by Takes p = tt
+quiet_by Stays p = tt
+quiet_by Fails p = refl
+
 abbrev failure : Given
 failure = record { found = Failed; events = 0 }
 
@@ -88,26 +100,27 @@ module _ (g : Grammar) (x : List ℕ) (more : Bool) (marks : Marks) (some : WasE
   SS root s = SpotSteps (rules_of g.rules) (shapes_of g.nodes) g.bodies x (node_marks marks) (tail_marks marks)
       (start_at Spot root) s
 
-  abbrev Decides : ℕ → ℕ → ℕ → Type 0
-  Decides b n d = ByByte (shapes_of g.nodes) g.bodies (node_marks marks) (tail_marks marks) b n Fails d
+  abbrev Decides : ℕ → ℕ → Verdict → ℕ → Type 0
+  Decides b n v d = ByByte (shapes_of g.nodes) g.bodies (node_marks marks) (tail_marks marks) b n v d
 
   module _ (p b : ℕ) (here : slice_get x p ≡ Some b) (last : more ≡ true → p + 1 < length x) where
-    -- the loop goes from a pair that the byte decides to fail to its end
-    pub stands_failed : (root : Spot) (n d : ℕ) (ls : List Frame) (st new : List Stored) (links : List Link) (count : ℕ)
-        → S root (Ask (Pair n p)) ls st links count → (node_marks marks n ≡ true → IsIn (Pair n p) (spots_of st) → ⊥)
-        → Decides b n d → IsClosed g x more marks links (Pair n p) failure st new
-        → S root (Answer failure) ls new links (count + d)
-    stands_failed root n d ls st new links count s fresh h c =
+    -- the loop goes from a pair that the byte decides to its end
+    pub stands_decided : (root : Spot) (n d : ℕ) (v : Verdict) (ls : List Frame) (st new : List Stored)
+        (links : List Link) (count : ℕ) → S root (Ask (Pair n p)) ls st links count
+        → (node_marks marks n ≡ true → IsIn (Pair n p) (spots_of st) → ⊥) → Decides b n v d
+        → IsClosed g x more marks links (Pair n p) (record { found = found_by v p; events = 0 }) st new
+        → S root (Answer (record { found = found_by v p; events = 0 })) ls new links (count + d)
+    stands_decided root n d v ls st new links count s fresh h c =
         let has = (L.asked_well g x more marks root (Pair n p) ls st links count s).0 in
         let own = gives_by (rules_of g.rules) g.start (shapes_of g.nodes) g.bodies g.ranks x sound (node_marks marks)
         (tail_marks marks) b p here h has in
         let come = decided_comes (rules_of g.rules) g.start (shapes_of g.nodes) g.bodies g.ranks x sound body is_body
-        (node_marks marks) (tail_marks marks) are b n p d Fails h here has s.levels (spots_of st) s.begun fresh in
-        let gives = L.given_none g x more marks links (Pair n p) Failed (
+        (node_marks marks) (tail_marks marks) are b n p d v h here has s.levels (spots_of st) s.begun fresh in
+        let gives = L.given_none g x more marks links (Pair n p) (found_by v p) (
           own.looked,
           own.gives,
           (λ is. let lt = last is in let within = own.within in omega (arith, lt, within)),
-          refl,
+          quiet_by v p,
         ) in
         let one = come.is in
         let two = s.is in
@@ -139,7 +152,7 @@ module _ (g : Grammar) (x : List ℕ) (more : Bool) (marks : Marks) (some : WasE
 
       -- from the tail of an alternative that fails to the next one
       skip_one : (i m d count : ℕ) → slice_get ms i ≡ Some m → tail_marks marks n i ≡ false
-          → node_marks marks m ≡ false → Decides b m d → suc i < length ms → S root (Ask (Tail n i p)) ls st links count
+          → node_marks marks m ≡ false → Decides b m Fails d → suc i < length ms → S root (Ask (Tail n i p)) ls st links count
           → S root (Ask (Tail n (suc i) p)) ls st links (count + d)
       skip_one i m d count there plain free h lt s =
           let w = tail_well i (omega (arith, lt)) in
@@ -148,7 +161,7 @@ module _ (g : Grammar) (x : List ℕ) (more : Bool) (marks : Marks) (some : WasE
           let down = L.stands_down g x more marks root (Tail n i p) ls st links count s (λ t. absurd (cc (t, plain)))
           (Pair m p) false (sym plain) ((node.Choice ms, at, (m, there, refl)), (has, well.1)) in
           let stays = L.closed_plain g x more marks links (Pair m p) failure st free in
-          let back = stands_failed root m d (record { spot = Tail n i p; key = false; wait = First } ∷ ls) st st links
+          let back = stands_decided root m d Fails (record { spot = Tail n i p; key = false; wait = First } ∷ ls) st st links
           (count + 0) down (λ t. absurd (cc (t, free))) h stays in
           subst (S root (Ask (Tail n (suc i) p)) ls st links) (omega arith)
           (L.stands_on g x more marks root (Tail n i p) failure ls st links ((count + 0) + d) false back
@@ -162,6 +175,40 @@ module _ (g : Grammar) (x : List ℕ) (more : Bool) (marks : Marks) (some : WasE
       skip_all count (fail_more {i = i} {m = m} {c = c} {d = d} f there plain (below free h)) lt s =
           subst (S root (Ask (Tail n (suc i) p)) ls st links) (omega arith)
           (skip_one i m d (count + c) there plain free h lt (skip_all count f (omega (arith, lt)) s))
+
+  -- the loop goes from a task that the byte decides to its end
+  pub stands_known : (root a : Spot) (known : Known) → IsKnown g x more marks a known → (ls : List Frame)
+      (st new : List Stored) (links : List Link) (count : ℕ) → S root (Ask a) ls st links count → (key : Bool)
+      → key ≡ key_of marks a → (key ≡ true → IsIn a (spots_of st) → ⊥)
+      → IsClosed g x more marks links a (record { found = known.found; events = 0 }) st new
+      → S root (Answer (record { found = known.found; events = 0 })) ls new links (count + known.pairs)
+  stands_known root (Pair n p) known h ls st new links count s key is fresh c =
+      subst (λ v. S root (Answer (record { found = v; events = 0 })) ls new links (count + known.pairs)) (sym h.found)
+      (stands_decided p h.byte h.here h.last root n known.pairs h.verdict ls st new links count s
+      (λ t. fresh (cc (is, t))) h.decides
+      (subst (λ v. IsClosed g x more marks links (Pair n p) (record { found = v; events = 0 }) st new) h.found c))
+  stands_known root (Tail n i p) known h ls st new links count s key is fresh c = absurd h
+
+  -- the loop goes from a repetition of one or more whose operand takes the byte to what goes on with it
+  pub stands_taken : (root : Spot) (t : Taken) → IsTaken g x more marks t → (ls mid : List Frame)
+      (st new : List Stored) (links : List Link) (count : ℕ) → S root (Ask (taken_of t)) ls st links count
+      → (key : Bool) → key ≡ key_of marks (taken_of t) → (key ≡ true → IsIn (taken_of t) (spots_of st) → ⊥)
+      → (node_marks marks t.operand ≡ true → IsIn (Pair t.operand t.place) (spots_of st) → ⊥)
+      → IsClosed g x more marks links (Pair t.operand t.place) (record { found = Took (t.place + 1); events = 0 }) st new
+      → AreWaiting key 0 (taken_of t) ls mid
+      → S root (Ask (Pair t.star (t.place + 1))) mid new links (count + (1 + t.pairs))
+  stands_taken root t h ls mid st new links count s key is fresh free c w =
+      let b = h.by_byte in
+      let well = L.asked_well g x more marks root (taken_of t) ls st links count s in
+      let down = L.stands_down g x more marks root (taken_of t) ls st links count s (λ k. fresh (is ∙ k))
+      (Pair t.operand t.place) key is h.led in
+      let taken = stands_decided t.place b.byte b.here b.last root t.operand t.pairs Takes
+      (record { spot = taken_of t; key = key; wait = First } ∷ ls) st new links (count + 1) down free b.takes c in
+      subst (S root (Ask (Pair t.star (t.place + 1))) mid new links) (omega arith)
+      (L.stands_on g x more marks root (taken_of t) (record { found = Took (t.place + 1); events = 0 }) ls new links
+      ((count + 1) + t.pairs) key taken (Pair t.star (t.place + 1)) mid
+      (M.plus_more g x more some sound t.plus t.operand t.place (Took (t.place + 1)) well t.star (t.place + 1) h.at refl)
+      w)
 
   module _ (root a : Spot) (s : Skips) (h : AreSkipped g x more marks a s) (ls : List Frame) (st : List Stored)
       (links : List Link) (count : ℕ) (t : S root (Ask a) ls st links count) (key : Bool)
@@ -229,7 +276,7 @@ module _ (g : Grammar) (x : List ℕ) (more : Bool) (marks : Marks) (some : WasE
           | inl f ↦
               let fail = subst (λ v. FailFirst (shapes_of g.nodes) g.bodies (node_marks marks) (tail_marks marks) f.byte
               h.node h.members v s.pairs) (sym all) f.fail in
-              stands_failed h.place f.byte f.here f.last root h.node (1 + s.pairs) ls st new links count asked_pair
+              stands_decided h.place f.byte f.here f.last root h.node (1 + s.pairs) Fails ls st new links count asked_pair
               pair_fresh (all_fail fail h.at) closed
           | inr z ↦
               let none = z.0 in
@@ -256,3 +303,22 @@ module _ (g : Grammar) (x : List ℕ) (more : Bool) (marks : Marks) where
     pub less_failed : left g x (Answer failure) ls now < left g x (Ask a) ls begun
     less_failed = subst (λ v. left g x (Answer failure) ls now < left g x (Ask v) ls begun) (sym h.spot)
         (T.less_ended g x h.node h.place failure ls begun now (1 + s.pairs) is (omega arith) le)
+
+  -- a task that the byte decides lowers what is left
+  pub less_known : IsSoundGrammar g → (a : Spot) (known : Known) → IsKnown g x more marks a known → IsWell g x a
+      → (given : Given) (ls : List Frame) (begun now : ℕ) → now ≡ begun + known.pairs → now ≤ most_begun g x
+      → left g x (Answer given) ls now < left g x (Ask a) ls begun
+  less_known sound (Pair n p) known h well given ls begun now is le =
+      let itself = by_byte_itself (rules_of g.rules) g.start (shapes_of g.nodes) g.bodies g.ranks x sound
+      (node_marks marks) (tail_marks marks) h.byte p h.here h.decides well.0 in
+      let some = itself.whole in
+      T.less_ended g x n p given ls begun now known.pairs is (omega (arith, some)) le
+  less_known sound (Tail n i p) known h well given ls begun now is le = absurd h
+
+  -- a repetition of one or more that goes on lowers what is left
+  pub less_taken : (t : Taken) (key : Bool) (ls mid : List Frame) (begun now : ℕ) → now ≡ begun + (1 + t.pairs)
+      → now ≤ most_begun g x → AreWaiting key 0 (taken_of t) ls mid
+      → left g x (Ask (Pair t.star (t.place + 1))) mid now < left g x (Ask (taken_of t)) ls begun
+  less_taken t key ls mid begun now is le w =
+      T.less_turns g x t.plus t.place t.star (t.place + 1) ls mid begun now (1 + t.pairs) is (omega arith) le
+      (T.waiting_costs g x key 0 (taken_of t) ls mid w)

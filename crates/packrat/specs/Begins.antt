@@ -5,10 +5,11 @@ use Rattle.pegnodes.specs.Nodes.{Star, shapes_of}
 use Rattle.pegmatch.specs.declared.leaves.Tried.{Tried}
 use Rattle.memo.specs.declared.spot.Spot.{Spot}
 use Rattle.memo.specs.declared.spot.Spot.TheVariants.{Pair}
+use Rattle.packrat.specs.Known.{IsKnown, IsTaken, taken_of}
 use Rattle.packrat.specs.Onward.{AfterStart, IsLed, ReachesEnd}
 use Rattle.packrat.specs.Skipped.{AreSkipped}
 use Rattle.packrat.specs.declared.onward.Begun.{Begun}
-use Rattle.packrat.specs.declared.onward.Begun.TheVariants.{Starts, Skips, Repeats, Need}
+use Rattle.packrat.specs.declared.onward.Begun.TheVariants.{Starts, Knows, Takes, Skips, Repeats, Need}
 use Rattle.packrat.specs.declared.onward.Repeated.{Repeated}
 use Rattle.packrat.specs.declared.onward.Start.TheVariants.{Gives, Marks, Leads, Passes, Enters}
 
@@ -24,6 +25,8 @@ module _ (g : Grammar) (x : List ℕ) (more : Bool) where
 
   abbrev pub AfterNone : Spot → Begun → Type 0
   AfterNone a (Starts s) = AfterStart g x more a s
+  AfterNone a (Knows known) = IsKnown g x more g.keys a known
+  AfterNone a (Takes t) = (a ≡ taken_of t) × IsTaken g x more g.keys t
   AfterNone a (Skips s) = AreSkipped g x more g.keys a s
   AfterNone a (Repeats r) = (a ≡ repeated_of r) × IsRepeated r
   AfterNone a Need = ReachesEnd g x more a
@@ -35,6 +38,8 @@ IsLeaf tried n more (Starts (Marks kept)) = ⊥
 IsLeaf tried n more (Starts (Leads k p)) = ⊥
 IsLeaf tried n more (Starts (Passes k p)) = ⊥
 IsLeaf tried n more (Starts (Enters e)) = ⊥
+IsLeaf tried n more (Knows known) = ⊥
+IsLeaf tried n more (Takes t) = ⊥
 IsLeaf tried n more (Skips s) = ⊥
 IsLeaf tried n more (Repeats r) = ⊥
 IsLeaf tried n more Need = (more ≡ true) × (tried.looked ≡ n)

@@ -8,6 +8,7 @@ pub mod ByteGives
 pub mod Onward
 pub mod Turned
 pub mod Skipped
+pub mod Known
 pub mod Begins
 pub mod Turns
 pub mod TurnsLeft

@@ -5,6 +5,7 @@
 mod byte_laws;
 mod events;
 mod frames;
+mod known;
 mod laws;
 mod machine;
 mod onward;

@@ -15,6 +15,7 @@ ghost use Rattle.packrat.specs.Turned.{AreDecided, AreFree, AreTurnedFrames, IsK
 ghost use Rattle.packrat.specs.Turns.{Ask, Answer, turn_of};
 ghost use Rattle.packrat.specs.TurnsLeft.{left, most_begun};
 ghost use Rattle.packrat.specs.Begins.{IsRepeated, repeated_of};
+ghost use Rattle.packrat.specs.Known.{IsKnown, IsTaken, taken_of};
 ghost use Rattle.packrat.specs.Onward.{AfterStart, IsWell};
 ghost use Rattle.packrat.specs.Stands.{Stands, IsClosed, AreOn, IsEvaluated, LowersLeft, key_of};
 ghost use Rattle.packrat.specs.Stands.{AreWaiting, IsWaitHead, IsEntered, IsJoined, GivenBy, AreGiven};
@@ -23,6 +24,7 @@ ghost use Rattle.packrat.specs.declared.frames.Wait.{Wait};
 
 use crate::events::EventLog;
 use crate::frames::{Frame, Frames, Wait};
+use crate::known::{Known, Taken};
 use crate::onward::{Begun, Entering, Onward, Repeated, Start, begin_node, go_on};
 use crate::skips::Skips;
 use crate::turns::{Turns, find_turns, is_fresh};
@@ -72,15 +74,60 @@ fn counted_skips(nodes: usize, length: usize, begun: u128, pairs: u32) -> u128
     begun + (1 + u128::from(pairs))
 }
 
-// Returns the memoized result of a task, if there is one.
+// Returns how many pairs are begun with those of a node that a byte decides.
 #[inline(always)]
-fn stored(log: &mut KeyLog, spot: Spot, key: bool) -> Result<Option<Given>, Memory>
+fn counted_known(nodes: usize, length: usize, begun: u128, pairs: u16) -> u128
+    requires { begun ≤ nodes * (length + 1) }
+    ensures { result ≡ begun + pairs }
+{
+    begun + u128::from(pairs)
+}
+
+// Returns the memoized result of a node at a position, if there is one. Most keys are new, which takes no call to see.
+#[inline(always)]
+fn stored_node(
+    log: &mut KeyLog,
+    node: usize,
+    place: usize,
+    key: bool,
+) -> Result<Option<Given>, Memory>
     ensures some { IfOk result (λ found. IfSome found (λ g. (key ≡ true)
-        × IsIn (record { spot = spot; given = g }) log.old.stored)) }
-    ensures none { IfOk result (λ found. IfNone found (key ≡ true → IsIn spot (spots_of log.old.stored) → ⊥)) }
+        × IsIn (record { spot = Spot.Pair node place; given = g }) log.old.stored)) }
+    ensures none { IfOk result (λ found. IfNone found (key ≡ true →
+        IsIn (Spot.Pair node place) (spots_of log.old.stored) → ⊥)) }
     ensures same { log.new ≡ log.old }
 {
-    if key { log.get(spot) } else { Ok(None) }
+    if !key {
+        return Ok(None);
+    }
+    if log.is_new(node, place) {
+        return Ok(None);
+    }
+    log.get(Spot::Pair { node, place })
+}
+
+// Returns the memoized result of the tail of a node from a member on at a position, likewise.
+#[inline(always)]
+fn stored_tail(
+    log: &mut KeyLog,
+    node: usize,
+    index: usize,
+    place: usize,
+    key: bool,
+) -> Result<Option<Given>, Memory>
+    ensures some { IfOk result (λ found. IfSome found (λ g. (key ≡ true)
+        × IsIn (record { spot = Spot.Tail node index place; given = g }) log.old.stored)) }
+    ensures none { IfOk result (λ found. IfNone found (key ≡ true →
+        IsIn (Spot.Tail node index place) (spots_of log.old.stored) → ⊥)) }
+    ensures same { log.new ≡ log.old }
+{
+    if !key {
+        return Ok(None);
+    }
+    if log.is_new(node, place) {
+        return Ok(None);
+    }
+    log.get(Spot::Tail { node, index, place })
 }
 
 // Ends a task with this result, which it stores if the task is a key.
@@ -130,14 +177,11 @@ fn enter(log: &mut KeyLog, frames: &mut Frames, entering: Entering) -> Result<Ne
     ensures same { log.new ≡ log.old }
     ensures entered { IfOk result (λ next. IsEntered log.old.stored entering frames.old frames.new (turn_of next)) }
 {
-    let tail = Spot::Tail {
-        node: entering.node,
-        index: entering.index,
-        place: entering.place,
-    };
-    if let Some(given) = stored(log, tail, entering.key)? {
+    let (node, index, place) = (entering.node, entering.index, entering.place);
+    if let Some(given) = stored_tail(log, node, index, place, entering.key)? {
         return Ok(Next::Answer(given));
     }
+    let tail = Spot::Tail { node, index, place };
     if entering.only {
         wait_last(frames, tail, entering.key, 0)?;
     } else {
@@ -483,6 +527,111 @@ impl Machine {
         }
     }
 
+    // Begins a node whose outcome the byte at its position decides, and returns that.
+    #[inline(always)]
+    fn end_known(
+        &mut self,
+        peg: &SoundPeg,
+        window: &[u8],
+        spot: Spot,
+        key: bool,
+        known: Known,
+    ) -> Result<Next, Memory>
+        requires sound { IsSoundGrammar peg.now }
+        requires keyed { IsKeyed peg.now }
+        requires well { IsWell peg.now window.now spot }
+        requires rows { self.old.log.rows ≡ length peg.now.nodes }
+        requires few { self.old.begun ≤ most_begun peg.now window.now }
+        ensures rows { OnOk result (self.new.log.rows ≡ length peg.now.nodes) }
+        ensures stands { (more : Bool) → WasEnough window.now more 0 →
+            IsKnown peg.now window.now more peg.now.keys spot known → (root : Spot) →
+            key ≡ key_of peg.now.keys spot → (key ≡ true → IsIn spot (spots_of self.old.log.stored) → ⊥) →
+            Stands peg.now window.now more peg.now.keys root (Ask spot) self.old.frames
+            self.old.log.stored self.old.events self.old.begun →
+            IfOk result (λ turn. Stands peg.now window.now more peg.now.keys root (turn_of turn)
+            self.new.frames self.new.log.stored self.new.events self.new.begun) }
+        ensures less { (more : Bool) → IsKnown peg.now window.now more peg.now.keys spot known →
+            self.new.begun ≤ most_begun peg.now window.now → IfOk result (λ turn.
+            left peg.now window.now (turn_of turn) self.new.frames self.new.begun
+            < left peg.now window.now (Ask spot) self.old.frames self.old.begun) }
+    {
+        self.begun = counted_known(peg.nodes(), window.len(), self.begun, known.pairs);
+        let given = Given {
+            found: known.found,
+            events: 0,
+        };
+        close(&mut self.log, peg, window, spot, key, given)?;
+        Ok(Next::Answer(given))
+    }
+
+    // Begins a repetition of one or more whose operand takes the byte at the position, and goes to what goes on with it,
+    // or to the operand if that may be stored.
+    #[inline(always)]
+    fn begin_plus(
+        &mut self,
+        peg: &SoundPeg,
+        window: &[u8],
+        key: bool,
+        taken: Taken,
+    ) -> Result<Next, Memory>
+        requires sound { IsSoundGrammar peg.now }
+        requires keyed { IsKeyed peg.now }
+        requires well { IsWell peg.now window.now (taken_of taken) }
+        requires operand { IsWell peg.now window.now (Spot.Pair taken.operand taken.place) }
+        requires before { taken.place < length window.now }
+        requires rows { self.old.log.rows ≡ length peg.now.nodes }
+        requires few { self.old.begun ≤ most_begun peg.now window.now }
+        ensures rows { OnOk result (self.new.log.rows ≡ length peg.now.nodes) }
+        ensures stands { (more : Bool) → WasEnough window.now more 0 →
+            IsTaken peg.now window.now more peg.now.keys taken → (root : Spot) →
+            key ≡ key_of peg.now.keys (taken_of taken) →
+            (key ≡ true → IsIn (taken_of taken) (spots_of self.old.log.stored) → ⊥) →
+            Stands peg.now window.now more peg.now.keys root (Ask (taken_of taken)) self.old.frames
+            self.old.log.stored self.old.events self.old.begun →
+            IfOk result (λ turn. Stands peg.now window.now more peg.now.keys root (turn_of turn)
+            self.new.frames self.new.log.stored self.new.events self.new.begun) }
+        ensures less { (more : Bool) → IsTaken peg.now window.now more peg.now.keys taken →
+            self.new.begun ≤ most_begun peg.now window.now → IfOk result (λ turn.
+            left peg.now window.now (turn_of turn) self.new.frames self.new.begun
+            < left peg.now window.now (Ask (taken_of taken)) self.old.frames self.old.begun) }
+    {
+        let spot = Spot::Pair {
+            node: taken.plus,
+            place: taken.place,
+        };
+        if !is_fresh(&self.log, peg, taken.operand, taken.place) {
+            let begun = counted(peg.nodes(), window.len(), self.begun, spot);
+            self.begun = begun;
+            self.frames.push(Frame {
+                spot,
+                key,
+                wait: Wait::First,
+            })?;
+            return Ok(Next::Ask {
+                node: taken.operand,
+                place: taken.place,
+            });
+        }
+        let end = taken.place + 1;
+        let pairs = u32::from(taken.pairs);
+        self.begun = counted_skips(peg.nodes(), window.len(), self.begun, pairs);
+        let operand = Spot::Pair {
+            node: taken.operand,
+            place: taken.place,
+        };
+        let given = Given {
+            found: Found::Took(end),
+            events: 0,
+        };
+        let stores = peg.is_key_node(taken.operand);
+        close(&mut self.log, peg, window, operand, stores, given)?;
+        wait_last(&mut self.frames, spot, key, 0)?;
+        Ok(Next::Ask {
+            node: taken.star,
+            place: end,
+        })
+    }
+
     // Evaluates a node at a position, or begins it and goes to a child. None if the window is too short.
     #[inline(always)]
     fn ask(
@@ -511,10 +660,12 @@ impl Machine {
     {
         let spot = Spot::Pair { node, place };
         let key = peg.is_key_node(node);
-        match stored(&mut self.log, spot, key)? {
+        match stored_node(&mut self.log, node, place, key)? {
             Some(given) => Ok(Some(Next::Answer(given))),
             None => match begin_node(peg, window, more, node, place) {
                 Begun::Starts(start) => Ok(Some(self.start_spot(peg, window, spot, key, start)?)),
+                Begun::Knows(known) => Ok(Some(self.end_known(peg, window, spot, key, known)?)),
+                Begun::Takes(taken) => Ok(Some(self.begin_plus(peg, window, key, taken)?)),
                 Begun::Skips(skips) => Ok(Some(self.run_skips(peg, window, spot, key, skips)?)),
                 Begun::Repeats(it) => Ok(Some(self.repeat(peg, window, more, key, it)?)),
                 Begun::Need => {

@@ -1,16 +1,18 @@
 //! How a task goes on: which result it has at once, and which children it asks for.
-ghost use Rattle.std.specs.Prelude.{◌≡◌, ◌<◌, Bool, List, length};
+ghost use Rattle.std.specs.Prelude.{◌≡◌, ◌<◌, Bool, false, List, length, slice_get, Some};
 ghost use Rattle.pegread.specs.PegViews.{rules_of};
 ghost use Rattle.gramcheck.specs.Grammar.{IsSoundGrammar};
-ghost use Rattle.pegnodes.specs.Nodes.{shapes_of};
+ghost use Rattle.pegnodes.specs.ByteTables.{IsTabled};
+ghost use Rattle.pegnodes.specs.Nodes.{Shape, shapes_of};
 ghost use Rattle.gramcheck.specs.Outcome.{Event};
 ghost use Rattle.pegmatch.specs.Answers.{WasEnough};
 ghost use Rattle.memo.specs.declared.spot.Spot.{Spot};
 ghost use Rattle.packrat.specs.Begins.{AfterNone, IsLeaf};
-ghost use Rattle.packrat.specs.Onward.{IsWell, AfterOne, entering_of};
+ghost use Rattle.packrat.specs.Onward.{IsWell, IsLed, AfterOne, entering_of};
 ghost use Rattle.packrat.specs.SpotGives.{SpotYields};
 ghost use Rattle.packrat.specs.SpotSteps.{IsFirst};
 
+use crate::known::{Known, Taken, known_at, taken_at};
 use crate::skips::{Skips, skips_at};
 use gramcheck::SoundPeg;
 use memo::{Found, Spot};
@@ -63,12 +65,16 @@ pub(crate) enum Start {
 /// The first step of a node at a position.
 ///
 /// - It is neither a choice nor a repetition, and has this step.
+/// - The byte at the position decides its outcome.
+/// - It is a repetition of one or more, and the byte at the position decides that its operand takes it.
 /// - It is a choice. Some of its first alternatives fail.
 /// - It is a repetition.
 /// - Its comparison reaches the last byte of a window that more bytes follow.
 #[derive(Clone, Copy)]
 pub(crate) enum Begun {
     Starts(Start),
+    Knows(Known),
+    Takes(Taken),
     Skips(Skips),
     Repeats(Repeated),
     Need,
@@ -123,6 +129,30 @@ fn leaf(tried: Tried, length: usize, more: bool) -> Begun
     Begun::Starts(Start::Gives(tried.found))
 }
 
+// Returns how an option or predicate of an operand begins at a position.
+#[inline(always)]
+fn tested(
+    peg: &SoundPeg,
+    window: &[u8],
+    more: bool,
+    node: usize,
+    operand: usize,
+    place: usize,
+) -> Begun
+    requires some { WasEnough window.now more 0 }
+    requires tabled { (s : Shape) × (slice_get (shapes_of peg.now.nodes) node ≡ Some s) × IsTabled node s node }
+    requires led { IsLed peg.now window.now more false (Spot.Pair node place) (Spot.Pair operand place) }
+    ensures { AfterNone peg.now window.now more (Spot.Pair node place) result }
+{
+    match known_at(peg, window, more, node, place) {
+        Some(known) => Begun::Knows(known),
+        None => Begun::Starts(Start::Leads {
+            node: operand,
+            place,
+        }),
+    }
+}
+
 /// Returns how a node begins at a position: its result, or the child that it asks for first.
 #[inline(always)]
 pub(crate) fn begin_node(
@@ -160,22 +190,22 @@ pub(crate) fn begin_node(
             operand: *operand,
             place,
         }),
-        Node::Not(operand) => Begun::Starts(Start::Leads {
-            node: *operand,
-            place,
-        }),
-        Node::Plus { operand, star: _ } => Begun::Starts(Start::Leads {
-            node: *operand,
-            place,
-        }),
-        Node::Opt(operand) => Begun::Starts(Start::Leads {
-            node: *operand,
-            place,
-        }),
-        Node::And(operand) => Begun::Starts(Start::Leads {
-            node: *operand,
-            place,
-        }),
+        Node::Not(operand) => tested(peg, window, more, node, *operand, place),
+        Node::Plus { operand, star } => match taken_at(peg, window, more, *star, place) {
+            Some(pairs) => Begun::Takes(Taken {
+                plus: node,
+                operand: *operand,
+                star: *star,
+                place,
+                pairs,
+            }),
+            None => Begun::Starts(Start::Leads {
+                node: *operand,
+                place,
+            }),
+        },
+        Node::Opt(operand) => tested(peg, window, more, node, *operand, place),
+        Node::And(operand) => tested(peg, window, more, node, *operand, place),
         Node::Act(_) => Begun::Starts(Start::Marks(Kept::Acted(node))),
         Node::Open => Begun::Starts(Start::Marks(Kept::Opened(place))),
         Node::Close => Begun::Starts(Start::Marks(Kept::Closed(place))),

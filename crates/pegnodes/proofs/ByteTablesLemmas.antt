@@ -1,13 +1,14 @@
--- Tables by the next byte of a grammar's repetitions and choices, added node by node.
+-- Tables by the next byte, added node by node.
 -- Serves: check_peg, SoundPeg::run_table, SoundPeg::choice_table
 use Rattle.std.proofs.Common.{◌≡◌, ◌⊎◌, ℕ, suc, zero, Option, List, [], ◌∷◌, ◌++◌, length, IfSome, Some, None}
 use Rattle.std.proofs.Common.{refl, sym, subst, ap, inl, inr, ⊎_elim, ◌∙◌, ◌<◌, get_or, MatchOption}
 use Rattle.std.specs.Prelude.{slice_get, Result, IfOk}
 use Rattle.std.proofs.lemmas.Result.{IfOk-weaker}
 use Rattle.std.proofs.lemmas.Option.{slice_get-get_or, get_or_from_slice_get}
-use Rattle.pegnodes.specs.ByteTables.{HasTable, IsRunTableOf, IsChoiceTableOf, HasByteTable, AreByteTables}
+use Rattle.pegnodes.specs.ByteTables.{HasTable, IsTabled, IsRunTableOf, IsChoiceTableOf, HasByteTable, AreByteTables}
 use Rattle.pegnodes.specs.KeyLists.{Marks}
-use Rattle.pegnodes.specs.Nodes.{Shape, Star, Choice}
+use Rattle.pegnodes.specs.Nodes.{Shape, Any, Bytes, Set, Name, Seq, Choice, Star, Plus, Opt, And, Not, Act, Open}
+use Rattle.pegnodes.specs.Nodes.{Close}
 use Rattle.pegnodes.specs.declared.choice_table.ChoiceTable.{ChoiceTable}
 use Rattle.pegnodes.specs.declared.run_table.RunTable.{RunTable}
 use Rattle.pegnodes.proofs.AreCutsLemmas.{get_before, get_new}
@@ -63,15 +64,34 @@ module _ {T : Type 0} (P : T → Type 0) where
   table_read tables place t has is =
       subst P (sym (is ∙ get_or_from_slice_get tables place has.table t has.there)) has.is_table
 
+-- one node alone is in a table
+tabled_once : (n : ℕ) (s : Shape) (j k : ℕ) → IsTabled n s j → IsTabled n s k → j ≡ k
+tabled_once n Any j k a b = absurd a
+tabled_once n (Bytes bs) j k a b = absurd a
+tabled_once n (Set s) j k a b = absurd a
+tabled_once n (Name id) j k a b = absurd a
+tabled_once n (Seq ms) j k a b = absurd a
+tabled_once n (Choice ms) j k a b = absurd a
+tabled_once n (Star m) j k a b = cc (a, b)
+tabled_once n (Plus m s) j k a b = absurd a
+tabled_once n (Opt m) j k a b = cc (a, b)
+tabled_once n (And m) j k a b = cc (a, b)
+tabled_once n (Not m) j k a b = cc (a, b)
+tabled_once n (Act t) j k a b = absurd a
+tabled_once n Open j k a b = absurd a
+tabled_once n Close j k a b = absurd a
+
 module _ (nodes : List Shape) (bodies : List ℕ) (marks : Marks) where
-  -- the place of a repetition's table, and of a choice's
-  pub run_placed : (runs : List RunTable) (choices : List ChoiceTable) (n k : ℕ) → slice_get nodes n ≡ Some (Star k)
-      → (place : ℕ) → HasTable (IsRunTableOf nodes bodies marks k) runs place
+  -- the place of the table of a node that is no choice, and of a choice's
+  pub run_placed : (runs : List RunTable) (choices : List ChoiceTable) (n k : ℕ) (s : Shape) → slice_get nodes n ≡ Some s
+      → IsTabled n s k → (place : ℕ) → HasTable (IsRunTableOf nodes bodies marks k) runs place
       → HasByteTable nodes bodies marks runs choices n place
-  run_placed runs choices n k at place h = record {
-    run = λ j is. let same : k ≡ j = cc (at, is) in
-        subst (λ m. HasTable (IsRunTableOf nodes bodies marks m) runs place) same h;
-    choice = λ ms is. absurd (cc (at, is));
+  run_placed runs choices n k s at tabled place h = record {
+    run = λ t j is other.
+        let same : s ≡ t = cc (at, is) in
+        let one : k ≡ j = tabled_once n t k j (subst (λ v. IsTabled n v k) same tabled) other in
+        subst (λ m. HasTable (IsRunTableOf nodes bodies marks m) runs place) one h;
+    choice = λ ms is. absurd (let same : s ≡ Choice ms = cc (at, is) in subst (λ v. IsTabled n v k) same tabled);
   }
 
   pub choice_placed : (runs : List RunTable) (choices : List ChoiceTable) (n : ℕ) (ms : List ℕ)
@@ -79,7 +99,7 @@ module _ (nodes : List Shape) (bodies : List ℕ) (marks : Marks) where
       → HasTable (IsChoiceTableOf nodes bodies marks n ms) choices place
       → HasByteTable nodes bodies marks runs choices n place
   choice_placed runs choices n ms at place h = record {
-    run = λ j is. absurd (cc (at, is));
+    run = λ t j is tabled. absurd (let same : t ≡ Choice ms = cc (at, is) in subst (λ v. IsTabled n v j) same tabled);
     choice = λ ks is. let same : ms ≡ ks = cc (at, is) in
         subst (λ m. HasTable (IsChoiceTableOf nodes bodies marks n m) choices place) same h;
   }
@@ -89,7 +109,8 @@ module _ (nodes : List Shape) (bodies : List ℕ) (marks : Marks) where
       → HasByteTable nodes bodies marks runs choices n place
       → HasByteTable nodes bodies marks new_runs new_choices n place
   tables_kept runs new_runs more choices new_choices others n place is_runs is_choices h = record {
-    run = λ k at. table_kept (IsRunTableOf nodes bodies marks k) runs new_runs more place is_runs (h.run k at);
+    run = λ s k at tabled.
+        table_kept (IsRunTableOf nodes bodies marks k) runs new_runs more place is_runs (h.run s k at tabled);
     choice = λ ms at. table_kept (IsChoiceTableOf nodes bodies marks n ms) choices new_choices others place is_choices
         (h.choice ms at);
   }

@@ -1,8 +1,9 @@
--- Tables by the next byte: of the operands of a grammar's repetitions, and of its choices.
+-- Tables by the next byte: of the operands of a grammar's repetitions, of its options and predicates, and of its choices.
 use Rattle.std.specs.Prelude.{◌≡◌, ℕ, List, Option, slice_get, Some}
 use Rattle.pegnodes.specs.ChoiceTables.{IsChoiceTable}
 use Rattle.pegnodes.specs.KeyLists.{Marks, node_marks, tail_marks}
-use Rattle.pegnodes.specs.Nodes.{Shape, Star, Choice}
+use Rattle.pegnodes.specs.Nodes.{Shape, Any, Bytes, Set, Name, Seq, Choice, Star, Plus, Opt, And, Not, Act, Open}
+use Rattle.pegnodes.specs.Nodes.{Close}
 use Rattle.pegnodes.specs.RunTables.{IsTable}
 use Rattle.pegnodes.specs.declared.choice_table.ChoiceTable.{ChoiceTable}
 use Rattle.pegnodes.specs.declared.run_table.RunTable.{RunTable}
@@ -13,8 +14,25 @@ pub record HasTable {T : Type 0} (P : T → Type 0) (tables : List T) (place : �
   pub there : slice_get tables place ≡ Some table
   pub is_table : P table
 
+-- the node whose outcomes are in the table of node n of this shape: a repetition's operand; or an option or predicate
+abbrev pub IsTabled : ℕ → Shape → ℕ → Type 0
+IsTabled n Any k = ⊥
+IsTabled n (Bytes bs) k = ⊥
+IsTabled n (Set s) k = ⊥
+IsTabled n (Name id) k = ⊥
+IsTabled n (Seq ms) k = ⊥
+IsTabled n (Choice ms) k = ⊥
+IsTabled n (Star m) k = k ≡ m
+IsTabled n (Plus m s) k = ⊥
+IsTabled n (Opt m) k = k ≡ n
+IsTabled n (And m) k = k ≡ n
+IsTabled n (Not m) k = k ≡ n
+IsTabled n (Act t) k = ⊥
+IsTabled n Open k = ⊥
+IsTabled n Close k = ⊥
+
 module _ (nodes : List Shape) (bodies : List ℕ) (marks : Marks) where
-  -- the table of a repetition's operand
+  -- the table of a node's outcomes
   abbrev pub IsRunTableOf : ℕ → RunTable → Type 0
   IsRunTableOf k table = IsTable nodes bodies (node_marks marks) (tail_marks marks) k table.entries.items
 
@@ -23,9 +41,9 @@ module _ (nodes : List Shape) (bodies : List ℕ) (marks : Marks) where
   IsChoiceTableOf n ms table = IsChoiceTable nodes bodies (node_marks marks) (tail_marks marks) n ms
       table.entries.items
 
-  -- the place of a node's table: among those of the repetitions if the node is one, else among those of the choices
+  -- the place of a node's table: among those of the choices if the node is one, else among the others
   pub record HasByteTable (runs : List RunTable) (choices : List ChoiceTable) (n place : ℕ) : Type 0 where
-    pub run : (k : ℕ) → slice_get nodes n ≡ Some (Star k) → HasTable (IsRunTableOf k) runs place
+    pub run : (s : Shape) (k : ℕ) → slice_get nodes n ≡ Some s → IsTabled n s k → HasTable (IsRunTableOf k) runs place
     pub choice : (ms : List ℕ) → slice_get nodes n ≡ Some (Choice ms) → HasTable (IsChoiceTableOf n ms) choices place
 
   -- of each node the place of its table, if it has one

@@ -1,8 +1,9 @@
-//! Tables by the next byte: of the operands of a grammar's repetitions, and of its choices.
-ghost use Rattle.std.specs.Prelude.{◌≡◌, ◌++◌, ℕ, List, IfOk, IfSome, slice_get, Some};
+//! Tables by the next byte: of the operands of a grammar's repetitions, of its options and predicates, and of its choices.
+ghost use Rattle.std.specs.Prelude.{◌≡◌, ◌≤◌, ◌++◌, ℕ, List, IfOk, IfSome, slice_get, true, Some};
 ghost use Rattle.pegnodes.specs.ByteTables.{AreByteTables, HasByteTable, HasTable, IsChoiceTableOf, IsRunTableOf};
+ghost use Rattle.pegnodes.specs.ByteTables.{IsTabled};
 ghost use Rattle.pegnodes.specs.Decides.{marks_in};
-ghost use Rattle.pegnodes.specs.Nodes.{Choice, shapes_of};
+ghost use Rattle.pegnodes.specs.Nodes.{Choice, shape_of, shapes_of};
 ghost use Rattle.pegnodes.specs.declared.choice_table.ChoiceTable.{ChoiceTable};
 ghost use Rattle.pegnodes.specs.declared.run_table.RunTable.{RunTable};
 
@@ -14,14 +15,20 @@ use crate::run_table::RunTable;
 use ruletable::Memory;
 use std::alloc::Global;
 
-// How many tables of repetitions a grammar has at most, and how many of choices. A table takes up to 2 KB and some
-// microseconds, so a grammar of more repetitions or choices runs the others without.
+// How many tables of choices a grammar has at most. A table takes up to 2 KB and some microseconds, so a grammar of more
+// choices runs the others without.
 const MOST_TABLES: usize = 256;
 
-// A choice whose node has this number or a greater one has no table, so that a grammar of very many rules starts soon.
+// How many tables there are, of repetitions and of options and predicates, after which no repetition gets one. The
+// others get none after `MOST_TABLES`.
+const MOST_RUNS: usize = 512;
+
+// A node of this number or a greater one that is no repetition has no table, so that a grammar of very many rules
+// starts soon.
 const MOST_NODES: usize = 4000;
 
-/// The tables of a grammar's repetitions and of its choices, and of each node the place of its table, if it has one.
+/// The tables of a grammar's choices, and of its repetitions, options and predicates; and of each node the place of its
+/// table, if it has one.
 #[derive(Drop)]
 pub struct ByteTables {
     pub runs: Vec<RunTable>,
@@ -29,22 +36,24 @@ pub struct ByteTables {
     pub places: Vec<Option<u16>>,
 }
 
-// Adds the table of a repetition's operand, if the table is of use, and returns its place.
+// Adds the table of a node's outcomes to fewer than `most`, if the table is of use, and returns its place.
 fn add_run(
     alloc: Global,
     grammar: &MarkedNodes<'_>,
-    operand: usize,
+    n: usize,
+    most: usize,
     runs: &mut Vec<RunTable>,
 ) -> Result<Option<u16>, Memory>
+    requires { most ≤ 512 }
     ensures kept { IfOk result (λ _. (more : List RunTable) × (runs.new.items ≡ runs.old.items ++ more)) }
     ensures added { IfOk result (λ added. IfSome added (HasTable (IsRunTableOf (shapes_of grammar.now.nodes.now)
-        grammar.now.bodies.now (marks_in grammar.now) operand) runs.new.items)) }
+        grammar.now.bodies.now (marks_in grammar.now) n) runs.new.items)) }
 {
     let place = runs.len();
-    if place >= MOST_TABLES {
+    if place >= most {
         return Ok(None);
     }
-    let table = RunTable::new(alloc, grammar, operand)?;
+    let table = RunTable::new(alloc, grammar, n)?;
     if !table.decides_some() {
         return Ok(None);
     }
@@ -91,6 +100,26 @@ fn add_choice(
     Ok(Some(place as u16))
 }
 
+// Returns whether a node is an option or a predicate.
+fn is_test(node: &Node) -> bool
+    ensures { result ≡ true → (n : ℕ) → IsTabled n (shape_of node.now) n }
+{
+    match node {
+        Node::Opt(_) | Node::And(_) | Node::Not(_) => true,
+        Node::Any
+        | Node::Bytes(_)
+        | Node::Set(_)
+        | Node::Name(_)
+        | Node::Seq(_)
+        | Node::Choice(_)
+        | Node::Star(_)
+        | Node::Plus { .. }
+        | Node::Act(_)
+        | Node::Open
+        | Node::Close => false,
+    }
+}
+
 // Adds the table of a node, if it has one, and returns its place.
 fn add_table(
     alloc: Global,
@@ -106,19 +135,27 @@ fn add_table(
         grammar.now.bodies.now (marks_in grammar.now) tables.new.runs.items tables.new.choices.items n)) }
 {
     match grammar.nodes.get(n) {
-        Some(Node::Star(operand)) => add_run(alloc, grammar, *operand, &mut tables.runs),
+        Some(Node::Star(operand)) => {
+            add_run(alloc, grammar, *operand, MOST_RUNS, &mut tables.runs)
+        }
         Some(Node::Choice(alternatives)) => {
             if n >= MOST_NODES {
                 return Ok(None);
             }
             add_choice(alloc, grammar, alternatives, &mut tables.choices)
         }
-        _ => Ok(None),
+        Some(node) => {
+            if n >= MOST_NODES || !is_test(node) {
+                return Ok(None);
+            }
+            add_run(alloc, grammar, n, MOST_TABLES, &mut tables.runs)
+        }
+        None => Ok(None),
     }
 }
 
-/// Makes the tables of the operands of a grammar's repetitions, of those of which some byte decides anything, and of
-/// the choices of which some byte decides that the first alternative fails.
+/// Makes the tables of the operands of a grammar's repetitions, and of its options and predicates, of those of which
+/// some byte decides anything; and of the choices of which some byte decides that the first alternative fails.
 ///
 /// # Errors
 /// `Memory` if an allocation fails.

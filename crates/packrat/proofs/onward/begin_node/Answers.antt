@@ -85,29 +85,54 @@ returns-in-Star c =
     let like = has_shape _ _ well.0.1 (shape.Star c.in-Star.operand) here in
     (refl, (here, ((shape.Star c.in-Star.operand, here, refl), ((like.0, like.2), well.1))))
 
-pub returns-in-Not : goal.returns-in-Not
-returns-in-Not c =
+pub tested-requires-clause-tabled : goal.tested-requires-clause-tabled
+tested-requires-clause-tabled c =
+    (shape.Not c.in-Not.operand, shape_at c.args.peg.now.nodes c.args.node _ (c.node.ensures ∙ ap Some c.in-Not.is), refl)
+
+pub tested-requires-clause-led : goal.tested-requires-clause-led
+tested-requires-clause-led c =
     let here = shape_at c.args.peg.now.nodes c.args.node _ (c.node.ensures ∙ ap Some c.in-Not.is) in
     let well = c.requires.well in
     let like = has_shape _ _ well.0.1 (shape.Not c.in-Not.operand) here in
-    (((shape.Not c.in-Not.operand, here, refl), ((like.0, like.2), well.1)))
+    ((shape.Not c.in-Not.operand, here, refl), ((like.0, like.2), well.1))
 
-pub returns-in-Opt : goal.returns-in-Opt
-returns-in-Opt c =
+pub tested-requires-in-Opt-clause-tabled : goal.tested-requires-in-Opt-clause-tabled
+tested-requires-in-Opt-clause-tabled c =
+    (shape.Opt c.in-Opt.operand, shape_at c.args.peg.now.nodes c.args.node _ (c.node.ensures ∙ ap Some c.in-Opt.is), refl)
+
+pub tested-requires-in-Opt-clause-led : goal.tested-requires-in-Opt-clause-led
+tested-requires-in-Opt-clause-led c =
     let here = shape_at c.args.peg.now.nodes c.args.node _ (c.node.ensures ∙ ap Some c.in-Opt.is) in
     let well = c.requires.well in
     let like = has_shape _ _ well.0.1 (shape.Opt c.in-Opt.operand) here in
-    (((shape.Opt c.in-Opt.operand, here, refl), ((like.0, like.2), well.1)))
+    ((shape.Opt c.in-Opt.operand, here, refl), ((like.0, like.2), well.1))
 
-pub returns-in-And : goal.returns-in-And
-returns-in-And c =
+pub tested-requires-in-And-clause-tabled : goal.tested-requires-in-And-clause-tabled
+tested-requires-in-And-clause-tabled c =
+    (shape.And c.in-And.operand, shape_at c.args.peg.now.nodes c.args.node _ (c.node.ensures ∙ ap Some c.in-And.is), refl)
+
+pub tested-requires-in-And-clause-led : goal.tested-requires-in-And-clause-led
+tested-requires-in-And-clause-led c =
     let here = shape_at c.args.peg.now.nodes c.args.node _ (c.node.ensures ∙ ap Some c.in-And.is) in
     let well = c.requires.well in
     let like = has_shape _ _ well.0.1 (shape.And c.in-And.operand) here in
-    (((shape.And c.in-And.operand, here, refl), ((like.0, like.2), well.1)))
+    ((shape.And c.in-And.operand, here, refl), ((like.0, like.2), well.1))
 
-pub returns-in-Plus : goal.returns-in-Plus
-returns-in-Plus c =
+pub returns-in-Some : goal.returns-in-Some
+returns-in-Some c =
+    let here = shape_at c.args.peg.now.nodes c.args.node _ (c.node.ensures ∙ ap Some c.in-Plus.is) in
+    let well = c.requires.well in
+    let like = has_shape _ _ well.0.1 (shape.Plus c.in-Plus.operand c.in-Plus.star) here in (
+      refl,
+      record {
+        at = here;
+        led = ((shape.Plus c.in-Plus.operand c.in-Plus.star, here, refl), ((like.0, like.2), well.1));
+        by_byte = c.in-Some.ensures c.in-Plus.operand like.3;
+      },
+    )
+
+pub returns-in-None : goal.returns-in-None
+returns-in-None c =
     let here = shape_at c.args.peg.now.nodes c.args.node _ (c.node.ensures ∙ ap Some c.in-Plus.is) in
     let well = c.requires.well in
     let like = has_shape _ _ well.0.1 (shape.Plus c.in-Plus.operand c.in-Plus.star) here in

@@ -1,10 +1,11 @@
-use Rattle.std.proofs.Common.{refl}
+use Rattle.std.proofs.Common.{refl, arith}
+use Rattle.pegnodes.specs.Nodes.{Star}
 use Rattle.packrat.proofs.TurnedLemmas.{closing_stops, turned_to}
 use Rattle.packrat.proofs.turns.find_turns.Goals as goal
 
 pub returns-in-Some : goal.returns-in-Some
 returns-in-Some c =
-    let table = c.in_ok-table.ensures c.args.operand c.requires.at in (
+    let table = c.in_ok-table.ensures (Star c.args.operand) c.args.operand c.requires.at refl in (
       (
         c.run-run.result.pairs,
         turned_to c.args.peg.now c.args.window.now c.args.more c.args.peg.now.keys c.args.star c.args.operand
@@ -18,6 +19,23 @@ returns-in-Some c =
               c.in-Some.ensures,
           c.in_ok-summed.ensures,
         ),
+      ),
+      refl,
+      refl,
+      refl,
+    )
+
+pub returns : goal.returns
+returns c =
+    let table = c.in_ok-table.ensures (Star c.args.operand) c.args.operand c.requires.at refl in
+    let low = c.run-run.ensures.low in
+    let other = c.if-run-from.false in (
+      (
+        c.run-run.result.pairs,
+        turned_to c.args.peg.now c.args.window.now c.args.more c.args.peg.now.keys c.args.star c.args.operand
+            c.args.from c.sure_end-to.result c.in_ok-table.table.now.entries.items c.run-run.result c.requires.at
+            c.requires.spelled c.sure_end-to.ensures.within c.sure_end-to.ensures.last table c.run-run.ensures,
+        (omega (arith, low, other), refl),
       ),
       refl,
       refl,

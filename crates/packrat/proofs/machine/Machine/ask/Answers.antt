@@ -1,6 +1,8 @@
 use Rattle.std.proofs.Common.{◌+◌, refl, sym, subst, ◌∙◌}
 use Rattle.packrat.specs.Stands.{NeedsMore}
 use Rattle.packrat.specs.View.{weight}
+use Rattle.std.proofs.lemmas.Option.{slice_get_within}
+use Rattle.packrat.specs.Onward.{IsWell}
 use Rattle.packrat.proofs.StandsLemmas as L
 use Rattle.packrat.proofs.LeftLemmas as M
 use Rattle.memo.specs.declared.spot.Spot.TheVariants.{Pair}
@@ -29,9 +31,21 @@ returns-in-Need-clause-stands c = λ root s.
     let same = c.in_ok-given.ensures.same in
     let none = rw c.in-None.is at c.in_ok-given.ensures.none in
     subst (λ v. NeedsMore c.args.peg.now c.args.window.now c.args.more c.args.peg.now.keys root
-    c.stored.new.log.stored v) (sym c.counted-begun.ensures)
+    c.stored_node.new.log.stored v) (sym c.counted-begun.ensures)
     (subst (λ v. NeedsMore c.args.peg.now c.args.window.now c.args.more c.args.peg.now.keys root v.stored
     (c.args.self.now.begun + weight (Pair c.args.node c.args.place))) (sym same)
     (L.stands_need c.args.peg.now c.args.window.now c.args.more c.args.peg.now.keys root
     (Pair c.args.node c.args.place) c.args.self.now.frames c.args.self.now.log.stored c.args.self.now.events
     c.args.self.now.begun s (λ t. none (c.is_key_node-key.ensures ∙ t)) c.in-Need.ensures))
+
+pub begin_plus-requires-clause-well : goal.begin_plus-requires-clause-well
+begin_plus-requires-clause-well c =
+    subst (IsWell c.args.peg.now c.args.window.now) c.in-Takes.ensures.0 c.requires.well
+
+pub begin_plus-requires-clause-operand : goal.begin_plus-requires-clause-operand
+begin_plus-requires-clause-operand c = c.in-Takes.ensures.1.led.1
+
+pub begin_plus-requires-clause-before : goal.begin_plus-requires-clause-before
+begin_plus-requires-clause-before c =
+    let b = c.in-Takes.ensures.1.by_byte in
+    slice_get_within c.args.window.now c.in-Takes.taken.place b.byte b.here

@@ -1,0 +1,111 @@
+//! Nodes whose outcome, or whose operand's, the byte at their position decides.
+ghost use Rattle.std.specs.Prelude.{◌≡◌, ℕ, ◌+◌, ◌^◌, ◌<◌, length, IfSome, slice_get, Some};
+ghost use Rattle.pegmatch.specs.Answers.{WasEnough};
+ghost use Rattle.pegnodes.specs.ByteTables.{IsTabled};
+ghost use Rattle.pegnodes.specs.Nodes.{Shape, Star, shapes_of};
+ghost use Rattle.packrat.specs.ByteGives.{found_by};
+ghost use Rattle.packrat.specs.Known.{IsDecidedAt, IsKnownAt, IsTakenAt};
+
+use crate::turns::sure_end;
+use gramcheck::SoundPeg;
+use memo::Found;
+use pegnodes::{Decided, Verdict};
+
+/// The outcome of a node, which leaves no events, and how many pairs begin with it.
+#[derive(Clone, Copy)]
+pub(crate) struct Known {
+    pub(crate) found: Found,
+    pub(crate) pairs: u16,
+}
+
+/// A repetition of one or more, at a position whose byte its operand takes.
+#[derive(Clone, Copy)]
+pub(crate) struct Taken {
+    /// The node of the repetition.
+    pub(crate) plus: usize,
+    /// The node of its operand.
+    pub(crate) operand: usize,
+    /// The node that goes on with it.
+    pub(crate) star: usize,
+    /// The position, in bytes from the front of the window.
+    pub(crate) place: usize,
+    /// How many pairs begin with the operand.
+    pub(crate) pairs: u16,
+}
+
+// Returns the outcome at a position that a verdict says.
+#[inline(always)]
+fn found_at(verdict: Verdict, place: usize) -> Found
+    requires { place + 1 < 2 ^ 64 }
+    ensures { result ≡ found_by verdict place }
+{
+    match verdict {
+        Verdict::Takes => Found::Took(place + 1),
+        Verdict::Stays => Found::Took(place),
+        Verdict::Fails => Found::Failed,
+    }
+}
+
+// Returns what the byte at a position decides by the table of a node, if it has one.
+#[inline(always)]
+fn decided_at(
+    peg: &SoundPeg,
+    window: &[u8],
+    more: bool,
+    node: usize,
+    place: usize,
+) -> Option<Decided>
+    requires { WasEnough window.now more 0 }
+    ensures decided { IfSome result (λ d. (s : Shape) (k : ℕ) →
+        slice_get (shapes_of peg.now.nodes) node ≡ Some s → IsTabled node s k →
+        IsDecidedAt peg.now window.now more peg.now.keys k place d) }
+    ensures before { IfSome result (λ d. place < length window.now) }
+{
+    if place >= sure_end(window, more) {
+        return None;
+    }
+    let table = peg.run_table(node)?;
+    table.decided(window[place])
+}
+
+/// Returns the outcome of an option or predicate, if the byte at the position decides it.
+#[inline(always)]
+pub(crate) fn known_at(
+    peg: &SoundPeg,
+    window: &[u8],
+    more: bool,
+    node: usize,
+    place: usize,
+) -> Option<Known>
+    requires some { WasEnough window.now more 0 }
+    requires tabled { (s : Shape) × (slice_get (shapes_of peg.now.nodes) node ≡ Some s) × IsTabled node s node }
+    ensures { IfSome result (IsKnownAt peg.now window.now more peg.now.keys node place) }
+{
+    let decided = decided_at(peg, window, more, node, place)?;
+    Some(Known {
+        found: found_at(decided.verdict, place),
+        pairs: decided.count,
+    })
+}
+
+/// Returns how many pairs begin with the operand of a repetition, if the byte at the position decides that the operand
+/// takes it.
+#[inline(always)]
+pub(crate) fn taken_at(
+    peg: &SoundPeg,
+    window: &[u8],
+    more: bool,
+    star: usize,
+    place: usize,
+) -> Option<u16>
+    requires some { WasEnough window.now more 0 }
+    ensures { IfSome result (λ pairs. (k : ℕ) → slice_get (shapes_of peg.now.nodes) star ≡ Some (Star k) →
+        IsTakenAt peg.now window.now more peg.now.keys k place pairs) }
+{
+    let decided = decided_at(peg, window, more, star, place)?;
+    match decided.verdict {
+        Verdict::Takes => Some(decided.count),
+        Verdict::Stays => None,
+        Verdict::Fails => None,
+    }
+}
