@@ -19,6 +19,7 @@ pub(crate) struct Engines {
 
 impl Engines {
     /// Returns whether a flat grammar derives symbols, no more than it serves. `Memory` if an allocation fails.
+    #[inline(always)]
     pub(crate) fn judge<L: Letter>(&mut self, flat: &Flat, line: &[L]) -> Result<bool, Memory>
         requires within { length line.now ≤ flat.now.limit }
         requires flat { IfSome self.old.automaton (λ a. a ≡ flat.now) }
@@ -34,6 +35,7 @@ impl Engines {
     }
 
     /// Returns the verdict of a flat grammar on symbols, no more than it serves. `Memory` if an allocation fails.
+    #[inline(always)]
     pub(crate) fn viable<L: Letter>(&mut self, flat: &Flat, line: &[L]) -> Result<Verdict, Memory>
         requires within { length line.now ≤ flat.now.limit }
         requires flat { IfSome self.old.automaton (λ a. a ≡ flat.now) }

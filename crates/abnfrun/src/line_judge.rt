@@ -2,6 +2,7 @@
 ghost use Rattle.std.specs.Prelude.{◌≡◌, ◌≤◌, ◌+◌, ℕ, Bool, List, false, true, length, map, IfOk, IfSome, is_some};
 ghost use Rattle.abnfread.specs.Element.{Rule};
 ghost use Rattle.abnfread.specs.AbnfViews.{rules_of};
+ghost use Rattle.abnfcheck.specs.Derivable.{AreLetters};
 ghost use Rattle.abnfrun.specs.AbnfReply.{IsAnswerTo, form_of};
 ghost use Rattle.abnfrun.specs.OpenJudge.{ExplainsLines};
 ghost use Rattle.abnfrun.specs.LetterAnswers.{IsAnswerOn, torn};
@@ -83,21 +84,21 @@ pub fn lines_have_answers()
 }
 
 /// Returns the answer to the symbols of a line, no more than the flat grammar serves. `Memory` if an allocation fails.
+#[inline(always)]
 fn judge_letters<L: Letter>(
     judges: &LineJudge<'_>,
     engines: &mut Engines,
     line: &[L],
 ) -> Result<Answer, Memory>
-    requires letters { judges.now.letters ≡ L.ALPHABET }
+    requires letters { AreLetters (has judges.now.letters) (map L.number line.now) }
     requires within { length line.now ≤ judges.now.flat.now.limit }
     requires flat { IfSome engines.old.automaton (λ a. a ≡ judges.now.flat.now) }
     ensures flat { IfSome engines.new.automaton (λ a. a ≡ judges.now.flat.now) }
-    ensures answer { IfOk result (IsAnswerOn (has L.ALPHABET) judges.now.viable (rules_of judges.now.grammar.now.rules)
-        judges.now.grammar.now.judged (map L.number line.now)) }
+    ensures answer { IfOk result (IsAnswerOn (has judges.now.letters) judges.now.viable
+        (rules_of judges.now.grammar.now.rules) judges.now.grammar.now.judged (map L.number line.now)) }
 {
     derivation_is_decided();
     furthest_is_found();
-    values_are_letters(line);
     items_tell();
     if judges.viable {
         return match engines.viable(judges.flat, line)? {
@@ -134,11 +135,14 @@ fn judge_torn(judges: &LineJudge<'_>, work: &mut Work, line: &[u8]) -> Result<An
 {
     let len = utf8_len(line);
     let _is_text = decode(&line[..len], &mut work.points)?;
-    let said = judge_letters(judges, &mut work.engines, work.points.as_slice())?;
+    let points = work.points.as_slice();
+    values_are_letters(points);
+    let said = judge_letters(judges, &mut work.engines, points)?;
     Ok(torn_by(said, work.points.len()))
 }
 
-/// Returns the answer to a line of code points. `Memory` if an allocation fails.
+/// Returns the answer to a line of code points, which are the bytes where the line is ASCII. `Memory` if an allocation
+/// fails.
 fn judge_points(judges: &LineJudge<'_>, work: &mut Work, line: &[u8]) -> Result<Answer, Memory>
     requires letters { judges.now.letters ≡ Alphabet.Utf8 }
     requires within { length line.now ≤ judges.now.flat.now.limit }
@@ -148,9 +152,14 @@ fn judge_points(judges: &LineJudge<'_>, work: &mut Work, line: &[u8]) -> Result<
         judges.now.grammar.now.judged line.now) }
 {
     utf8_is_decided();
+    if line.is_ascii() {
+        return judge_letters(judges, &mut work.engines, line);
+    }
     let is_text = decode(line, &mut work.points)?;
     if is_text {
-        return judge_letters(judges, &mut work.engines, work.points.as_slice());
+        let points = work.points.as_slice();
+        values_are_letters(points);
+        return judge_letters(judges, &mut work.engines, points);
     }
     if judges.viable {
         return judge_torn(judges, work, line);
@@ -204,7 +213,10 @@ impl Judge<Work> for LineJudge<'_> {
 
     fn judge(&self, work: &mut Work, line: &[u8]) -> Result<Answer, Memory> {
         match self.letters {
-            Alphabet::Bytes => judge_letters(self, &mut work.engines, line),
+            Alphabet::Bytes => {
+                values_are_letters(line);
+                judge_letters(self, &mut work.engines, line)
+            }
             Alphabet::Utf8 => judge_points(self, work, line),
         }
     }

@@ -4,10 +4,12 @@ use Rattle.std.proofs.Common.{◌≡◌, ℕ, zero, suc, ◌+◌, ◌-◌, ◌*�
 use Rattle.std.proofs.Common.{length, refl, sym, ◌∙◌, ap, subst, arith, ◌⊎◌, inl, inr, add-zero}
 use Rattle.std.proofs.lemmas.Bool.{cases_lt}
 use Rattle.std.proofs.lemmas.Option.{slice_get_within}
-use Rattle.std.specs.Prelude.{slice_get, Some}
+use Rattle.std.specs.Prelude.{slice_get, Some, if◌then◌else◌}
 use Rattle.flatgrammar.specs.NodeSteps.{flat_of}
 use Rattle.flatgrammar.specs.TableViews.{GiveRoots}
 use Rattle.flatgrammar.specs.declared.tables.Tables as code_flat
+use Rattle.flatgrammar.specs.declared.verdict.Verdict.{Verdict}
+use Rattle.flatgrammar.specs.declared.verdict.Verdict.TheVariants.{Yes, No}
 use Rattle.lazydfa.specs.declared.conts.Cont.{Cont}
 use Rattle.lazydfa.specs.declared.cache.State.{State}
 use Rattle.lazydfa.specs.declared.cache.Cell.{Cell}
@@ -17,13 +19,14 @@ use Rattle.lazydfa.specs.Cached.{AreCached, IsCell}
 use Rattle.letterclasses.specs.ClassBounds.{AreClasses, IsClassOf}
 use Rattle.lazydfa.specs.declared.memo.Memo.{Memo}
 use Rattle.lazydfa.specs.Hops.{IsEndAt, IsHopTo, IsTaken, StaysBy, StaysOver, last_word}
-use Rattle.lazydfa.specs.Memos.{IsMemo, IsOver, IsSettled, IsTrack}
-use Rattle.lazydfa.specs.RunVerdicts.{IsReached}
+use Rattle.lazydfa.specs.Memos.{IsEndOf, IsMemo, IsOver, IsSettled, IsTrack}
+use Rattle.lazydfa.specs.RunVerdicts.{IsReached, IsRunVerdict}
 use Rattle.lazydfa.specs.StackParts.{below_of}
 use Rattle.lazydfa.proofs.ContsLemmas.{kept_same}
 use Rattle.lazydfa.proofs.AreCachedLemmas.{grown_same, row_is, class_is}
 use Rattle.lazydfa.proofs.IsAtLemmas.{some_at, step_to, step_reached}
 use Rattle.lazydfa.proofs.IsOverLemmas.{over_kept, plain_below, settled_running}
+use Rattle.lazydfa.proofs.IsRunVerdictLemmas.{end_verdict}
 
 -- by a letter that is known to lead to a state
 module _ (tables : code_flat.Tables) (roots : GiveRoots (flat_of tables) tables.roots.items) (samples : List ℕ)
@@ -235,6 +238,19 @@ module _ (tables : code_flat.Tables) (samples : List ℕ) (memo : Memo) (x : Lis
       subst (λ v. IsSettled tables memo.cache.conts.items.items memo.cache.states.items memo.parts.items v x j)
       (sym (row_is track.state 0 (length samples + 1) row (omega arith) first) ∙ ap (λ v. row / v) (sym wide))
       track.runs
+
+  -- .. and ended tells the verdict at the end of the line
+  pub end_told : IsMemo tables samples memo → (row j n : ℕ) (ended : Bool) → j ≡ length x → n ≡ length x
+      → IsTrack tables samples memo x (record { row = row; at = j }) → IsEndOf samples memo row ended
+      → (verdict : Verdict) → verdict ≡ (if ended then Yes else No n)
+      → IsRunVerdict (flat_of tables) (last_of tables) x verdict
+  end_told is_memo row j n ended end is_n track ends verdict is =
+      subst (λ v. IsRunVerdict (flat_of tables) (last_of tables) x v) (sym is)
+      (end_verdict tables memo.cache.conts.items.items memo.cache.states.items track.state x j
+      (below_of memo.cache.conts.items.items memo.parts.items) track.runs.over.at
+      (plain_below memo.cache.conts.items.items memo.parts.items track.runs.over.at.state.ended track.runs.plain) end
+      track.reached n is_n ended (ends tables is_memo track.state track.row track.runs.over.at.state
+      track.runs.over.at.is))
 
 pub row_state : (s row stride n : ℕ) → stride ≡ n + 1 → row ≡ s * (n + 1) → row / stride ≡ s
 row_state s row stride n wide place =

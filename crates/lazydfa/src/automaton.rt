@@ -14,7 +14,7 @@ use crate::chains::Chains;
 use crate::close::Ids;
 use crate::conts::Conts;
 use crate::memo::Memo;
-use crate::run::run;
+use crate::run::{ClassTable, run};
 use flatgrammar::{Flat, Node, Tables, Verdict};
 use letterclasses::{Classes, find_classes};
 use letters::Letter;
@@ -56,7 +56,7 @@ impl Model for Automaton {
 
     ghost invariant = { λ a. (GiveRoots (flat_of a.tables.value) a.tables.value.roots.items) × (AreUncounted (flat_of
         a.tables.value)) × (IsOne (flat_of a.tables.value)) × (AreClasses (flat_of a.tables.value)
-        a.classes.low.items a.classes.samples.items) × (IsMemo a.tables.value a.classes.samples.items a.memo) };
+        a.classes.low a.classes.samples.items) × (IsMemo a.tables.value a.classes.samples.items a.memo) };
 }
 
 // Returns whether turns that take a letter are counted at a node.
@@ -95,6 +95,7 @@ fn is_one(tables: &Tables) -> bool
 }
 
 // Returns whether a verdict is yes.
+#[inline(always)]
 fn is_yes(verdict: Verdict) -> bool
     ensures { IsTrue result ↔ (verdict ≡ Verdict.Yes) }
 {
@@ -173,6 +174,7 @@ impl Automaton {
 
     /// Returns whether the flat grammar derives a line, as `earley::judge` does; `None` if that takes more time or
     /// memory than there is for states. `Memory` if an allocation fails; the states of earlier lines may be lost then.
+    #[inline(always)]
     pub fn judge<L: Letter>(&mut self, line: &[L]) -> Result<Option<bool>, Memory>
         ensures same { self.new ≡ self.old }
         ensures answer { IfOk result (λ told. IfSome told (λ yes. IsTrue yes ↔ DerivesLine self.old
@@ -185,18 +187,15 @@ impl Automaton {
     }
 
     /// Returns the verdict of the flat grammar on a line, as `earley::viable` does; `None` and `Memory` as `judge`.
+    #[inline(always)]
     pub fn viable<L: Letter>(&mut self, line: &[L]) -> Result<Option<Verdict>, Memory>
         ensures same { self.new ≡ self.old }
         ensures verdict { IfOk result (λ told. IfSome told (IsFlatVerdict self.old (map L.number line.now))) }
     {
-        let classes = &self.classes;
-        run(
-            self.alloc,
-            &self.tables,
-            &classes.low,
-            &classes.samples,
-            &mut self.memo,
-            line,
-        )
+        let classes = ClassTable {
+            low: &self.classes.low,
+            samples: &self.classes.samples,
+        };
+        run(self.alloc, &self.tables, classes, &mut self.memo, line)
     }
 }

@@ -4,21 +4,23 @@
 /// count as one more.
 pub(crate) const ROOM: usize = 2_000_000;
 
-/// A symbol earns `TURNS` turns until `GIFT` turns were earned, and then one.
+/// A symbol earns one turn, and `TURNS` more until those are `GIFT`.
 const TURNS: usize = 1024;
 
 const GIFT: usize = 2_097_152;
 
 /// Bounds the time and the memory of an automaton.
 ///
-/// `turns` bounds time: filling a cell spends one for each id that it visits, and each symbol of a line earns some.
+/// Turns bound time: filling a cell spends one for each id that it visits, and each symbol of a line earns some.
 /// `tops` and `room` bound memory. A cell is filled only if both have enough left; else the line gets no verdict.
 #[derive(Drop)]
 pub(crate) struct Budget {
-    /// How many turns fills may still spend.
+    /// How many turns there are before a line is read.
     turns: usize,
-    /// How many turns symbols may still earn together, beside one each.
-    gift: usize,
+    /// How many symbols the lines have had.
+    letters: usize,
+    /// How many turns fills have spent.
+    spent: usize,
     /// The number of tops of all states, with four more for each state and each unfold.
     tops: usize,
     /// How many entries may be kept.
@@ -32,23 +34,30 @@ impl Budget {
     pub(crate) fn of(nodes: usize, room: usize) -> Budget {
         Budget {
             turns: nodes.saturating_mul(128).saturating_add(65_536),
-            gift: GIFT,
+            letters: 0,
+            spent: 0,
             tops: 0,
             room,
             is_shut: false,
         }
     }
 
-    /// Adds the earnings of `letters` symbols.
+    /// Counts the symbols of a line.
+    #[inline(always)]
     pub(crate) fn earn(&mut self, letters: usize) {
-        let more = letters.saturating_mul(TURNS).min(self.gift);
-        self.gift = self.gift.saturating_sub(more);
-        self.turns = self.turns.saturating_add(more).saturating_add(letters);
+        self.letters = self.letters.saturating_add(letters);
     }
 
-    /// Subtracts spent turns.
+    /// Counts spent turns.
     pub(crate) fn spend(&mut self, turns: usize) {
-        self.turns = self.turns.saturating_sub(turns);
+        self.spent = self.spent.saturating_add(turns);
+    }
+
+    // Returns how many turns are left.
+    fn left(&self) -> usize {
+        let gift = self.letters.saturating_mul(TURNS).min(GIFT);
+        let earned = self.turns.saturating_add(gift).saturating_add(self.letters);
+        earned.saturating_sub(self.spent)
     }
 
     /// Notes a new state with so many tops, or an unfold, which has none.
@@ -58,6 +67,6 @@ impl Budget {
 
     /// Returns whether so many turns may be spent while there are so many continuations and cells.
     pub(crate) fn allows(&self, turns: usize, entries: usize) -> bool {
-        !self.is_shut && turns <= self.turns && (self.tops / 4).saturating_add(entries) < self.room
+        !self.is_shut && turns <= self.left() && (self.tops / 4).saturating_add(entries) < self.room
     }
 }

@@ -1,5 +1,5 @@
 //! The inner loop of a run: it fills no cell, and pushes or puts back no part.
-ghost use Rattle.std.specs.Prelude.{◌≡◌, ◌≤◌, ◌<◌, ◌+◌, ◌^◌, IsTrue, length, map};
+ghost use Rattle.std.specs.Prelude.{◌≡◌, ◌≤◌, ◌<◌, ◌+◌, ◌^◌, [], IsTrue, length, map};
 ghost use Rattle.lazydfa.specs.Memos.{GlidesOver};
 ghost use Rattle.lazydfa.specs.Hops.{StaysBy, StaysOver};
 
@@ -22,7 +22,7 @@ pub(crate) struct Track {
 
 // Returns whether a letter leads from the state of a row to that state.
 #[inline(always)]
-fn stays<L: Letter>(hops: &[u32], low: &[usize], samples: &[u32], letter: L, row: usize) -> bool
+fn stays<L: Letter>(hops: &[u32], low: &[u8; 256], samples: &[u32], letter: L, row: usize) -> bool
     ensures { IsTrue result → StaysBy low.now samples.now hops.now row (L.number letter) }
 {
     leads_back(hops, row, class_of(low, samples, letter.value()))
@@ -32,7 +32,7 @@ fn stays<L: Letter>(hops: &[u32], low: &[usize], samples: &[u32], letter: L, row
 #[inline(always)]
 fn stay_four<L: Letter>(
     hops: &[u32],
-    low: &[usize],
+    low: &[u8; 256],
     samples: &[u32],
     line: &[L],
     from: Track,
@@ -58,7 +58,7 @@ fn stay_four<L: Letter>(
 #[inline(always)]
 fn stay_on<L: Letter>(
     hops: &[u32],
-    low: &[usize],
+    low: &[u8; 256],
     samples: &[u32],
     line: &[L],
     from: Track,
@@ -80,11 +80,41 @@ fn stay_on<L: Letter>(
     at
 }
 
-/// Runs over symbols of a line while their transitions are cached and no part is pushed or put back, and returns
-/// where that stops.
-pub(crate) fn glide<L: Letter>(
+// Runs as `glide` does where no part is below, and tries no state's stay.
+#[inline(always)]
+fn glide_bare<L: Letter>(
     memo: &Memo,
-    low: &[usize],
+    low: &[u8; 256],
+    samples: &[u32],
+    line: &[L],
+    from: Track,
+) -> Track
+    requires bare { memo.now.parts.items ≡ [] }
+    requires within { from.at ≤ length line.now }
+    ensures within { result.at ≤ length line.now }
+    ensures further { from.at ≤ result.at }
+    ensures glides { GlidesOver low.now samples.now memo.now (map L.number line.now) from result }
+{
+    let hops = memo.hops.as_slice();
+    let mut track = from;
+    while track.at < line.len() {
+        let class = class_of(low, samples, line[track.at].value());
+        let Some(row) = next_row(hops, samples.len(), true, track.row, class) else {
+            return track;
+        };
+        track = Track {
+            row,
+            at: track.at + 1,
+        };
+    }
+    track
+}
+
+// Runs as `glide` does, over parts too, and over four symbols at a time where a state stays in a long line.
+#[inline(never)]
+fn glide_on<L: Letter>(
+    memo: &Memo,
+    low: &[u8; 256],
     samples: &[u32],
     line: &[L],
     from: Track,
@@ -114,4 +144,25 @@ pub(crate) fn glide<L: Letter>(
         };
     }
     track
+}
+
+/// Runs over symbols of a line while their transitions are cached and no part is pushed or put back, and returns
+/// where that stops.
+#[inline(always)]
+pub(crate) fn glide<L: Letter>(
+    memo: &Memo,
+    low: &[u8; 256],
+    samples: &[u32],
+    line: &[L],
+    from: Track,
+) -> Track
+    requires within { from.at ≤ length line.now }
+    ensures within { result.at ≤ length line.now }
+    ensures further { from.at ≤ result.at }
+    ensures glides { GlidesOver low.now samples.now memo.now (map L.number line.now) from result }
+{
+    if line.len() < LONG && memo.parts.len() == 0 {
+        return glide_bare(memo, low, samples, line, from);
+    }
+    glide_on(memo, low, samples, line, from)
 }

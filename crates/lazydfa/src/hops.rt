@@ -107,9 +107,21 @@ fn end_word(state: &State) -> u32
     if state.ended { 1 } else { 0 }
 }
 
-/// Keeps that a class leads from a state to another, and whether that has ended, if that is not known and the place of
-/// its row is below 2 ^ 32. `Memory` if an allocation fails.
-pub(crate) fn note_hop(
+// Returns whether the word of a state and a class says something.
+#[inline(always)]
+fn is_noted(hops: &[u32], classes: usize, state: usize, class: usize) -> bool {
+    let Some(at) = spot(state, classes.wrapping_add(1), class) else {
+        return false;
+    };
+    match hops.get(at) {
+        Some(known) => *known < PLACES,
+        None => false,
+    }
+}
+
+// Keeps a hop as `note_hop` does, also where it is known.
+#[inline(never)]
+fn write_hop(
     cache: &Cache,
     classes: usize,
     hops: &mut Vec<u32>,
@@ -129,10 +141,6 @@ pub(crate) fn note_hop(
     let (Some(at), Some(row)) = (spot(state, stride, class), spot(to, stride, 0)) else {
         return Ok(());
     };
-    match hops.get(at) {
-        Some(known) if *known < PLACES => return Ok(()),
-        _ => {}
-    }
     let (Ok(word), Some(last)) = (u32::try_from(row), row.checked_add(classes)) else {
         return Ok(());
     };
@@ -142,4 +150,24 @@ pub(crate) fn note_hop(
     put_hop(hops, at, word)?;
     put_hop(hops, last, end_word(there))?;
     Ok(())
+}
+
+/// Keeps that a class leads from a state to another, and whether that has ended, if that is not known and the place of
+/// its row is below 2 ^ 32. `Memory` if an allocation fails.
+#[inline(always)]
+pub(crate) fn note_hop(
+    cache: &Cache,
+    classes: usize,
+    hops: &mut Vec<u32>,
+    state: usize,
+    class: usize,
+    to: usize,
+) -> Result<(), Memory>
+    ensures { IfOk result (λ done. AreHopsNoted cache.now.states.items classes state class to hops.old.items
+        hops.new.items) }
+{
+    if is_noted(hops, classes, state, class) {
+        return Ok(());
+    }
+    write_hop(cache, classes, hops, state, class, to)
 }

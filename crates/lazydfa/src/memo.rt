@@ -65,6 +65,7 @@ fn hash_of_pair(state: usize, part: usize) -> usize {
 }
 
 // Returns the state of a state and a part, if it is found in its chain; the entry k + 1 is of unfold k.
+#[inline(always)]
 fn find(unfolds: &[Unfold], chains: &Chains, state: usize, part: usize) -> Option<usize>
     ensures { IfSome result (IsKnown unfolds.now state part) }
 {
@@ -130,8 +131,35 @@ fn state_over(
     Ok(Some(t))
 }
 
+// Makes the state of a state that has ended and the part below it, as `unfolded` does where that is not known.
+#[inline(never)]
+fn unfold_anew(
+    alloc: Global,
+    tables: &Tables,
+    samples: &[u32],
+    memo: &mut Memo,
+    state: usize,
+    part: usize,
+) -> Result<Option<usize>, Memory>
+    requires memo { IsMemo tables.now samples.now memo.old }
+    ensures memo { IfOk result (λ told. IsMemo tables.now samples.now memo.new) }
+    ensures grows { IfOk result (λ told. Grows memo.old.cache memo.new.cache) }
+    ensures parts { memo.new.parts ≡ memo.old.parts }
+    ensures is { IfOk result (λ told. IfSome told (IsUnfold tables.now memo.new.cache.conts.items.items
+        memo.new.cache.states.items state part)) }
+{
+    let told = state_over(alloc, tables, samples, &mut memo.cache, state, part)?;
+    let Some(to) = told else {
+        return Ok(None);
+    };
+    memo.unfolds.push(Unfold { state, part, to })?;
+    chain_last(&memo.unfolds, &mut memo.chains)?;
+    Ok(Some(to))
+}
+
 /// Returns the state of a state that has ended and the part below it; `None` if that takes more than there may be.
 /// `Memory` if an allocation fails.
+#[inline(always)]
 pub(crate) fn unfolded(
     alloc: Global,
     tables: &Tables,
@@ -150,11 +178,5 @@ pub(crate) fn unfolded(
     if let Some(to) = find(&memo.unfolds, &memo.chains, state, part) {
         return Ok(Some(to));
     }
-    let told = state_over(alloc, tables, samples, &mut memo.cache, state, part)?;
-    let Some(to) = told else {
-        return Ok(None);
-    };
-    memo.unfolds.push(Unfold { state, part, to })?;
-    chain_last(&memo.unfolds, &mut memo.chains)?;
-    Ok(Some(to))
+    unfold_anew(alloc, tables, samples, memo, state, part)
 }

@@ -5,7 +5,7 @@ ghost use Rattle.flatgrammar.specs.NodeSteps.{flat_of};
 ghost use Rattle.flatgrammar.specs.TableViews.{GiveRoots};
 ghost use Rattle.lazydfa.specs.Conts.{AreKept, AreOlder, last_of};
 ghost use Rattle.lazydfa.specs.Cached.{IsCache, IsCell, Grows, IsStart, IsStartAt};
-ghost use Rattle.lazydfa.specs.Memos.{IsEndOf, IsMemo, IsStepTaken, RunsAt, RunsOver};
+ghost use Rattle.lazydfa.specs.Memos.{IsEndOf, IsMemo, IsStepTaken, IsTrack, RunsAt, RunsOver};
 ghost use Rattle.letterclasses.specs.ClassBounds.{AreClasses, IsClassOf};
 ghost use Rattle.lazydfa.specs.declared.cache.State.{State};
 ghost use Rattle.lazydfa.specs.RunVerdicts.{IsRunVerdict};
@@ -49,32 +49,48 @@ fn first_front(
     Ok(Some(Front { tops, ended }))
 }
 
-/// Returns the number of the start state, and makes it on first use; `None` if the budget does not allow it.
-fn begin(
+/// Makes the start state, where there is no state, and returns whether the budget allows it. `Memory` if an allocation
+/// fails.
+#[cold]
+#[inline(never)]
+fn make_start(
     alloc: Global,
     tables: &Tables,
     samples: &[u32],
     cache: &mut Cache,
-) -> Result<Option<usize>, Memory>
+) -> Result<bool, Memory>
     requires cached { IsCache tables.now samples.now cache.old }
-    ensures cached { IfOk result (λ told. IsCache tables.now samples.now cache.new) }
-    ensures grows { IfOk result (λ told. Grows cache.old cache.new) }
-    ensures is { IfOk result (λ told. IfSome told (IsStartAt tables.now cache.new.conts.items.items
-        cache.new.states.items)) }
+    ensures cached { IfOk result (λ made. IsCache tables.now samples.now cache.new) }
+    ensures grows { IfOk result (λ made. Grows cache.old cache.new) }
+    ensures is { IfOk result (λ made. IsTrue made → IsStartAt tables.now cache.new.conts.items.items
+        cache.new.states.items 0) }
 {
-    if cache.states.len() > 0 {
-        return Ok(Some(0));
-    }
     if !may_fill(cache) {
-        return Ok(None);
+        return Ok(false);
     }
     let told = first_front(alloc, tables, &mut cache.conts, &mut cache.ids)?;
     let Some(front) = told else {
         cache.budget.is_shut = true;
-        return Ok(None);
+        return Ok(false);
     };
-    let t = state_of(cache, samples.len(), front)?;
-    Ok(Some(t))
+    state_of(cache, samples.len(), front)?;
+    Ok(true)
+}
+
+/// Returns whether there is a start state, which has the number 0 and is made on first use; `false` if the budget does
+/// not allow it. `Memory` if an allocation fails.
+#[inline(always)]
+fn begin(alloc: Global, tables: &Tables, samples: &[u32], cache: &mut Cache) -> Result<bool, Memory>
+    requires cached { IsCache tables.now samples.now cache.old }
+    ensures cached { IfOk result (λ made. IsCache tables.now samples.now cache.new) }
+    ensures grows { IfOk result (λ made. Grows cache.old cache.new) }
+    ensures is { IfOk result (λ made. IsTrue made → IsStartAt tables.now cache.new.conts.items.items
+        cache.new.states.items 0) }
+{
+    if cache.states.len() > 0 {
+        return Ok(true);
+    }
+    make_start(alloc, tables, samples, cache)
 }
 
 /// Returns the cell of a state and a class, which is filled if it is not known.
@@ -175,6 +191,7 @@ fn take_step(
 }
 
 /// Prepares a memo for a line of `letters` symbols.
+#[inline(always)]
 fn prepare(memo: &mut Memo, letters: usize)
     ensures conts { memo.new.cache.conts.items ≡ memo.old.cache.conts.items }
     ensures states { memo.new.cache.states ≡ memo.old.cache.states }
@@ -188,6 +205,7 @@ fn prepare(memo: &mut Memo, letters: usize)
 }
 
 // Returns the verdict of a run that came to a line's end.
+#[inline(always)]
 fn verdict_at_end(ended: bool, letters: usize) -> Verdict
     ensures { result ≡ (if ended then Verdict.Yes else Verdict.No letters) }
 {
@@ -209,32 +227,38 @@ fn ends_at(memo: &Memo, samples: &[u32], row: usize) -> bool
     }
 }
 
-/// Runs over a line. Returns `Yes` if the augmented start may end after it, or else the length of its longest viable
-/// prefix in symbols; `None` if that exceeds a bound. `Memory` if an allocation fails.
-fn follow<L: Letter>(
+/// The classes of symbols.
+#[derive(Clone, Copy)]
+pub(crate) struct ClassTable<'a> {
+    /// Of each number below 256 its class.
+    pub(crate) low: &'a [u8; 256],
+    /// Of each class its first number.
+    pub(crate) samples: &'a [u32],
+}
+
+/// Goes on with a run over a line, as `follow` does, from where a glide stopped.
+#[inline(never)]
+fn go_on<L: Letter>(
     alloc: Global,
     tables: &Tables,
-    low: &[usize],
-    samples: &[u32],
+    classes: ClassTable<'_>,
     memo: &mut Memo,
     line: &[L],
+    from: Track,
 ) -> Result<Option<Verdict>, Memory>
     requires roots { GiveRoots (flat_of tables.now) tables.now.roots.items }
-    requires classes { AreClasses (flat_of tables.now) low.now samples.now }
-    requires memo { IsMemo tables.now samples.now memo.old }
-    ensures memo { IfOk result (λ told. IsMemo tables.now samples.now memo.new) }
+    requires classes { AreClasses (flat_of tables.now) classes.low.now classes.samples.now }
+    requires memo { IsMemo tables.now classes.samples.now memo.old }
+    requires within { from.at ≤ length line.now }
+    requires tracks { IsTrack tables.now classes.samples.now memo.old (map L.number line.now) from }
+    ensures memo { IfOk result (λ told. IsMemo tables.now classes.entry.samples.now memo.new) }
     ensures told { IfOk result (λ told. IfSome told (IsRunVerdict (flat_of tables.now) (last_of tables.now)
         (map L.number line.now))) }
 {
-    prepare(memo, line.len());
-    let Some(first) = begin(alloc, tables, samples, &mut memo.cache)? else {
-        return Ok(None);
-    };
+    let low = classes.low;
+    let samples = classes.samples;
     let stride = samples.len() + 1;
-    let Some(row) = spot(first, stride, 0) else {
-        return Ok(None);
-    };
-    let mut track = glide(memo, low, samples, line, Track { row, at: 0 });
+    let mut track = from;
     while track.at < line.len() {
         let class = class_of(low, samples, line[track.at].value());
         match take_step(alloc, tables, samples, memo, track.row / stride, class)? {
@@ -259,23 +283,52 @@ fn follow<L: Letter>(
     Ok(Some(verdict_at_end(ends_at(memo, samples, track.row), line.len())))
 }
 
-/// Runs over a line as `follow` does. If an allocation fails, it empties the memo and returns `Memory`.
-pub(crate) fn run<L: Letter>(
+/// Runs over a line. Returns `Yes` if the augmented start may end after it, or else the length of its longest viable
+/// prefix in symbols; `None` if that exceeds a bound. `Memory` if an allocation fails.
+#[inline(always)]
+fn follow<L: Letter>(
     alloc: Global,
     tables: &Tables,
-    low: &[usize],
-    samples: &[u32],
+    classes: ClassTable<'_>,
     memo: &mut Memo,
     line: &[L],
 ) -> Result<Option<Verdict>, Memory>
     requires roots { GiveRoots (flat_of tables.now) tables.now.roots.items }
-    requires classes { AreClasses (flat_of tables.now) low.now samples.now }
-    requires memo { IsMemo tables.now samples.now memo.old }
-    ensures memo { IsMemo tables.now samples.now memo.new }
+    requires classes { AreClasses (flat_of tables.now) classes.low.now classes.samples.now }
+    requires memo { IsMemo tables.now classes.samples.now memo.old }
+    ensures memo { IfOk result (λ told. IsMemo tables.now classes.entry.samples.now memo.new) }
     ensures told { IfOk result (λ told. IfSome told (IsRunVerdict (flat_of tables.now) (last_of tables.now)
         (map L.number line.now))) }
 {
-    match follow(alloc, tables, low, samples, memo, line) {
+    let samples = classes.samples;
+    prepare(memo, line.len());
+    if !begin(alloc, tables, samples, &mut memo.cache)? {
+        return Ok(None);
+    }
+    let track = glide(memo, classes.low, samples, line, Track { row: 0, at: 0 });
+    if track.at < line.len() {
+        return go_on(alloc, tables, classes, memo, line, track);
+    }
+    Ok(Some(verdict_at_end(ends_at(memo, samples, track.row), line.len())))
+}
+
+/// Runs over a line as `follow` does. If an allocation fails, it empties the memo and returns `Memory`.
+#[inline(always)]
+pub(crate) fn run<L: Letter>(
+    alloc: Global,
+    tables: &Tables,
+    classes: ClassTable<'_>,
+    memo: &mut Memo,
+    line: &[L],
+) -> Result<Option<Verdict>, Memory>
+    requires roots { GiveRoots (flat_of tables.now) tables.now.roots.items }
+    requires classes { AreClasses (flat_of tables.now) classes.low.now classes.samples.now }
+    requires memo { IsMemo tables.now classes.samples.now memo.old }
+    ensures memo { IsMemo tables.now classes.entry.samples.now memo.new }
+    ensures told { IfOk result (λ told. IfSome told (IsRunVerdict (flat_of tables.now) (last_of tables.now)
+        (map L.number line.now))) }
+{
+    match follow(alloc, tables, classes, memo, line) {
         Ok(told) => Ok(told),
         Err(error) => {
             forget_all(memo);

@@ -2,9 +2,11 @@
 -- Serves: new, judge, viable.
 use Rattle.std.proofs.Common.{◌≡◌, ℕ, zero, suc, ◌+◌, ◌-◌, ◌<◌, ◌≤◌, ◌^◌, true, false, List, [], ◌∷◌, ◌++◌}
 use Rattle.std.proofs.Common.{length, map, refl, sym, ◌∙◌, ap, subst, arith, ◌⊎◌, inl, inr, ◌↔◌, get_or, leb, leb-true}
-use Rattle.std.proofs.Common.{leb-false, length-append, eqb}
+use Rattle.std.proofs.Common.{set}
+use Rattle.std.proofs.Common.{leb-false, eqb}
 use Rattle.std.proofs.lemmas.Bool.{cases_lt}
-use Rattle.std.proofs.lemmas.List.{length-map, get_or_default}
+use Rattle.std.proofs.lemmas.List.{length-map, get_or_default, get_or-set_other}
+use Rattle.std.proofs.lemmas.Grind.{get_or-set_at}
 use Rattle.std.proofs.lemmas.List.Elements.{Contains-append_left, Contains-push}
 use Rattle.std.proofs.lemmas.Option.{slice_get-map, slice_get_within, slice_get-get_or}
 use Rattle.std.specs.Prelude.{slice_get, Some, option_map, Contains}
@@ -12,12 +14,10 @@ use Rattle.std.proofs.lemmas.List.Filters.{dedup_is}
 use Rattle.std.proofs.lemmas.List.Kept.{Contains-dedup_nat}
 use Rattle.std.proofs.lemmas.List.Sorted.{Contains-permutation, IsNonDecreasingBy-from_all_adjacent}
 use Rattle.std.proofs.lemmas.Map.Keys.{IsStrictlyIncreasing-dedup}
-use Rattle.std.specs.List.{dedup}
 use Rattle.std.specs.List.Retain.{IsFiltered, DiffersFromLast}
 use Rattle.std.specs.List.Sorted.{IsNonDecreasing, IsPartitionPoint, IsPermutation, IsSorted, IsStrictlyIncreasing}
 use Rattle.std.specs.Ordering.{nat_cmp}
 use Rattle.flatgrammar.specs.Flat.{Flat, Node, Letters, Place, Set, Has, letter, Reads, reads}
-use Rattle.flatgrammar.proofs.SliceGetLemmas.{push_cases}
 use Rattle.letterclasses.specs.Stacks.{AreAlike}
 use Rattle.letterclasses.specs.ClassBounds.{IsFree, AreMoreBounds, IsBoundAdded, IsSplit, IsNodeSplit, AreNodesSplit}
 use Rattle.letterclasses.specs.ClassBounds.{AreJoined, AreParted, IsClassOf, HaveClasses, AreLow, AreClasses}
@@ -149,35 +149,64 @@ class_found flat bounds parted c above fits within point class is = by (cases_lt
     }))
 
 -- the classes of the first numbers, number by number
-pub record AreLowTo (flat : Flat) (samples low : List ℕ) (n : ℕ) : Type 0 where
-  pub size : length low ≡ n
-  pub low_are : HaveClasses flat samples low
+abbrev pub AreLowTo : Flat → List ℕ → List ℕ → ℕ → Type 0
+AreLowTo flat samples low n = (c : ℕ) → c < n → IsClassOf flat samples c (get_or low c 0)
 
-pub low_next : (flat : Flat) (samples low new : List ℕ) (n k : ℕ) → new ≡ low ++ k ∷ []
-    → IsClassOf flat samples n k → AreLowTo flat samples low n → AreLowTo flat samples new (n + 1)
-low_next flat samples low new n k is class before = record {
-  size = (let e = ap length is in let l = length-append low (k ∷ []) in let z = before.size in omega (arith, e, l, z));
-  low_are = λ c j h. by c j (push_cases low k c j (subst (λ v. slice_get v c ≡ Some j) is h));
-}
+pub low_next : (flat : Flat) (samples low : List ℕ) (n k : ℕ) → n < length low → IsClassOf flat samples n k
+    → AreLowTo flat samples low n → AreLowTo flat samples (set low n k) (n + 1)
+low_next flat samples low n k within class before c lt = by (cases_lt c n)
   where
-    by : (c j : ℕ) → (slice_get low c ≡ Some j) ⊎ ((c ≡ length low) × (k ≡ j)) → IsClassOf flat samples c j
-    by c j (inl h) = before.low_are c j h
-    by c j (inr h) =
-        let here : n ≡ c = sym (h.0 ∙ before.size) in
-        subst (λ v. IsClassOf flat samples c v) h.1 (subst (λ v. IsClassOf flat samples v k) here class)
+    by : (c < n) ⊎ (n ≤ c) → IsClassOf flat samples c (get_or (set low n k) c 0)
+    by (inl less) =
+        subst (λ v. IsClassOf flat samples c v) (sym (get_or-set_other low n c k 0 (λ e. omega (arith, less, e))))
+        (before c less)
+    by (inr more) =
+        let here : c ≡ n = omega (arith, lt, more) in
+        subst (λ v. IsClassOf flat samples c v) (sym (get_or-set_at low n c k 0 here within))
+        (subst (λ v. IsClassOf flat samples v k) (sym here) class)
 
-rising_up : (xs : List ℕ) → IsStrictlyIncreasing xs → IsNonDecreasing xs
+pub low_all : (flat : Flat) (samples low : List ℕ) (n : ℕ) → length low ≡ n → AreLowTo flat samples low n
+    → HaveClasses flat samples low
+low_all flat samples low n size all c k is =
+    let lt = slice_get_within low c k is in
+    let both : Some (get_or low c 0) ≡ Some k = sym (slice_get-get_or low c 0 lt) ∙ is in
+    let same : get_or low c 0 ≡ k = cc both in
+    subst (λ v. IsClassOf flat samples c v) same (all c (omega (arith, lt, size)))
+
+pub rising_up : (xs : List ℕ) → IsStrictlyIncreasing xs → IsNonDecreasing xs
 rising_up xs up = IsNonDecreasingBy-from_all_adjacent (λ x. x) xs (λ k d lt.
     let less = up k lt in
     let one = get_or_default xs k d 0 (omega (arith, lt)) in
     let two = get_or_default xs (k + 1) d 0 lt in
     omega (arith, less, one, two))
 
+-- each number is at least its index, so the class of a number is at most that number
+least_at : (xs : List ℕ) → IsStrictlyIncreasing xs → (k : ℕ) → k < length xs → k ≤ get_or xs k 0
+least_at xs up zero lt = omega arith
+least_at xs up (suc k) lt =
+    let less = up k (omega (arith, lt)) in
+    let before = least_at xs up k (omega (arith, lt)) in
+    let e : k + 1 ≡ suc k = omega arith in
+    let same = ap (λ v. get_or xs v 0) e in
+    omega (arith, less, before, same)
+
+pub class_low : (bounds : List ℕ) → IsStrictlyIncreasing bounds → (c above : ℕ) → above ≤ length bounds
+    → IsPartitionPoint (λ y. leb y c ≡ true) (λ y. leb y c ≡ false) bounds above → (class : ℕ) → class ≡ above - 1
+    → class ≤ c
+class_low bounds up c above within point class is = by (cases_lt 0 above)
+  where
+    by : (0 < above) ⊎ (above ≤ 0) → class ≤ c
+    by (inl some) =
+        let last : class + 1 ≡ above = omega (arith, some, is) in
+        let least = least_at bounds up class (omega (arith, last, within)) in
+        let most = leb-true (get_or bounds class 0) c (point.0 class 0 (omega arith) (omega (arith, last))) in
+        omega (arith, least, most)
+    by (inr none) = omega (arith, none, is)
+
 pub ascended_rise : (mid new : List ℕ) → IsSorted nat_cmp mid → IsFiltered (DiffersFromLast eqb) [] mid new
-    → IsNonDecreasing new
+    → IsStrictlyIncreasing new
 ascended_rise mid new sorted filtered =
-    subst (λ v. IsNonDecreasing v) (sym (dedup_is eqb mid new filtered))
-    (rising_up (dedup eqb mid) (IsStrictlyIncreasing-dedup mid sorted))
+    subst (λ v. IsStrictlyIncreasing v) (sym (dedup_is eqb mid new filtered)) (IsStrictlyIncreasing-dedup mid sorted)
 
 pub ascended_more : (old mid new : List ℕ) → IsPermutation old mid → IsFiltered (DiffersFromLast eqb) [] mid new
     → AreMoreBounds old new
@@ -187,12 +216,12 @@ ascended_more old mid new moved filtered i free = record {
 }
 
 pub classes_made : (flat : Flat) (none begun added sorted got low : List ℕ) → got ≡ sorted → IsBoundAdded none begun 0
-    → AreMoreBounds begun added → AreNodesSplit added flat.nodes → AreMoreBounds added sorted → IsNonDecreasing sorted
-    → ((flat : Flat) → AreParted flat got → AreLow flat got low) → AreClasses flat low sorted
+    → AreMoreBounds begun added → AreNodesSplit added flat.nodes → AreMoreBounds added sorted
+    → IsStrictlyIncreasing sorted → ((flat : Flat) → AreParted flat got → AreLow flat got low) → AreClasses flat low sorted
 classes_made flat none begun added sorted got low same begins older split more ordered low_are =
     let parted : AreParted flat sorted = record {
       first = λ free. (begins 0 (older 0 (more 0 free))).1 refl;
-      ordered = ordered;
+      ordered = rising_up sorted ordered;
       split = more_nodes_split added sorted flat.nodes more split;
     } in
     record {

@@ -1,6 +1,6 @@
 //! Classes of symbols that each set of a grammar takes or rejects together.
-ghost use Rattle.std.specs.Prelude.{IfOk, map};
-ghost use Rattle.std.specs.List.Sorted.{IsNonDecreasing};
+ghost use Rattle.std.specs.Prelude.{◌≤◌, IfOk, map};
+ghost use Rattle.std.specs.List.Sorted.{IsStrictlyIncreasing};
 ghost use Rattle.flatgrammar.specs.Flat.{Flat, EitherCase};
 ghost use Rattle.flatgrammar.specs.FlatViews.{node_of, nodes_of, set_of};
 ghost use Rattle.flatgrammar.specs.NodeSteps.{flat_of};
@@ -18,7 +18,7 @@ use std::alloc::Global;
 #[derive(Drop)]
 pub struct Classes {
     /// Of each number below 256 its class, so that bytes need no search.
-    pub low: Vec<usize>,
+    pub low: [u8; 256],
     /// Of each class its first number, in ascending order.
     pub samples: Vec<u32>,
 }
@@ -105,7 +105,7 @@ fn add_nodes(nodes: &[Node], bounds: &mut Bounds) -> Result<(), Memory>
 
 // Sorts numbers, and keeps each once.
 fn ascend(bounds: &mut Vec<u32>)
-    ensures ordered { IsNonDecreasing bounds.new.items }
+    ensures ordered { IsStrictlyIncreasing bounds.new.items }
     ensures more { AreMoreBounds bounds.old.items bounds.new.items }
 {
     bounds.sort_unstable();
@@ -116,44 +116,46 @@ fn ascend(bounds: &mut Vec<u32>)
 #[cold]
 #[inline(never)]
 fn class_above(samples: &[u32], value: u32) -> usize
-    ensures { (flat : Flat) → AreParted flat samples.now → IsClassOf flat samples.now value result }
+    ensures is { (flat : Flat) → AreParted flat samples.now → IsClassOf flat samples.now value result }
+    ensures low { IsStrictlyIncreasing samples.now → result ≤ value }
 {
     let above = samples.partition_point(|sample| *sample <= value);
     above.saturating_sub(1)
 }
 
-// Returns the classes of the numbers below 256. `Memory` if an allocation fails.
-fn low_classes(alloc: Global, samples: &[u32]) -> Result<Vec<usize>, Memory>
-    ensures { IfOk result (λ low. (flat : Flat) → AreParted flat samples.now → AreLow flat samples.now low.items) }
+// Returns the classes of the numbers below 256.
+fn low_classes(samples: &[u32]) -> [u8; 256]
+    requires ordered { IsStrictlyIncreasing samples.now }
+    ensures { (flat : Flat) → AreParted flat samples.now → AreLow flat samples.now result }
 {
-    let mut low = Vec::new(alloc);
-    for number in 0..256u32 {
-        low.push(class_above(samples, number))?;
+    let mut low = [0u8; 256];
+    for number in 0..256 {
+        low[number] = class_above(samples, number as u32) as u8;
     }
-    Ok(low)
+    low
 }
 
 /// Returns the class of a number. Those below 256 are looked up.
 #[inline(always)]
-pub fn class_of(low: &[usize], samples: &[u32], value: u32) -> usize
+pub fn class_of(low: &[u8; 256], samples: &[u32], value: u32) -> usize
     ensures { (flat : Flat) → HaveClasses flat samples.now low.now → AreParted flat samples.now
         → IsClassOf flat samples.now value result }
 {
     match low.get(value as usize) {
-        Some(class) => *class,
+        Some(class) => usize::from(*class),
         None => class_above(samples, value),
     }
 }
 
 /// Returns classes of symbols that each set of a grammar takes or rejects together. `Memory` if an allocation fails.
 pub fn find_classes(alloc: Global, tables: &Tables) -> Result<Classes, Memory>
-    ensures { IfOk result (λ classes. AreClasses (flat_of tables.now) classes.low.items classes.samples.items) }
+    ensures { IfOk result (λ classes. AreClasses (flat_of tables.now) classes.low classes.samples.items) }
 {
     let mut bounds = empty_bounds(alloc);
     add_bound(0, &mut bounds)?;
     add_nodes(&tables.nodes, &mut bounds)?;
     let mut samples = bounds.numbers;
     ascend(&mut samples);
-    let low = low_classes(alloc, &samples)?;
+    let low = low_classes(&samples);
     Ok(Classes { low, samples })
 }

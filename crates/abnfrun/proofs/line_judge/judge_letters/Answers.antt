@@ -11,10 +11,10 @@ returns-in-Yes-clause-answer g c =
     let j = c.args.judges.now in
     let short = c.requires.within in
     let size = length-map c.args.line.now g.L.Letter.number in
-    rw c.in-Yes.is at (verdict_says (has g.L.Letter.ALPHABET) (rules_of j.grammar.now.rules) j.grammar.now.judged
-    (map g.L.Letter.number c.args.line.now) j.flat.now (omega (arith, short, size)) c.values_are_letters.ensures
+    rw c.in-Yes.is at (verdict_says (has j.letters) (rules_of j.grammar.now.rules) j.grammar.now.judged
+    (map g.L.Letter.number c.args.line.now) j.flat.now (omega (arith, short, size)) c.requires.letters
     c.derivation_is_decided.ensures c.furthest_is_found.ensures.found c.furthest_is_found.ensures.one
-    c.items_tell.ensures.verdict c.in_ok-viable.field-0 (rw c.requires.letters at (j.tells c.if-judges.true))
+    c.items_tell.ensures.verdict c.in_ok-viable.field-0 (j.tells c.if-judges.true)
     c.in_ok-viable.ensures.verdict)
 
 pub returns-in-No-clause-answer : goal.returns-in-No-clause-answer
@@ -22,11 +22,11 @@ returns-in-No-clause-answer g c =
     let j = c.args.judges.now in
     let short = c.requires.within in
     let size = length-map c.args.line.now g.L.Letter.number in
-    let said = rw c.in-No.is at (verdict_says (has g.L.Letter.ALPHABET) (rules_of j.grammar.now.rules)
+    let said = rw c.in-No.is at (verdict_says (has j.letters) (rules_of j.grammar.now.rules)
     j.grammar.now.judged (map g.L.Letter.number c.args.line.now) j.flat.now (omega (arith, short, size))
-    c.values_are_letters.ensures
+    c.requires.letters
     c.derivation_is_decided.ensures c.furthest_is_found.ensures.found c.furthest_is_found.ensures.one
-    c.items_tell.ensures.verdict c.in_ok-viable.field-0 (rw c.requires.letters at (j.tells c.if-judges.true))
+    c.items_tell.ensures.verdict c.in_ok-viable.field-0 (j.tells c.if-judges.true)
     c.in_ok-viable.ensures.verdict) in
     (c.if-judges.true, said.0, said.1)
 
@@ -35,8 +35,8 @@ returns-then-yes-clause-answer g c =
     let j = c.args.judges.now in
     let short = c.requires.within in
     let size = length-map c.args.line.now g.L.Letter.number in
-    rw c.if-yes.true at (judge_says (has g.L.Letter.ALPHABET) (rules_of j.grammar.now.rules) j.grammar.now.judged
-    (map g.L.Letter.number c.args.line.now) j.flat.now (omega (arith, short, size)) c.values_are_letters.ensures
+    rw c.if-yes.true at (judge_says (has j.letters) (rules_of j.grammar.now.rules) j.grammar.now.judged
+    (map g.L.Letter.number c.args.line.now) j.flat.now (omega (arith, short, size)) c.requires.letters
     c.derivation_is_decided.ensures c.items_tell.ensures.derives c.in_ok-yes.yes (j.lowered c.if-judges.false)
     c.in_ok-yes.ensures.answer)
 
@@ -45,9 +45,9 @@ returns-else-yes-clause-answer g c =
     let j = c.args.judges.now in
     let short = c.requires.within in
     let size = length-map c.args.line.now g.L.Letter.number in
-    let said = rw c.if-yes.false at (judge_says (has g.L.Letter.ALPHABET) (rules_of j.grammar.now.rules)
+    let said = rw c.if-yes.false at (judge_says (has j.letters) (rules_of j.grammar.now.rules)
     j.grammar.now.judged (map g.L.Letter.number c.args.line.now) j.flat.now (omega (arith, short, size))
-    c.values_are_letters.ensures
+    c.requires.letters
     c.derivation_is_decided.ensures c.items_tell.ensures.derives c.in_ok-yes.yes (j.lowered c.if-judges.false)
     c.in_ok-yes.ensures.answer) in
     (c.if-judges.false, said)

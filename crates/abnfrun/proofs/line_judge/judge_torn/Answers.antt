@@ -10,30 +10,30 @@ use Rattle.letters.specs.Utf8Text.{number, numbers}
 pub returns-clause-answer : goal.returns-clause-answer
 returns-clause-answer c =
     let j = c.args.judges.now in
-    let points = numbers c.as_slice.result.now in
+    let points = numbers c.as_slice-points.result.now in
     let longest = c.utf8_len-len.ensures in
-    let spelled = rw (← c.as_slice.ensures.value) at
+    let spelled = rw (← c.as_slice-points.ensures.value) at
     (decoded_as _ _ _ c.in_ok-_is_text._is_text longest.text c.in_ok-_is_text.ensures.text
     c.in_ok-_is_text.ensures.none) in
     let count : c.len.result ≡ length points = omega (
       arith,
-      length-map c.as_slice.result.now number,
+      length-map c.as_slice-points.result.now number,
       c.len.ensures,
-      c.as_slice.ensures.len,
+      c.as_slice-points.ensures.len,
     ) in
     rw (c.torn_by.ensures, count)
     (torn_answer j.viable (rules_of j.grammar.now.rules) j.grammar.now.judged c.args.line.now c.requires.torn
     c.requires.viable c.utf8_len-len.result points longest spelled
-    c.in_ok-said.said c.in_ok-said.ensures.answer)
+    c.in_ok-said.said (rw c.requires.letters at c.in_ok-said.ensures.answer))
 
 pub judge_letters-requires-clause-within : goal.judge_letters-requires-clause-within
 judge_letters-requires-clause-within c =
     let longest = c.utf8_len-len.ensures in
-    let spelled = rw (← c.as_slice.ensures.value) at
+    let spelled = rw (← c.as_slice-points.ensures.value) at
     (decoded_as _ _ _ c.in_ok-_is_text._is_text longest.text c.in_ok-_is_text.ensures.text
     c.in_ok-_is_text.ensures.none) in
     let most = points_at_most spelled in
     let front = length-take-le c.utf8_len-len.result c.args.line.now longest.within in
-    let size = length-map c.as_slice.result.now number in
+    let size = length-map c.as_slice-points.result.now number in
     let short = c.requires.within in
     omega (arith, most, front, size, longest.within, short)

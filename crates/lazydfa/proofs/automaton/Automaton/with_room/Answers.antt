@@ -11,7 +11,7 @@ invariant_of-result c = (
   c.in_ok-tables.ensures.exact.roots,
   subst (λ v. AreUncounted (flat_of v)) c.deref.ensures (c.are_served.ensures c.if-not-are_served.false).0,
   subst (λ v. IsOne (flat_of v)) c.deref.ensures (c.are_served.ensures c.if-not-are_served.false).1,
-  subst (λ v. AreClasses (flat_of v) c.in_ok-classes.classes.low.items c.in_ok-classes.classes.samples.items)
+  subst (λ v. AreClasses (flat_of v) c.in_ok-classes.classes.low c.in_ok-classes.classes.samples.items)
       c.deref-2.ensures c.in_ok-classes.ensures,
   memo_none c.in_ok-tables.tables.value c.in_ok-classes.classes.samples.items c.empty_memo-memo.result
       c.empty_memo-memo.ensures.conts c.empty_memo-memo.ensures.states c.empty_memo-memo.ensures.cells

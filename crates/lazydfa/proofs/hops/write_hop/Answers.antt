@@ -2,7 +2,7 @@ use Rattle.std.proofs.Common.{◌≡◌, ◌+◌, ◌*◌, subst, sym, ap, ◌�
 use Rattle.std.specs.Prelude.{Some, slice_get}
 use Rattle.std.proofs.lemmas.Option.{slice_get-get_or}
 use Rattle.lazydfa.proofs.AreHopsLemmas.{hops_put}
-use Rattle.lazydfa.proofs.hops.note_hop.Goals as goal
+use Rattle.lazydfa.proofs.hops.write_hop.Goals as goal
 
 pub returns : goal.returns
 returns c =
