@@ -52,7 +52,8 @@ PASSED = {
 UNREAD = {
     # how many evaluations have begun is bounded by the numbers of nodes and of bytes
     "matchfailure: one_more.length", "matchfailure: one_more.nodes", "packrat: counted.length",
-    "packrat: counted.nodes", "packrat: counted_skips.length", "packrat: counted_skips.nodes",
+    "packrat: counted.nodes", "packrat: counted_known.length", "packrat: counted_known.nodes",
+    "packrat: counted_skips.length", "packrat: counted_skips.nodes",
     # what the result says of the node that has these members or alternatives
     "pegnodes: by_alternatives.n", "pegnodes: by_members.n",
     # of which cells and in which of how many buckets the result is the last one

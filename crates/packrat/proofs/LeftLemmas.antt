@@ -29,7 +29,7 @@ use Rattle.packrat.specs.declared.onward.Entering.{Entering}
 use Rattle.pegnodes.specs.KeyLists.{Marks}
 use Rattle.packrat.specs.declared.frames.Wait.{Wait}
 use Rattle.packrat.specs.declared.frames.Wait.TheVariants.{First, Last, Turned}
-use Rattle.packrat.specs.Turns.{Turn, Ask, Answer}
+use Rattle.packrat.specs.LoopTurns.{Turn, Ask, Answer}
 
 member_counted : (shape : Shape) (i : ℕ) → HasMember shape i → i < members_of (way_of 0 shape)
 member_counted node.Any i h = absurd h

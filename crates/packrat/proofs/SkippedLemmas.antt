@@ -33,7 +33,7 @@ use Rattle.packrat.specs.TurnsLeft.{left, most_begun}
 use Rattle.packrat.specs.Stands.{Stands, IsClosed, key_of, AreWaiting, IsEntered}
 use Rattle.packrat.specs.declared.frames.Frame.{Frame}
 use Rattle.packrat.specs.declared.frames.Wait.TheVariants.{First}
-use Rattle.packrat.specs.Turns.{Turn, Ask, Answer}
+use Rattle.packrat.specs.LoopTurns.{Turn, Ask, Answer}
 use Rattle.packrat.specs.declared.onward.Entering.{Entering}
 use Rattle.packrat.specs.declared.skips.Skips.{Skips}
 use Rattle.packrat.specs.declared.known.Known.{Known}
@@ -152,7 +152,8 @@ module _ (g : Grammar) (x : List ℕ) (more : Bool) (marks : Marks) (some : WasE
 
       -- from the tail of an alternative that fails to the next one
       skip_one : (i m d count : ℕ) → slice_get ms i ≡ Some m → tail_marks marks n i ≡ false
-          → node_marks marks m ≡ false → Decides b m Fails d → suc i < length ms → S root (Ask (Tail n i p)) ls st links count
+          → node_marks marks m ≡ false → Decides b m Fails d → suc i < length ms
+          → S root (Ask (Tail n i p)) ls st links count
           → S root (Ask (Tail n (suc i) p)) ls st links (count + d)
       skip_one i m d count there plain free h lt s =
           let w = tail_well i (omega (arith, lt)) in
@@ -161,7 +162,8 @@ module _ (g : Grammar) (x : List ℕ) (more : Bool) (marks : Marks) (some : WasE
           let down = L.stands_down g x more marks root (Tail n i p) ls st links count s (λ t. absurd (cc (t, plain)))
           (Pair m p) false (sym plain) ((node.Choice ms, at, (m, there, refl)), (has, well.1)) in
           let stays = L.closed_plain g x more marks links (Pair m p) failure st free in
-          let back = stands_decided root m d Fails (record { spot = Tail n i p; key = false; wait = First } ∷ ls) st st links
+          let back = stands_decided root m d Fails (record { spot = Tail n i p; key = false; wait = First } ∷ ls) st
+          st links
           (count + 0) down (λ t. absurd (cc (t, free))) h stays in
           subst (S root (Ask (Tail n (suc i) p)) ls st links) (omega arith)
           (L.stands_on g x more marks root (Tail n i p) failure ls st links ((count + 0) + d) false back
@@ -194,7 +196,8 @@ module _ (g : Grammar) (x : List ℕ) (more : Bool) (marks : Marks) (some : WasE
       (st new : List Stored) (links : List Link) (count : ℕ) → S root (Ask (taken_of t)) ls st links count
       → (key : Bool) → key ≡ key_of marks (taken_of t) → (key ≡ true → IsIn (taken_of t) (spots_of st) → ⊥)
       → (node_marks marks t.operand ≡ true → IsIn (Pair t.operand t.place) (spots_of st) → ⊥)
-      → IsClosed g x more marks links (Pair t.operand t.place) (record { found = Took (t.place + 1); events = 0 }) st new
+      → IsClosed g x more marks links (Pair t.operand t.place) (record { found = Took (t.place + 1); events = 0 }) st
+      new
       → AreWaiting key 0 (taken_of t) ls mid
       → S root (Ask (Pair t.star (t.place + 1))) mid new links (count + (1 + t.pairs))
   stands_taken root t h ls mid st new links count s key is fresh free c w =
@@ -207,7 +210,8 @@ module _ (g : Grammar) (x : List ℕ) (more : Bool) (marks : Marks) (some : WasE
       subst (S root (Ask (Pair t.star (t.place + 1))) mid new links) (omega arith)
       (L.stands_on g x more marks root (taken_of t) (record { found = Took (t.place + 1); events = 0 }) ls new links
       ((count + 1) + t.pairs) key taken (Pair t.star (t.place + 1)) mid
-      (M.plus_more g x more some sound t.plus t.operand t.place (Took (t.place + 1)) well t.star (t.place + 1) h.at refl)
+      (M.plus_more g x more some sound t.plus t.operand t.place (Took (t.place + 1)) well t.star (t.place + 1) h.at
+      refl)
       w)
 
   module _ (root a : Spot) (s : Skips) (h : AreSkipped g x more marks a s) (ls : List Frame) (st : List Stored)
@@ -230,7 +234,8 @@ module _ (g : Grammar) (x : List ℕ) (more : Bool) (marks : Marks) (some : WasE
     passed_to : (mid : List Frame) (n : ℕ) → S root (Ask (Tail h.node 0 h.place)) mid st links n
         → h.index < length h.members → S root (Ask (Tail h.node h.index h.place)) mid st links (n + s.pairs)
     passed_to mid n first lt = elim h.passed [
-      | inl f ↦ skip_all h.place f.byte f.here f.last h.node h.members h.at pair_well root mid st links n f.fail lt first
+      | inl f ↦
+          skip_all h.place f.byte f.here f.last h.node h.members h.at pair_well root mid st links n f.fail lt first
       | inr z ↦
           let none = z.1 in
           subst (λ v. S root (Ask (Tail h.node v h.place)) mid st links (n + s.pairs)) (sym z.0)
@@ -276,7 +281,8 @@ module _ (g : Grammar) (x : List ℕ) (more : Bool) (marks : Marks) (some : WasE
           | inl f ↦
               let fail = subst (λ v. FailFirst (shapes_of g.nodes) g.bodies (node_marks marks) (tail_marks marks) f.byte
               h.node h.members v s.pairs) (sym all) f.fail in
-              stands_decided h.place f.byte f.here f.last root h.node (1 + s.pairs) Fails ls st new links count asked_pair
+              stands_decided h.place f.byte f.here f.last root h.node (1 + s.pairs) Fails ls st new links count
+              asked_pair
               pair_fresh (all_fail fail h.at) closed
           | inr z ↦
               let none = z.0 in

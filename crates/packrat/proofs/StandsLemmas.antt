@@ -38,7 +38,7 @@ use Rattle.packrat.specs.declared.frames.Wait.TheVariants.{First, Last, Turned}
 use Rattle.packrat.specs.declared.onward.Onward.{Onward}
 use Rattle.packrat.specs.declared.onward.Start.TheVariants as start
 use Rattle.packrat.specs.declared.onward.Onward.TheVariants as way
-use Rattle.packrat.specs.Turns.{Turn, Ask, Answer}
+use Rattle.packrat.specs.LoopTurns.{Turn, Ask, Answer}
 use Rattle.packrat.specs.MachineSteps.{Level, State, Asks, Works, held, start_at, store, step_stored, step_begin}
 use Rattle.packrat.specs.MachineSteps.{step_next, step_last}
 use Rattle.packrat.specs.MachineSteps.{steps_none, steps_more}

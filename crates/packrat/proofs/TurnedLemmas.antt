@@ -42,7 +42,7 @@ use Rattle.packrat.specs.Turned.{IsClosing, AreTurned, IsStopped, AreTurnedFrame
 use Rattle.packrat.specs.View.{weight}
 use Rattle.packrat.specs.declared.frames.Frame.{Frame}
 use Rattle.packrat.specs.declared.frames.Wait.TheVariants.{Turned}
-use Rattle.packrat.specs.Turns.{Turn, Ask, Answer}
+use Rattle.packrat.specs.LoopTurns.{Turn, Ask, Answer}
 use Rattle.packrat.specs.declared.turns.Turns.{Turns}
 use Rattle.packrat.proofs.ByteGivesLemmas.{gives_by, star_has}
 use Rattle.packrat.proofs.RunStepsLemmas.{append_other}

@@ -10,7 +10,7 @@ pub mod Turned
 pub mod Skipped
 pub mod Known
 pub mod Begins
-pub mod Turns
+pub mod LoopTurns
 pub mod TurnsLeft
 pub mod Stands
 pub mod Done

@@ -47,8 +47,8 @@ abbrev pub member_of : Entering → Spot
 member_of e = Pair e.member e.place
 
 -- it says whether the tail is a key
-abbrev pub IsMarked : Marks → Entering → Type 0
-IsMarked marks e = e.key ≡ tail_marks marks e.node e.index
+abbrev pub IsTailMarked : Marks → Entering → Type 0
+IsTailMarked marks e = e.key ≡ tail_marks marks e.node e.index
 
 -- the tail of a node with these members, from this one on
 abbrev pub entering_of : Marks → ℕ → List ℕ → ℕ → ℕ → Entering
@@ -103,7 +103,7 @@ module _ (g : Grammar) (x : List ℕ) where
     AfterStart a (start.Leads n p) = IsLed false a (Pair n p)
     AfterStart a (start.Passes n p) = IsLed true a (Pair n p)
     AfterStart a (start.Enters e) =
-        IsLed true a (tail_of e) × IsLed e.only (tail_of e) (member_of e) × IsMarked g.keys e
+        IsLed true a (tail_of e) × IsLed e.only (tail_of e) (member_of e) × IsTailMarked g.keys e
 
     -- after its first child j, a task asks for k, and gives what k gives, with these events before those of k
     abbrev pub GoesOn : Spot → Spot → List Event → Spot → Type 0
@@ -118,4 +118,4 @@ module _ (g : Grammar) (x : List ℕ) where
         Kids (rules_of g.rules) (shapes_of g.nodes) g.bodies x a (j ∷ []) × SpotYields g x more a found events
     AfterOne a j found events (Passes n p) = GoesOn a j events (Pair n p)
     AfterOne a j found events (Enters e) =
-        GoesOn a j events (tail_of e) × IsLed e.only (tail_of e) (member_of e) × IsMarked g.keys e
+        GoesOn a j events (tail_of e) × IsLed e.only (tail_of e) (member_of e) × IsTailMarked g.keys e

@@ -25,7 +25,7 @@ use Rattle.packrat.specs.View.{weight}
 use Rattle.packrat.specs.declared.frames.Frame.{Frame}
 use Rattle.packrat.specs.declared.frames.Wait.{Wait}
 use Rattle.packrat.specs.declared.frames.Wait.TheVariants.{First, Last, Turned}
-use Rattle.packrat.specs.Turns.{Turn, Ask, Answer, turn_of}
+use Rattle.packrat.specs.LoopTurns.{Turn, Ask, Answer, turn_of}
 use Rattle.packrat.specs.declared.machine.Next.{Next}
 use Rattle.packrat.specs.MachineSteps.{Level, State, Asks, Works, start_at, store}
 use Rattle.packrat.specs.Onward.{IsWell, IsNear, IsHere, ReachesEnd, PassesOn, tail_of, member_of}

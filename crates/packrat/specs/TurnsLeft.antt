@@ -8,7 +8,7 @@ use Rattle.pegnodes.specs.NodeWays.{Way, Leaf, Body, Members, Alternatives, Turn
 use Rattle.packrat.specs.declared.frames.Frame.{Frame}
 use Rattle.packrat.specs.declared.frames.Wait.{Wait}
 use Rattle.packrat.specs.declared.frames.Wait.TheVariants.{First, Last, Turned}
-use Rattle.packrat.specs.Turns.{Turn, Ask, Answer}
+use Rattle.packrat.specs.LoopTurns.{Turn, Ask, Answer}
 
 -- the number of members of a node that goes on in this way
 abbrev pub members_of : Way → ℕ

@@ -3,6 +3,7 @@
 #![tactic(auto)]
 
 mod byte_laws;
+mod counts;
 mod events;
 mod frames;
 mod known;

@@ -12,7 +12,7 @@ ghost use Rattle.pegnodes.specs.KeyLists.{Marks, node_marks};
 ghost use Rattle.packrat.specs.ByteGives.{operands_on, turns_closed};
 ghost use Rattle.packrat.specs.Skipped.{AreSkipped};
 ghost use Rattle.packrat.specs.Turned.{AreDecided, AreFree, AreTurnedFrames, IsKeyed};
-ghost use Rattle.packrat.specs.Turns.{Ask, Answer, turn_of};
+ghost use Rattle.packrat.specs.LoopTurns.{Ask, Answer, turn_of};
 ghost use Rattle.packrat.specs.TurnsLeft.{left, most_begun};
 ghost use Rattle.packrat.specs.Begins.{IsRepeated, repeated_of};
 ghost use Rattle.packrat.specs.Known.{IsKnown, IsTaken, taken_of};
@@ -22,6 +22,7 @@ ghost use Rattle.packrat.specs.Stands.{AreWaiting, IsWaitHead, IsEntered, IsJoin
 ghost use Rattle.packrat.specs.View.{weight};
 ghost use Rattle.packrat.specs.declared.frames.Wait.{Wait};
 
+use crate::counts::{counted, counted_known, counted_skips};
 use crate::events::EventLog;
 use crate::frames::{Frame, Frames, Wait};
 use crate::known::{Known, Taken};
@@ -51,36 +52,6 @@ pub(crate) struct Machine {
     pub(crate) frames: Frames,
     /// How many pairs of a node and a position were begun.
     pub(crate) begun: u128,
-}
-
-// Returns how many pairs are begun with this task. There are at most as many as nodes at positions.
-#[inline(always)]
-fn counted(nodes: usize, length: usize, begun: u128, spot: Spot) -> u128
-    requires { begun ≤ nodes * (length + 1) }
-    ensures { result ≡ begun + weight spot }
-{
-    match spot {
-        Spot::Pair { .. } => begun + 1,
-        Spot::Tail { .. } => begun,
-    }
-}
-
-// Returns how many pairs are begun with a choice and with those of its alternatives that fail.
-#[inline(always)]
-fn counted_skips(nodes: usize, length: usize, begun: u128, pairs: u32) -> u128
-    requires { begun ≤ nodes * (length + 1) }
-    ensures { result ≡ begun + (1 + pairs) }
-{
-    begun + (1 + u128::from(pairs))
-}
-
-// Returns how many pairs are begun with those of a node that a byte decides.
-#[inline(always)]
-fn counted_known(nodes: usize, length: usize, begun: u128, pairs: u16) -> u128
-    requires { begun ≤ nodes * (length + 1) }
-    ensures { result ≡ begun + pairs }
-{
-    begun + u128::from(pairs)
 }
 
 // Returns the memoized result of a node at a position, if there is one. Most keys are new, which takes no call to see.
@@ -564,8 +535,8 @@ impl Machine {
         Ok(Next::Answer(given))
     }
 
-    // Begins a repetition of one or more whose operand takes the byte at the position, and goes to what goes on with it,
-    // or to the operand if that may be stored.
+    // Begins a repetition of one or more whose operand takes the byte at the position. It goes to the node that goes on
+    // with it, or to the operand if that may be stored.
     #[inline(always)]
     fn begin_plus(
         &mut self,

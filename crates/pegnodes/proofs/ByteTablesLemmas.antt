@@ -83,7 +83,8 @@ tabled_once n Close j k a b = absurd a
 
 module _ (nodes : List Shape) (bodies : List ℕ) (marks : Marks) where
   -- the place of the table of a node that is no choice, and of a choice's
-  pub run_placed : (runs : List RunTable) (choices : List ChoiceTable) (n k : ℕ) (s : Shape) → slice_get nodes n ≡ Some s
+  pub run_placed : (runs : List RunTable) (choices : List ChoiceTable) (n k : ℕ) (s : Shape)
+      → slice_get nodes n ≡ Some s
       → IsTabled n s k → (place : ℕ) → HasTable (IsRunTableOf nodes bodies marks k) runs place
       → HasByteTable nodes bodies marks runs choices n place
   run_placed runs choices n k s at tabled place h = record {

@@ -1,4 +1,4 @@
--- Tables by the next byte: of the operands of a grammar's repetitions, of its options and predicates, and of its choices.
+-- Tables by the next byte: of operands of a grammar's repetitions, of its options and predicates, and of its choices.
 use Rattle.std.specs.Prelude.{◌≡◌, ℕ, List, Option, slice_get, Some}
 use Rattle.pegnodes.specs.ChoiceTables.{IsChoiceTable}
 use Rattle.pegnodes.specs.KeyLists.{Marks, node_marks, tail_marks}

@@ -1,4 +1,4 @@
-//! Tables by the next byte: of the operands of a grammar's repetitions, of its options and predicates, and of its choices.
+//! Tables by the next byte: of operands of a grammar's repetitions, of its options and predicates, and of its choices.
 ghost use Rattle.std.specs.Prelude.{◌≡◌, ◌≤◌, ◌++◌, ℕ, List, IfOk, IfSome, slice_get, true, Some};
 ghost use Rattle.pegnodes.specs.ByteTables.{AreByteTables, HasByteTable, HasTable, IsChoiceTableOf, IsRunTableOf};
 ghost use Rattle.pegnodes.specs.ByteTables.{IsTabled};
@@ -15,7 +15,7 @@ use crate::run_table::RunTable;
 use ruletable::Memory;
 use std::alloc::Global;
 
-// How many tables of choices a grammar has at most. A table takes up to 2 KB and some microseconds, so a grammar of more
+// How many tables of choices a grammar has at most. A table takes up to 2 KB and some microseconds. A grammar of more
 // choices runs the others without.
 const MOST_TABLES: usize = 256;
 

@@ -86,8 +86,11 @@ returns-in-Star c =
     (refl, (here, ((shape.Star c.in-Star.operand, here, refl), ((like.0, like.2), well.1))))
 
 pub tested-requires-clause-tabled : goal.tested-requires-clause-tabled
-tested-requires-clause-tabled c =
-    (shape.Not c.in-Not.operand, shape_at c.args.peg.now.nodes c.args.node _ (c.node.ensures ∙ ap Some c.in-Not.is), refl)
+tested-requires-clause-tabled c = (
+  shape.Not c.in-Not.operand,
+  shape_at c.args.peg.now.nodes c.args.node _ (c.node.ensures ∙ ap Some c.in-Not.is),
+  refl,
+)
 
 pub tested-requires-clause-led : goal.tested-requires-clause-led
 tested-requires-clause-led c =
@@ -97,8 +100,11 @@ tested-requires-clause-led c =
     ((shape.Not c.in-Not.operand, here, refl), ((like.0, like.2), well.1))
 
 pub tested-requires-in-Opt-clause-tabled : goal.tested-requires-in-Opt-clause-tabled
-tested-requires-in-Opt-clause-tabled c =
-    (shape.Opt c.in-Opt.operand, shape_at c.args.peg.now.nodes c.args.node _ (c.node.ensures ∙ ap Some c.in-Opt.is), refl)
+tested-requires-in-Opt-clause-tabled c = (
+  shape.Opt c.in-Opt.operand,
+  shape_at c.args.peg.now.nodes c.args.node _ (c.node.ensures ∙ ap Some c.in-Opt.is),
+  refl,
+)
 
 pub tested-requires-in-Opt-clause-led : goal.tested-requires-in-Opt-clause-led
 tested-requires-in-Opt-clause-led c =
@@ -108,8 +114,11 @@ tested-requires-in-Opt-clause-led c =
     ((shape.Opt c.in-Opt.operand, here, refl), ((like.0, like.2), well.1))
 
 pub tested-requires-in-And-clause-tabled : goal.tested-requires-in-And-clause-tabled
-tested-requires-in-And-clause-tabled c =
-    (shape.And c.in-And.operand, shape_at c.args.peg.now.nodes c.args.node _ (c.node.ensures ∙ ap Some c.in-And.is), refl)
+tested-requires-in-And-clause-tabled c = (
+  shape.And c.in-And.operand,
+  shape_at c.args.peg.now.nodes c.args.node _ (c.node.ensures ∙ ap Some c.in-And.is),
+  refl,
+)
 
 pub tested-requires-in-And-clause-led : goal.tested-requires-in-And-clause-led
 tested-requires-in-And-clause-led c =

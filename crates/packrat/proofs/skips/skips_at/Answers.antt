@@ -19,6 +19,7 @@ returns c = record {
   spot = refl;
   at = c.requires.at;
   passed = c.skip_at-skip.ensures c.args.alternatives.now c.requires.at;
-  rest = subst (λ v. IsRest c.args.peg.now.keys c.args.choice c.args.alternatives.now v c.args.place c.rest_from.result) c.from.ensures
+  rest = subst (λ v. IsRest c.args.peg.now.keys c.args.choice c.args.alternatives.now v c.args.place
+      c.rest_from.result) c.from.ensures
       c.rest_from.ensures;
 }

@@ -39,6 +39,7 @@ returns-else-not-is_test-clause-added c =
     let low : c.args.n < length c.args.grammar.now.nodes.now =
     ltb-true c.args.n (length c.args.grammar.now.nodes.now) (sym found.0) in
     let at = node_at c.args.grammar.now.nodes.now c.args.n c.in-Some.node.now low found.1 in
-    placed_as _ _ c.add_run-in-Some.result (run_placed (shapes_of c.args.grammar.now.nodes.now) c.args.grammar.now.bodies.now
+    placed_as _ _ c.add_run-in-Some.result (run_placed (shapes_of c.args.grammar.now.nodes.now)
+    c.args.grammar.now.bodies.now
     (marks_in c.args.grammar.now) c.add_run-in-Some.new.runs.items c.args.tables.now.choices.items c.args.n c.args.n
     (shape_of c.in-Some.node.now) at (c.if-not-is_test.ensures refl c.args.n)) c.add_run-in-Some.ensures.added

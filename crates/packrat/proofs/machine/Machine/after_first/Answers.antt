@@ -1,6 +1,6 @@
 use Rattle.std.proofs.Common.{refl, sym}
 use Rattle.memo.specs.declared.spot.Spot.TheVariants.{Pair}
-use Rattle.packrat.specs.Turns.{turn_of}
+use Rattle.packrat.specs.LoopTurns.{turn_of}
 use Rattle.packrat.specs.declared.frames.Wait.TheVariants.{First}
 use Rattle.packrat.proofs.StandsLemmas as L
 use Rattle.packrat.proofs.LeftLemmas as M
@@ -34,14 +34,16 @@ pub returns-in_ok-wait_last-in-Passes-clause-stands : goal.returns-in_ok-wait_la
 returns-in_ok-wait_last-in-Passes-clause-stands c = λ more some root s.
     L.stands_on c.args.peg.now c.args.window.now more c.args.peg.now.keys root c.args.spot c.args.given
     c.args.self.now.frames c.args.self.now.log.stored c.args.self.now.events c.args.self.now.begun c.args.key s
-    (Pair c.in-Passes.node c.in-Passes.place) c.wait_last.new.frames (c.in-Passes.ensures more some) c.in_ok-wait_last-in-Passes.ensures
+    (Pair c.in-Passes.node c.in-Passes.place) c.wait_last.new.frames (c.in-Passes.ensures more some)
+    c.in_ok-wait_last-in-Passes.ensures
 
 pub returns-in_ok-wait_last-in-Passes-clause-less : goal.returns-in_ok-wait_last-in-Passes-clause-less
 returns-in_ok-wait_last-in-Passes-clause-less c = λ more some root s.
     M.less_on c.args.peg.now c.args.window.now c.args.spot
     (L.first_kid c.args.peg.now c.args.window.now more c.args.peg.now.keys root c.args.spot c.args.given
     c.args.self.now.frames c.args.self.now.log.stored c.args.self.now.events c.args.self.now.begun c.args.key s)
-    (Pair c.in-Passes.node c.in-Passes.place) c.args.given c.args.key c.args.given.events c.args.self.now.frames c.wait_last.new.frames
+    (Pair c.in-Passes.node c.in-Passes.place) c.args.given c.args.key c.args.given.events c.args.self.now.frames
+    c.wait_last.new.frames
     c.args.self.now.begun
     (L.second_kid c.args.peg.now c.args.window.now more c.args.peg.now.keys root c.args.spot c.args.given
     c.args.self.now.frames c.args.self.now.log.stored c.args.self.now.events c.args.self.now.begun c.args.key s
@@ -56,7 +58,8 @@ returns-in_ok-enter-in-Enters-clause-stands c = λ more some root s.
     c.in-Enters.entering c.wait_last-in-Enters.new.frames c.enter.new.frames (turn_of c.in_ok-enter-in-Enters.field-0)
     (L.tail_marked c.args.peg.now c.args.window.now more c.args.peg.now.keys root c.args.spot c.args.given
     c.args.self.now.frames c.args.self.now.log.stored c.args.self.now.events c.args.self.now.begun c.args.key s
-    c.in-Enters.entering (c.in-Enters.ensures more some)) (c.in-Enters.ensures more some) c.in_ok-wait_last-in-Enters.ensures c.in_ok-enter-in-Enters.ensures.entered)
+    c.in-Enters.entering (c.in-Enters.ensures more some)) (c.in-Enters.ensures more some)
+    c.in_ok-wait_last-in-Enters.ensures c.in_ok-enter-in-Enters.ensures.entered)
 
 pub returns-in_ok-enter-in-Enters-clause-less : goal.returns-in_ok-enter-in-Enters-clause-less
 returns-in_ok-enter-in-Enters-clause-less c = λ more some root s.

@@ -3,7 +3,7 @@ use Rattle.memo.specs.declared.spot.Spot.TheVariants.{Pair}
 use Rattle.memo.specs.KeyLog.{spots_of}
 use Rattle.memo.specs.Parts.{IsIn}
 use Rattle.packrat.specs.Known.{taken_of}
-use Rattle.packrat.specs.Turns.{Ask}
+use Rattle.packrat.specs.LoopTurns.{Ask}
 use Rattle.packrat.specs.TurnsLeft.{left}
 use Rattle.packrat.proofs.StandsLemmas as L
 use Rattle.packrat.proofs.LeftLemmas as M

@@ -1,6 +1,6 @@
 use Rattle.std.proofs.Common.{◌<◌, ◌∷◌, Some, refl, sym, subst, ap, arith}
 use Rattle.memo.specs.declared.spot.Spot.TheVariants.{Pair}
-use Rattle.packrat.specs.Turns.{Ask, Answer, turn_of}
+use Rattle.packrat.specs.LoopTurns.{Ask, Answer, turn_of}
 use Rattle.packrat.specs.Stands.{Stands, AreOn, LowersLeft}
 use Rattle.packrat.specs.TurnsLeft.{left}
 use Rattle.packrat.proofs.StandsLemmas as L
@@ -26,28 +26,35 @@ ask-requires-clause-few c =
 
 pub turns-smaller-in-Some : goal.turns-smaller-in-Some
 turns-smaller-in-Some c =
-    let stands = L.stands_as c.args.peg.now c.args.window.now c.args.more c.args.peg.now.keys (ap turn_of c.in-Ask.is) refl refl refl
+    let stands = L.stands_as c.args.peg.now c.args.window.now c.args.more c.args.peg.now.keys (ap turn_of c.in-Ask.is)
+    refl refl refl
     refl c.turns.invariant.stands in
     let on : AreOn c.args.peg.now c.args.window.now c.args.more c.args.peg.now.keys (Pair c.args.root 0)
     (Some c.in-Some.next) c.ask.new.self.frames c.ask.new.self.log.stored c.ask.new.self.events c.ask.new.self.begun =
     subst (λ v. AreOn c.args.peg.now c.args.window.now c.args.more c.args.peg.now.keys (Pair c.args.root 0) v
     c.ask.new.self.frames c.ask.new.self.log.stored c.ask.new.self.events c.ask.new.self.begun) c.in-Some.is
     (c.in_ok-next-in-Ask.ensures.stands (Pair c.args.root 0) stands) in
-    let few = L.stands_few c.args.peg.now c.args.window.now c.args.more c.args.peg.now.keys c.args.root (turn_of c.in-Some.next)
+    let few = L.stands_few c.args.peg.now c.args.window.now c.args.more c.args.peg.now.keys c.args.root (turn_of
+    c.in-Some.next)
     c.ask.new.self.frames c.ask.new.self.log.stored c.ask.new.self.events c.ask.new.self.begun c.requires.sound
     c.requires.root c.requires.keys on in
     let less : LowersLeft c.args.peg.now c.args.window.now (Some c.in-Some.next) c.ask.new.self.frames
-    c.ask.new.self.begun (left c.args.peg.now c.args.window.now (Ask (Pair c.in-Ask.node c.in-Ask.place)) c.turns.self.frames
+    c.ask.new.self.begun (left c.args.peg.now c.args.window.now (Ask (Pair c.in-Ask.node c.in-Ask.place))
+    c.turns.self.frames
     c.turns.self.begun) =
     subst (λ v. LowersLeft c.args.peg.now c.args.window.now v c.ask.new.self.frames c.ask.new.self.begun
-    (left c.args.peg.now c.args.window.now (Ask (Pair c.in-Ask.node c.in-Ask.place)) c.turns.self.frames c.turns.self.begun))
+    (left c.args.peg.now c.args.window.now (Ask (Pair c.in-Ask.node c.in-Ask.place)) c.turns.self.frames
+    c.turns.self.begun))
     c.in-Some.is (c.in_ok-next-in-Ask.ensures.less few) in
-    subst (λ v. left c.args.peg.now c.args.window.now (turn_of c.in-Some.next) c.ask.new.self.frames c.ask.new.self.begun
-    < left c.args.peg.now c.args.window.now v c.turns.self.frames c.turns.self.begun) (sym (ap turn_of c.in-Ask.is)) less
+    subst (λ v. left c.args.peg.now c.args.window.now (turn_of c.in-Some.next) c.ask.new.self.frames
+    c.ask.new.self.begun
+    < left c.args.peg.now c.args.window.now v c.turns.self.frames c.turns.self.begun) (sym (ap turn_of c.in-Ask.is))
+    less
 
 pub returns-in-None : goal.returns-in-None
 returns-in-None c =
-    let stands = L.stands_as c.args.peg.now c.args.window.now c.args.more c.args.peg.now.keys (ap turn_of c.in-Ask.is) refl refl refl
+    let stands = L.stands_as c.args.peg.now c.args.window.now c.args.more c.args.peg.now.keys (ap turn_of c.in-Ask.is)
+    refl refl refl
     refl c.turns.invariant.stands in (
       subst (λ v. AreOn c.args.peg.now c.args.window.now c.args.more c.args.peg.now.keys (Pair c.args.root 0) v
           c.ask.new.self.frames c.ask.new.self.log.stored c.ask.new.self.events c.ask.new.self.begun) c.in-None.is
@@ -57,7 +64,8 @@ returns-in-None c =
 
 pub returns-in-None-pop : goal.returns-in-None-pop
 returns-in-None-pop c =
-    let stands = L.stands_as c.args.peg.now c.args.window.now c.args.more c.args.peg.now.keys (ap turn_of c.in-Answer.is)
+    let stands = L.stands_as c.args.peg.now c.args.window.now c.args.more c.args.peg.now.keys (ap turn_of
+    c.in-Answer.is)
     c.in-None-pop.ensures.none refl refl refl c.turns.invariant.stands in
     record {
       keys = c.turns.invariant.stands.given;
@@ -70,7 +78,8 @@ returns-in-None-pop c =
 
 pub turns-smaller : goal.turns-smaller
 turns-smaller c =
-    let stands = L.stands_as c.args.peg.now c.args.window.now c.args.more c.args.peg.now.keys (ap turn_of c.in-Answer.is)
+    let stands = L.stands_as c.args.peg.now c.args.window.now c.args.more c.args.peg.now.keys (ap turn_of
+    c.in-Answer.is)
     c.in-Some-pop.ensures.some refl refl refl c.turns.invariant.stands in
     subst (λ v. left c.args.peg.now c.args.window.now (turn_of c.in_ok-turn-in-Some-pop.turn) c.resume.new.self.frames
     c.resume.new.self.begun < left c.args.peg.now c.args.window.now v c.turns.self.frames c.turns.self.begun)

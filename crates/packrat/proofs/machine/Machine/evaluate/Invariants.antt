@@ -1,7 +1,7 @@
 use Rattle.std.proofs.Common.{◌≡◌, length}
 use Rattle.memo.specs.declared.spot.Spot.TheVariants.{Pair}
 use Rattle.packrat.specs.Stands.{Stands}
-use Rattle.packrat.specs.Turns.{turn_of}
+use Rattle.packrat.specs.LoopTurns.{turn_of}
 use Rattle.packrat.specs.TurnsLeft.{left}
 use Rattle.packrat.proofs.machine.Machine.evaluate.Given as goal
 

@@ -1,5 +1,5 @@
 use Rattle.std.proofs.Common.{◌≡◌, ◌<◌, ◌∷◌, ◌++◌, IfOk, sym, subst}
-use Rattle.packrat.specs.Turns.{Answer, turn_of}
+use Rattle.packrat.specs.LoopTurns.{Answer, turn_of}
 use Rattle.packrat.specs.Stands.{Stands}
 use Rattle.packrat.specs.TurnsLeft.{left}
 use Rattle.packrat.proofs.StandsLemmas as L

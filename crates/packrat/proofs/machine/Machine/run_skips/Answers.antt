@@ -1,5 +1,5 @@
 use Rattle.std.proofs.Common.{refl, sym}
-use Rattle.packrat.specs.Turns.{turn_of}
+use Rattle.packrat.specs.LoopTurns.{turn_of}
 use Rattle.packrat.proofs.StandsLemmas as L
 use Rattle.packrat.proofs.SkippedLemmas as K
 use Rattle.packrat.proofs.machine.Machine.run_skips.Goals as goal

@@ -8,7 +8,7 @@ use Rattle.packrat.specs.ByteGives.{turns_closed}
 use Rattle.packrat.specs.MachineSteps.{store}
 use Rattle.packrat.specs.Stands.{Stands}
 use Rattle.packrat.specs.Turned.{AreEnded}
-use Rattle.packrat.specs.Turns.{Ask, Answer}
+use Rattle.packrat.specs.LoopTurns.{Ask, Answer}
 use Rattle.memo.specs.declared.spot.Spot.{Spot}
 use Rattle.memo.specs.declared.spot.Spot.TheVariants.{Pair}
 use Rattle.packrat.proofs.TurnedLemmas as L

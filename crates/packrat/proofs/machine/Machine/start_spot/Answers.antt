@@ -1,7 +1,7 @@
 use Rattle.std.proofs.Common.{◌<◌, ◌+◌, refl, sym, subst, ◌∙◌}
 use Rattle.memo.specs.declared.found.Found.TheVariants.{Took}
 use Rattle.packrat.proofs.KeptAtLemmas.{grown_same}
-use Rattle.packrat.specs.Turns.{Ask, turn_of}
+use Rattle.packrat.specs.LoopTurns.{Ask, turn_of}
 use Rattle.memo.specs.declared.spot.Spot.TheVariants.{Pair}
 use Rattle.packrat.specs.Onward.{AfterStart, tail_of}
 use Rattle.packrat.specs.TurnsLeft.{left}
@@ -60,16 +60,19 @@ returns-in_ok-push-in-Leads-clause-stands c = λ more h root key fresh s.
     (sym c.counted-self.ensures)
     (L.stands_down c.args.peg.now c.args.window.now more c.args.peg.now.keys root c.args.spot
     c.args.self.now.frames c.args.self.now.log.stored
-    c.args.self.now.events c.args.self.now.begun s (λ t. fresh (key ∙ t)) (Pair c.in-Leads.node c.in-Leads.place) c.args.key key
+    c.args.self.now.events c.args.self.now.begun s (λ t. fresh (key ∙ t)) (Pair c.in-Leads.node c.in-Leads.place)
+    c.args.key key
     e)
 
 pub returns-in_ok-push-in-Leads-clause-less : goal.returns-in_ok-push-in-Leads-clause-less
 returns-in_ok-push-in-Leads-clause-less c = λ more h le.
     let e = subst (AfterStart c.args.peg.now c.args.window.now more c.args.spot) c.in-Leads.is h in
-    subst (λ v. left c.args.peg.now c.args.window.now (Ask (Pair c.in-Leads.node c.in-Leads.place)) v c.counted-self.result
+    subst (λ v. left c.args.peg.now c.args.window.now (Ask (Pair c.in-Leads.node c.in-Leads.place)) v
+    c.counted-self.result
     < left c.args.peg.now c.args.window.now (Ask c.args.spot) c.args.self.now.frames c.args.self.now.begun)
     (sym c.in_ok-push-in-Leads.ensures)
-    (M.less_down c.args.peg.now c.args.window.now c.args.spot (Pair c.in-Leads.node c.in-Leads.place) c.args.key c.args.self.now.frames
+    (M.less_down c.args.peg.now c.args.window.now c.args.spot (Pair c.in-Leads.node c.in-Leads.place) c.args.key
+    c.args.self.now.frames
     c.args.self.now.begun c.counted-self.result c.counted-self.ensures le c.requires.well e.0)
 
 pub returns-in_ok-wait_last-in-Passes-clause-stands : goal.returns-in_ok-wait_last-in-Passes-clause-stands
@@ -79,7 +82,8 @@ returns-in_ok-wait_last-in-Passes-clause-stands c = λ more h root key fresh s.
     c.counted-self.ensures)
     (L.stands_pass c.args.peg.now c.args.window.now more c.args.peg.now.keys root c.args.spot
     c.args.self.now.frames c.args.self.now.log.stored
-    c.args.self.now.events c.args.self.now.begun s (λ t. fresh (key ∙ t)) (Pair c.in-Passes.node c.in-Passes.place) c.args.key
+    c.args.self.now.events c.args.self.now.begun s (λ t. fresh (key ∙ t)) (Pair c.in-Passes.node c.in-Passes.place)
+    c.args.key
     c.wait_last.new.frames
     key e c.in_ok-wait_last-in-Passes.ensures)
 
