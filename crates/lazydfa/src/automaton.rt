@@ -105,13 +105,6 @@ fn is_yes(verdict: Verdict) -> bool
     }
 }
 
-// Returns whether an automaton may judge by these tables.
-fn are_served(tables: &Tables) -> bool
-    ensures { IsTrue result → AreUncounted (flat_of tables.now) × IsOne (flat_of tables.now) }
-{
-    are_uncounted(tables) && is_one(tables)
-}
-
 // Returns a memo with no state and no unfold, of a grammar of so many nodes, in such a room. It takes no memory.
 fn empty_memo(alloc: Global, nodes: usize, room: usize) -> Memo
     ensures conts { result.cache.conts.items.items ≡ [] }
@@ -159,7 +152,10 @@ impl Automaton {
         ensures { IfOk result (λ made. IfSome made (λ automaton. automaton ≡ flat.now)) }
     {
         let tables = flat.share()?;
-        if !are_served(&tables) {
+        if !are_uncounted(&tables) {
+            return Ok(None);
+        }
+        if !is_one(&tables) {
             return Ok(None);
         }
         let classes = find_classes(alloc, &tables)?;

@@ -53,13 +53,6 @@ impl Budget {
         self.spent = self.spent.saturating_add(turns);
     }
 
-    // Returns how many turns are left.
-    fn left(&self) -> usize {
-        let gift = self.letters.saturating_mul(TURNS).min(GIFT);
-        let earned = self.turns.saturating_add(gift).saturating_add(self.letters);
-        earned.saturating_sub(self.spent)
-    }
-
     /// Notes a new state with so many tops, or an unfold, which has none.
     pub(crate) fn note(&mut self, tops: usize) {
         self.tops = self.tops.saturating_add(tops).saturating_add(4);
@@ -67,6 +60,9 @@ impl Budget {
 
     /// Returns whether so many turns may be spent while there are so many continuations and cells.
     pub(crate) fn allows(&self, turns: usize, entries: usize) -> bool {
-        !self.is_shut && turns <= self.left() && (self.tops / 4).saturating_add(entries) < self.room
+        let gift = self.letters.saturating_mul(TURNS).min(GIFT);
+        let earned = self.turns.saturating_add(gift).saturating_add(self.letters);
+        let has_turns = turns <= earned.saturating_sub(self.spent);
+        !self.is_shut && has_turns && (self.tops / 4).saturating_add(entries) < self.room
     }
 }

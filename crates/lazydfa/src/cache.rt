@@ -59,19 +59,6 @@ pub(crate) struct Cache {
     pub(crate) budget: Budget,
 }
 
-/// Forgets all.
-pub(crate) fn forget(cache: &mut Cache)
-    ensures conts { cache.new.conts.items.items ≡ [] }
-    ensures states { cache.new.states.items ≡ [] }
-    ensures cells { cache.new.cells.items ≡ [] }
-{
-    cache.conts.items.clear();
-    cache.conts.chains.clear();
-    cache.states.clear();
-    cache.chains.clear();
-    cache.cells.clear();
-}
-
 /// Returns whether a continuation reads a symbol.
 fn cont_reads(tables: &Tables, id: usize, value: u32, conts: &Conts) -> bool
     requires within { id ≤ length conts.now.items.items }
@@ -158,8 +145,7 @@ fn find(states: &[State], chains: &Chains, tops: &[usize], ended: bool) -> Optio
 
 // Adds the last state to chains. Where there are fewer chains than states, more of them are made.
 fn chain_last(states: &[State], chains: &mut Chains) -> Result<(), Memory> {
-    if chains.is_crowded() {
-        chains.restart(states.len().saturating_mul(2).max(256))?;
+    if chains.restart(states.len().saturating_mul(2).max(256))? {
         for state in states {
             chains.add(hash_of_tops(&state.tops))?;
         }

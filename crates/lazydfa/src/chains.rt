@@ -63,17 +63,15 @@ impl Chains {
         self.heads.clear();
     }
 
-    /// Returns whether there are fewer chains than entries.
-    pub(crate) fn is_crowded(&self) -> bool {
-        self.heads.len() <= self.links.len()
-    }
-
-    /// Forgets all entries, and makes at least so many chains, a power of two. `Memory` if an allocation fails; there
-    /// is no chain then.
-    pub(crate) fn restart(&mut self, count: usize) -> Result<(), Memory> {
+    /// Where there are fewer chains than entries, forgets all entries, and makes at least so many chains, a power of
+    /// two; returns whether it does. `Memory` if an allocation fails; there is no chain then.
+    pub(crate) fn restart(&mut self, count: usize) -> Result<bool, Memory> {
+        if self.heads.len() > self.links.len() {
+            return Ok(false);
+        }
         self.clear();
         let count = count.checked_next_power_of_two().unwrap_or(count);
         self.heads.resize(count, 0usize)?;
-        Ok(())
+        Ok(true)
     }
 }

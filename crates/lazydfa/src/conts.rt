@@ -61,8 +61,7 @@ pub(crate) struct Conts {
 
 // Adds the last continuation to chains. Where there are fewer chains than continuations, more of them are made.
 fn chain_last(conts: &[Cont], chains: &mut Chains) -> Result<(), Memory> {
-    if chains.is_crowded() {
-        chains.restart(conts.len().saturating_mul(2).max(1024))?;
+    if chains.restart(conts.len().saturating_mul(2).max(1024))? {
         for cont in conts {
             chains.add(hash_of_cont(*cont))?;
         }

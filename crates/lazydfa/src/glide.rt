@@ -80,16 +80,17 @@ fn stay_on<L: Letter>(
     at
 }
 
-// Runs as `glide` does where no part is below, and tries no state's stay.
+// Runs as `glide` does, symbol by symbol; with `is_bare` there is no part.
 #[inline(always)]
-fn glide_bare<L: Letter>(
+fn glide_short<L: Letter>(
     memo: &Memo,
     low: &[u8; 256],
     samples: &[u32],
     line: &[L],
     from: Track,
+    is_bare: bool,
 ) -> Track
-    requires bare { memo.now.parts.items ≡ [] }
+    requires bare { IsTrue is_bare → memo.now.parts.items ≡ [] }
     requires within { from.at ≤ length line.now }
     ensures within { result.at ≤ length line.now }
     ensures further { from.at ≤ result.at }
@@ -99,7 +100,7 @@ fn glide_bare<L: Letter>(
     let mut track = from;
     while track.at < line.len() {
         let class = class_of(low, samples, line[track.at].value());
-        let Some(row) = next_row(hops, samples.len(), true, track.row, class) else {
+        let Some(row) = next_row(hops, samples.len(), is_bare, track.row, class) else {
             return track;
         };
         track = Track {
@@ -110,9 +111,9 @@ fn glide_bare<L: Letter>(
     track
 }
 
-// Runs as `glide` does, over parts too, and over four symbols at a time where a state stays in a long line.
+// Runs as `glide` does, and by four symbols at a time where a state stays.
 #[inline(never)]
-fn glide_on<L: Letter>(
+fn glide_long<L: Letter>(
     memo: &Memo,
     low: &[u8; 256],
     samples: &[u32],
@@ -125,7 +126,6 @@ fn glide_on<L: Letter>(
     ensures glides { GlidesOver low.now samples.now memo.now (map L.number line.now) from result }
 {
     let is_bare = memo.parts.len() == 0;
-    let is_long = line.len() >= LONG;
     let hops = memo.hops.as_slice();
     let mut track = from;
     while track.at < line.len() {
@@ -133,7 +133,7 @@ fn glide_on<L: Letter>(
         let Some(row) = next_row(hops, samples.len(), is_bare, track.row, class) else {
             return track;
         };
-        let is_tried = is_long && row == track.row;
+        let is_tried = row == track.row;
         let next = Track {
             row,
             at: track.at + 1,
@@ -161,8 +161,11 @@ pub(crate) fn glide<L: Letter>(
     ensures further { from.at ≤ result.at }
     ensures glides { GlidesOver low.now samples.now memo.now (map L.number line.now) from result }
 {
-    if line.len() < LONG && memo.parts.len() == 0 {
-        return glide_bare(memo, low, samples, line, from);
+    if line.len() >= LONG {
+        return glide_long(memo, low, samples, line, from);
     }
-    glide_on(memo, low, samples, line, from)
+    if memo.parts.len() == 0 {
+        return glide_short(memo, low, samples, line, from, true);
+    }
+    glide_short(memo, low, samples, line, from, false)
 }

@@ -26,27 +26,16 @@ pub(crate) fn next_row(
     match hops.get(at) {
         Some(next) if *next < PLACES => {
             let next = *next as usize;
-            if is_bare || runs_on(hops, classes, next) {
-                Some(next)
-            } else {
-                None
+            if is_bare {
+                return Some(next);
+            }
+            let last = next.checked_add(classes)?;
+            match hops.get(last) {
+                Some(0) => Some(next),
+                _ => None,
             }
         }
         _ => None,
-    }
-}
-
-// Returns whether the state of a row has not ended, if its last word says so.
-#[inline(always)]
-fn runs_on(hops: &[u32], classes: usize, row: usize) -> bool
-    ensures { IsTrue result → slice_get hops.now (row + classes) ≡ Some 0 }
-{
-    let Some(at) = row.checked_add(classes) else {
-        return false;
-    };
-    match hops.get(at) {
-        Some(last) => *last == 0,
-        None => false,
     }
 }
 
@@ -107,51 +96,6 @@ fn end_word(state: &State) -> u32
     if state.ended { 1 } else { 0 }
 }
 
-// Returns whether the word of a state and a class says something.
-#[inline(always)]
-fn is_noted(hops: &[u32], classes: usize, state: usize, class: usize) -> bool {
-    let Some(at) = spot(state, classes.wrapping_add(1), class) else {
-        return false;
-    };
-    match hops.get(at) {
-        Some(known) => *known < PLACES,
-        None => false,
-    }
-}
-
-// Keeps a hop as `note_hop` does, also where it is known.
-#[inline(never)]
-fn write_hop(
-    cache: &Cache,
-    classes: usize,
-    hops: &mut Vec<u32>,
-    state: usize,
-    class: usize,
-    to: usize,
-) -> Result<(), Memory>
-    ensures { IfOk result (λ done. AreHopsNoted cache.now.states.items classes state class to hops.old.items
-        hops.new.items) }
-{
-    let Some(stride) = classes.checked_add(1) else {
-        return Ok(());
-    };
-    let Some(there) = cache.states.get(to) else {
-        return Ok(());
-    };
-    let (Some(at), Some(row)) = (spot(state, stride, class), spot(to, stride, 0)) else {
-        return Ok(());
-    };
-    let (Ok(word), Some(last)) = (u32::try_from(row), row.checked_add(classes)) else {
-        return Ok(());
-    };
-    if class >= classes {
-        return Ok(());
-    }
-    put_hop(hops, at, word)?;
-    put_hop(hops, last, end_word(there))?;
-    Ok(())
-}
-
 /// Keeps that a class leads from a state to another, and whether that has ended, if that is not known and the place of
 /// its row is below 2 ^ 32. `Memory` if an allocation fails.
 #[inline(always)]
@@ -166,8 +110,26 @@ pub(crate) fn note_hop(
     ensures { IfOk result (λ done. AreHopsNoted cache.now.states.items classes state class to hops.old.items
         hops.new.items) }
 {
-    if is_noted(hops, classes, state, class) {
+    let Some(stride) = classes.checked_add(1) else {
+        return Ok(());
+    };
+    let Some(at) = spot(state, stride, class) else {
+        return Ok(());
+    };
+    match hops.get(at) {
+        Some(known) if *known < PLACES => return Ok(()),
+        _ => {}
+    }
+    let (Some(there), Some(row)) = (cache.states.get(to), spot(to, stride, 0)) else {
+        return Ok(());
+    };
+    let (Ok(word), Some(last)) = (u32::try_from(row), row.checked_add(classes)) else {
+        return Ok(());
+    };
+    if class >= classes {
         return Ok(());
     }
-    write_hop(cache, classes, hops, state, class, to)
+    put_hop(hops, at, word)?;
+    put_hop(hops, last, end_word(there))?;
+    Ok(())
 }

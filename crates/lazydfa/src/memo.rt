@@ -4,7 +4,7 @@ ghost use Rattle.lazydfa.specs.Cached.{IsCache, Grows};
 ghost use Rattle.lazydfa.specs.Memos.{IsKnown, IsMemo, IsUnfold};
 ghost use Rattle.lazydfa.specs.declared.cache.State.{State};
 
-use crate::cache::{Cache, forget, state_of};
+use crate::cache::{Cache, state_of};
 use crate::chains::Chains;
 use crate::fill::may_fill;
 use crate::parts::put_back;
@@ -53,7 +53,11 @@ pub(crate) fn forget_all(memo: &mut Memo)
     ensures hops { memo.new.hops.items ≡ [] }
     ensures unfolds { memo.new.unfolds.items ≡ [] }
 {
-    forget(&mut memo.cache);
+    memo.cache.conts.items.clear();
+    memo.cache.conts.chains.clear();
+    memo.cache.states.clear();
+    memo.cache.chains.clear();
+    memo.cache.cells.clear();
     memo.hops.clear();
     memo.unfolds.clear();
     memo.chains.clear();
@@ -85,8 +89,7 @@ fn find(unfolds: &[Unfold], chains: &Chains, state: usize, part: usize) -> Optio
 
 // Adds the last unfold to chains. Where there are fewer chains than unfolds, more of them are made.
 fn chain_last(unfolds: &[Unfold], chains: &mut Chains) -> Result<(), Memory> {
-    if chains.is_crowded() {
-        chains.restart(unfolds.len().saturating_mul(2).max(64))?;
+    if chains.restart(unfolds.len().saturating_mul(2).max(64))? {
         for known in unfolds {
             chains.add(hash_of_pair(known.state, known.part))?;
         }

@@ -30,14 +30,6 @@ fn entry(conts: &Conts, id: usize) -> Option<Cont> {
     conts.items.get(k).copied()
 }
 
-// Returns the id of what a continuation stands on.
-fn below(conts: &Conts, id: usize) -> usize {
-    match entry(conts, id) {
-        Some(cont) => cont.next,
-        None => 0,
-    }
-}
-
 // Returns the id of what both continuations are or stand on, if it is not too deep. What stands below has a lower id.
 fn common(conts: &Conts, a: usize, b: usize) -> usize {
     let mut a = a;
@@ -46,25 +38,28 @@ fn common(conts: &Conts, a: usize, b: usize) -> usize {
         if a == b {
             return a;
         }
-        if a > b {
-            a = below(conts, a);
-        } else {
-            b = below(conts, b);
-        }
+        let Some(cont) = entry(conts, a.max(b)) else {
+            return 0;
+        };
+        b = a.min(b);
+        a = cont.next;
     }
     0
 }
 
 // Returns the id of what all tops stand on.
 fn common_part(conts: &Conts, tops: &[usize]) -> usize {
-    let Some(first) = tops.first() else {
-        return 0;
-    };
-    let mut part = below(conts, *first);
+    let mut part = None;
     for top in tops {
-        part = common(conts, part, below(conts, *top));
+        let Some(cont) = entry(conts, *top) else {
+            return 0;
+        };
+        part = match part {
+            Some(id) => Some(common(conts, id, cont.next)),
+            None => Some(cont.next),
+        };
     }
-    part
+    part.unwrap_or(0)
 }
 
 // Returns whether the place of a continuation stands again below it.

@@ -217,7 +217,8 @@ ascended_more old mid new moved filtered i free = record {
 
 pub classes_made : (flat : Flat) (none begun added sorted got low : List ℕ) → got ≡ sorted → IsBoundAdded none begun 0
     → AreMoreBounds begun added → AreNodesSplit added flat.nodes → AreMoreBounds added sorted
-    → IsStrictlyIncreasing sorted → ((flat : Flat) → AreParted flat got → AreLow flat got low) → AreClasses flat low sorted
+    → IsStrictlyIncreasing sorted → ((flat : Flat) → AreParted flat got → AreLow flat got low)
+    → AreClasses flat low sorted
 classes_made flat none begun added sorted got low same begins older split more ordered low_are =
     let parted : AreParted flat sorted = record {
       first = λ free. (begins 0 (older 0 (more 0 free))).1 refl;

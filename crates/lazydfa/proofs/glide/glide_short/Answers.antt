@@ -1,10 +1,10 @@
-use Rattle.std.proofs.Common.{subst, map, arith, ◌+◌, length, true}
+use Rattle.std.proofs.Common.{subst, map, arith, ◌+◌, length}
 use Rattle.std.specs.Prelude.{IfSome}
 use Rattle.flatgrammar.specs.NodeSteps.{flat_of}
 use Rattle.lazydfa.specs.Hops.{IsTaken}
 use Rattle.lazydfa.proofs.IsRunVerdictLemmas.{number_at}
 use Rattle.lazydfa.proofs.IsTrackLemmas.{hop_taken}
-use Rattle.lazydfa.proofs.glide.glide_bare.Goals as goal
+use Rattle.lazydfa.proofs.glide.glide_short.Goals as goal
 
 pub loop-track-preserved : goal.loop-track-preserved
 loop-track-preserved g c = record {
@@ -12,12 +12,12 @@ loop-track-preserved g c = record {
   further = omega arith;
   glides = λ tables roots classes memo track.
       let x = map g.L.Letter.number c.args.line.now in
-      let taken = subst (λ v. IsTaken v (length c.args.samples.now) true
+      let taken = subst (λ v. IsTaken v (length c.args.samples.now) c.args.is_bare
       (c.loop-track.track.row + c.class_of-class.result) c.in-Some.row) c.as_slice-hops.ensures.value
-      (subst (λ v. IfSome v (IsTaken c.as_slice-hops.result.now (length c.args.samples.now) true
+      (subst (λ v. IfSome v (IsTaken c.as_slice-hops.result.now (length c.args.samples.now) c.args.is_bare
       (c.loop-track.track.row + c.class_of-class.result))) c.in-Some.is c.next_row.ensures) in
       hop_taken tables roots c.args.samples.now c.args.memo.now memo x c.loop-track.track.row c.loop-track.track.at
-      c.value.result c.class_of-class.result c.in-Some.row true (λ _. c.requires.bare)
+      c.value.result c.class_of-class.result c.in-Some.row c.args.is_bare c.requires.bare
       (c.loop-track.invariant.glides tables roots classes memo track)
       (number_at g.L.Letter.number c.args.line.now c.loop-track.track.at c.index-line-track.result
       c.value.result c.loop-track-test.true c.index-line-track.is c.value.ensures.number)

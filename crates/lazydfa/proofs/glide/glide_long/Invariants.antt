@@ -1,6 +1,6 @@
 use Rattle.std.proofs.Common.{◌≤◌, ◌-◌, length, map}
 use Rattle.lazydfa.specs.Memos.{GlidesOver}
-use Rattle.lazydfa.proofs.glide.glide_on.Given as goal
+use Rattle.lazydfa.proofs.glide.glide_long.Given as goal
 
 abbrev pub invariant-loop-track : goal.invariant-loop-track
 invariant-loop-track g l = record {

@@ -5,7 +5,7 @@ use Rattle.flatgrammar.specs.NodeSteps.{flat_of}
 use Rattle.lazydfa.specs.Hops.{IsTaken, StaysOver}
 use Rattle.lazydfa.proofs.IsRunVerdictLemmas.{number_at}
 use Rattle.lazydfa.proofs.IsTrackLemmas.{hop_taken, stays_taken}
-use Rattle.lazydfa.proofs.glide.glide_on.Goals as goal
+use Rattle.lazydfa.proofs.glide.glide_long.Goals as goal
 
 pub loop-track-preserved : goal.loop-track-preserved
 loop-track-preserved g c = record {
