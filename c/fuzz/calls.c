@@ -240,7 +240,8 @@ static void run_opened(const test *it, const reply *run) {
     opened.got = fanquber_peg_open(&it->settings, at_front(it->grammar), it->grammar.len, at_front(it->name),
                                    it->name.len, &runner, at_front(opened.err), opened.err.len);
     CHECK(opened.got.out_len == 0 && runner.is_open == (opened.got.status == FANQUBER_DONE));
-    size_t front = held(opened.err, opened.got.err_len);
+    const size_t front = opened.got.err_len;
+    held(opened.err, front);
     int is_compared = it->settings.mode == FANQUBER_RUN && is_whole(run) && !is_cut(run->got.status);
     for (int turn = 0; turn < 2 && runner.is_open; turn++) {
         reply made = room_for(OUT_AGAIN, ROOM, ERR_AGAIN, ROOM);
