@@ -13,9 +13,9 @@
 #include <unistd.h>
 
 #ifndef MOST_LINES
-#define MOST_LINES 64 /* of an input that a judge answers */
+#define MOST_LINES 9 /* of an input that a judge answers */
 #endif
-enum { ROOM = 1 << 16, MEMORY = 256 << 20, FEATURES = 1 << 14 };
+enum { ROOM = 1 << 16, MEMORY = 64 << 20, FEATURES = 1 << 14 };
 
 #define CHECK(holds) \
     do { \
@@ -50,7 +50,7 @@ void __real_free(void *block);
 static int is_refused(size_t size) {
     feature(last, log_of(size)); /* two allocations in a row show which way a call went */
     last = 100 + log_of(size);
-    if (size > MEMORY - bytes) return 1;
+    if (bytes > MEMORY || size > MEMORY - bytes) return 1;
     if (granted > 0) granted--;
     return granted == 0;
 }
@@ -240,7 +240,8 @@ static void run_opened(const test *it, const reply *run) {
     opened.got = fanquber_peg_open(&it->settings, at_front(it->grammar), it->grammar.len, at_front(it->name),
                                    it->name.len, &runner, at_front(opened.err), opened.err.len);
     CHECK(opened.got.out_len == 0 && runner.is_open == (opened.got.status == FANQUBER_DONE));
-    size_t front = held(opened.err, opened.got.err_len);
+    const size_t front = opened.got.err_len;
+    held(opened.err, front);
     int is_compared = it->settings.mode == FANQUBER_RUN && is_whole(run) && !is_cut(run->got.status);
     for (int turn = 0; turn < 2 && runner.is_open; turn++) {
         reply made = room_for(OUT_AGAIN, ROOM, ERR_AGAIN, ROOM);
@@ -271,7 +272,7 @@ static void run_opened(const test *it, const reply *run) {
 
 /* Reads a test from bytes. Returns whether there is one. */
 static int read_case(test *it, const uint8_t *data, size_t size) {
-    static const size_t limits[] = { 256, 1, 2, 7, 16, 64, 100, 255 }, sizes[] = { 0, 1, 2, 5, 10, 30, 100, 4096 };
+    static const size_t limits[] = { 64, 1, 2, 7, 16, 32, 48, 100 }, sizes[] = { 0, 1, 2, 5, 10, 30, 100, 4096 };
     const uint8_t *first, *second, *text = data + 4, *end = data + size;
     if (size < 6 || size > ROOM / 8 || !(first = memchr(text, 0xFF, size - 4))) return 0;
     if (!(second = memchr(first + 1, 0xFF, (size_t)(end - first - 1)))) return 0;

@@ -193,25 +193,46 @@ class Server(MethodDispatcher):  # type: ignore[misc]
         it, found = self._same(textDocument, position)
         if not found:
             return None
-        try:
-            text = canonical_text(it.kind, it.text).decode("latin-1")
-        except FanquberError:
-            return None
-        arrow, key = " <- " if it.kind == "peg" else " = ", found[0].key
-        lines = (line for line in text.split("\n") if arrow in line)
-        line = next((line for line in lines if names.key_of(it.kind, line.split(arrow)[0]) == key), None)
-        if line is None:
+        key = found[0].key
+        shown = self._canonical(it, key) or self._written(it, key)
+        if not shown:
             core = it.kind == "abnf" and key.upper() in names.CORE
-            line = f"{found[0].spelled}: " + (
+            shown = f"{found[0].spelled}: " + (
                 "a core rule (RFC 5234, appendix B.1)" if core else "no rule has this name"
             )
         uses = sum(not place.defines for place in found)
-        return {"contents": {"kind": "markdown", "value": f"```{it.kind}\n{line}\n```\nused {uses} times"}}
+        count = "once" if uses == 1 else f"{uses} times"
+        return {"contents": {"kind": "markdown", "value": f"```{it.kind}\n{shown}\n```\nused {count}"}}
+
+    @staticmethod
+    def _canonical(it: Text, key: str) -> str:
+        """Returns the canonical text of a rule; empty if there is none, as of a grammar with a fault."""
+        try:
+            text = canonical_text(it.kind, it.text).decode("latin-1")
+        except FanquberError:
+            return ""
+        arrow = " <- " if it.kind == "peg" else " = "
+        lines = (line for line in text.split("\n") if arrow in line)
+        return next((line for line in lines if names.key_of(it.kind, line.split(arrow)[0]) == key), "")
+
+    @staticmethod
+    def _defined(it: Text) -> List[Tuple[names.Place, int]]:
+        """Returns the names that are defined, in order, each with where its definition ends."""
+        defined = [place for place in names.places(it.kind, it.text) if place.defines]
+        return list(zip(defined, [place.at for place in defined[1:]] + [len(it.text)]))
+
+    def _written(self, it: Text, key: str) -> str:
+        """Returns the definitions of a rule as they stand, without the comments after them; empty if there is none."""
+        kept: List[str] = []
+        for place, end in self._defined(it):
+            if place.key == key:
+                kept += it.text[place.at : end].splitlines()
+                while kept[-1].lstrip()[:1] in ("", ";", "#"):
+                    kept.pop()
+        return "\n".join(line.rstrip() for line in kept)
 
     def m_text_document__document_symbol(self, textDocument: Any, **_: Any) -> List[Dict[str, Any]]:
         it = self._texts[textDocument["uri"]]
-        defined = [place for place in names.places(it.kind, it.text) if place.defines]
-        ends = [place.at for place in defined[1:]] + [len(it.text)]
         return [
             {
                 "name": place.spelled,
@@ -219,7 +240,7 @@ class Server(MethodDispatcher):  # type: ignore[misc]
                 "range": it.span(place.at, end - place.at),
                 "selectionRange": it.span(place.at, len(place.spelled)),
             }
-            for place, end in zip(defined, ends)
+            for place, end in self._defined(it)
         ]
 
     def m_text_document__completion(self, textDocument: Any, **_: Any) -> List[Dict[str, Any]]:

@@ -120,9 +120,23 @@ def test_names(client):
 def test_hover(client):
     opened(client, "a = ( b ) / %d65\nb = *( DIGIT )\n")
     at = {"textDocument": {"uri": "file:///host.abnf"}, "position": {"line": 0, "character": 6}}
-    assert client.ask("textDocument/hover", **at)["contents"]["value"] == "```abnf\nb = *DIGIT\n```\nused 1 times"
+    assert client.ask("textDocument/hover", **at)["contents"]["value"] == "```abnf\nb = *DIGIT\n```\nused once"
     at["position"] = {"line": 1, "character": 8}
     assert "core rule" in client.ask("textDocument/hover", **at)["contents"]["value"]
+
+
+def test_hover_in_a_grammar_with_a_fault(client):
+    """A grammar that cannot be printed, as while it is typed, shows its rules as they stand."""
+    opened(client, HOST + "; of the end\n")
+    at = {"textDocument": {"uri": "file:///host.abnf"}, "position": {"line": 0, "character": 13}}
+    told = client.ask("textDocument/hover", **at)["contents"]["value"]
+    assert told == '```abnf\nHost = 1*( ALPHA / "." ) <a name>\nhost = 1*DIGIT\n```\nused once'
+    at["position"] = {"line": 0, "character": 20}
+    assert "no rule has this name" in client.ask("textDocument/hover", **at)["contents"]["value"]
+    opened(client, "S <- ( A 'x'\nA <- 'y'\n  'z'\n# no more\n\n# B\nB <- .\n", "file:///s.peg")
+    at = {"textDocument": {"uri": "file:///s.peg"}, "position": {"line": 0, "character": 7}}
+    told = client.ask("textDocument/hover", **at)["contents"]["value"]
+    assert told == "```peg\nA <- 'y'\n  'z'\n```\nused once"
 
 
 def test_peg(client):

@@ -105,6 +105,15 @@ def test_fault_of_a_grammar(page):
     shot(page, "fault")
 
 
+def test_diagrams_of_a_fault_are_those_of_its_language(page):
+    faded = "return document.querySelectorAll('#diagrams.stale svg').length"
+    put(page, "grammar", "a = (\n")
+    wait(page, lambda: page.execute_script(faded) == 13)
+    choose(page, "kind", "peg")
+    wait(page, lambda: page.execute_script(faded) == 0)
+    wait(page, lambda: text(page, "#diagrams") == "")
+
+
 def test_notes(page):
     put(page, "grammar", 'a = b / <by hand>\nb = "x"\nc = "y"\n')
     told = "return [...document.querySelectorAll('#notes li')].map((it) => it.className).join(' ')"
@@ -282,7 +291,8 @@ def colour(browser, selector, name):
 def test_light_and_dark(page, scheme):
     media = {"features": [{"name": "prefers-color-scheme", "value": scheme}]}
     page.execute_cdp_cmd("Emulation.setEmulatedMedia", media)
-    for selector in ("body", "header", ".CodeMirror", ".CodeMirror-gutters", ".line-yes", ".line-no", "select"):
+    editor = (".CodeMirror", ".CodeMirror-gutters", ".CodeMirror-scrollbar-filler", ".CodeMirror-gutter-filler")
+    for selector in ("body", "header", *editor, ".line-yes", ".line-no", "select"):
         shown = colour(page, selector, "backgroundColor")
         assert shown > 200 if scheme == "light" else shown < 90, selector
         ink = colour(page, selector, "color")

@@ -5,7 +5,7 @@ memory, and pages that may not be touched the ends of all buffers.
 
 usage: fuzz.py [-t SECONDS] [-s SEED] [--programs] [FILE ..]
 
-It runs for 20 seconds if no number is given, with at most 10 seconds and 2 GB a call. It needs clang with libFuzzer
+It runs for 20 seconds if no number is given, with at most 25 seconds and 2 GB a case. It needs clang with libFuzzer
 (Debian: clang, libclang-rt-dev) and bin/libfanquber.a; it skips all, and says so, where they are not there. With
 --programs c/fuzz/programs.c stands for the library, by runs of bin/pegi and bin/abnfi. With FILES it runs these
 alone. What a call fails on is kept in bin/fuzz/, and then the status is 1.
@@ -103,7 +103,7 @@ def main():
             (corpus / str(number)).write_bytes(it)
         shown = ("".join(f"\\x{ord(letter):02x}" for letter in it) for it in WORDS)
         dictionary.write_text("".join(f'"{it}"\n' for it in shown ))
-        limits = ["-timeout=10", "-rss_limit_mb=2048", f"-max_len={LONGEST}", f"-artifact_prefix={KEPT}/"]
+        limits = ["-timeout=25", "-rss_limit_mb=2048", f"-max_len={LONGEST}", f"-artifact_prefix={KEPT}/"]
         run = [f"-max_total_time={asked.t}", f"-seed={asked.s}", f"-dict={dictionary}", "-print_final_stats=1", corpus]
         found = subprocess.run([program, *limits, *(asked.files or run)], env={**os.environ, "BIN": str(TOP / "bin")},
                                stderr=subprocess.PIPE, text=True, errors="replace", check=False)

@@ -121,7 +121,7 @@ function show(it) {
   showRules(it.rule);
   showNotes();
   showAnswers(it);
-  showDiagrams();
+  showDiagrams(it.kind);
   by("out").textContent = latest.out;
   by("canonical").textContent = latest.canonical;
   by("command").textContent = latest.command;
@@ -262,11 +262,12 @@ function showWhy() {
   by("why").textContent = (found.length ? found : latest.stops.slice(0, 1)).map(told).join("\n");
 }
 
-function showDiagrams() {
-  // While a grammar cannot be read, the diagrams of the one before stay, faded
+function showDiagrams(kind) {
+  // While a grammar cannot be read, the diagrams of the one before stay, faded, unless that was of another language
   const broken = !latest.diagrams.length && latest.findings.some((it) => it.severity === "error");
   by("diagrams").classList.toggle("stale", broken);
-  if (broken) return;
+  if (broken && by("diagrams").dataset.kind === kind) return;
+  by("diagrams").dataset.kind = kind;
   by("diagrams").replaceChildren(...latest.diagrams.map(([name, svg], at) => {
     const box = document.createElement("div"), head = document.createElement("h3");
     box.id = `rule-${at}`;
