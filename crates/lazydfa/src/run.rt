@@ -50,7 +50,7 @@ fn first_front(
 }
 
 /// Returns the number of the start state, and makes it on first use; `None` if the budget does not allow it.
-fn begin(
+pub(crate) fn begin(
     alloc: Global,
     tables: &Tables,
     samples: &[u32],
