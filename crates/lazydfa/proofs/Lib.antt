@@ -13,3 +13,4 @@ pub mod AreHopsLemmas
 pub mod IsTrackLemmas
 pub mod IsRunVerdictLemmas
 pub mod AreUncountedLemmas
+pub mod StateSetsLemmas

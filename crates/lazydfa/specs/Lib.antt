@@ -5,3 +5,4 @@ pub mod Memos
 pub mod RunVerdicts
 pub mod Spines
 pub mod StackParts
+pub mod StateSets

@@ -105,8 +105,15 @@ fn is_yes(verdict: Verdict) -> bool
     }
 }
 
-// Returns a memo with no state and no unfold, of a grammar of so many nodes, in such a room. It takes no memory.
-fn empty_memo(alloc: Global, nodes: usize, room: usize) -> Memo
+/// Returns whether an automaton may judge by these tables.
+pub(crate) fn are_served(tables: &Tables) -> bool
+    ensures { IsTrue result → AreUncounted (flat_of tables.now) × IsOne (flat_of tables.now) }
+{
+    are_uncounted(tables) && is_one(tables)
+}
+
+/// Returns a memo with no state and no unfold, of a grammar of so many nodes, in such a room. It takes no memory.
+pub(crate) fn empty_memo(alloc: Global, nodes: usize, room: usize) -> Memo
     ensures conts { result.cache.conts.items.items ≡ [] }
     ensures states { result.cache.states.items ≡ [] }
     ensures cells { result.cache.cells.items ≡ [] }

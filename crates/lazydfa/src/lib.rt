@@ -14,6 +14,8 @@ mod memo;
 mod parts;
 mod run;
 mod spines;
+mod states;
 mod transition;
 
 pub use automaton::Automaton;
+pub use states::States;

@@ -95,7 +95,7 @@ module _ (flat : Flat) (bounds : List ℕ) (split : AreNodesSplit bounds flat.no
       let e : d + n + 1 ≡ d + suc n = omega arith in
       subst (λ v. Has set v ↔ Has set d) e (λ h. before.0 (step.1 h), λ h. step.0 (before.1 h))
 
-  joined_alike : (c d : ℕ) → c < 2 ^ 32 → AreJoined bounds d c → AreAlike flat c d
+  pub joined_alike : (c d : ℕ) → c < 2 ^ 32 → AreJoined bounds d c → AreAlike flat c d
   joined_alike c d fits j q r set rd =
       let le = j.0 in
       let e : d + (c - d) ≡ c = omega (arith, le) in

@@ -4,3 +4,6 @@ mod StackSetsLemmas
 mod FoundPairsLemmas
 mod SwappedLemmas
 mod CountsWithinLemmas
+mod SamplesLemmas
+mod SearchLemmas
+mod AloneLemmas

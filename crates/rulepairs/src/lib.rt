@@ -1,8 +1,16 @@
-//! Laws of pairs of states: which lines one of two rules derives alone.
+//! Pairs of states of two grammars: which lines one of two rules derives alone.
 #![tactic(auto)]
 
+mod alone;
+mod comparison;
+mod counts;
 mod laws;
+mod pairs;
+mod samples;
+mod search;
 
+pub use alone::Alone;
+pub use comparison::{Comparison, compare};
 pub use laws::{
     any_length, closed_pairs_include, first_line, included_lines, no_line, no_line_up_to,
     parts_include, swapped_pairs,

@@ -3,6 +3,7 @@
 
 mod blocks;
 mod charts;
+mod comparisons;
 mod flat_grammars;
 mod grammars;
 mod lines;
@@ -33,6 +34,7 @@ impl Calls for AbnfCalls {
                 charts::run(alloc, call, fields, out)
             }
             "lines" => lines::lines_of(alloc, fields, out),
+            "compare" => comparisons::compared(alloc, fields, out),
             "rooms" => rooms::agree(alloc, fields, out),
             "read_lines" => blocks::read_lines_of(alloc, fields, out),
             "rules" => blocks::rules_of(alloc, fields, out),

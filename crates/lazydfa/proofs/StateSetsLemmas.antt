@@ -1,0 +1,197 @@
+-- States of ids as lists of stacks.
+-- Serves: start, next, has_ended, is_dead.
+use Rattle.std.proofs.Common.{◌≡◌, ℕ, zero, suc, ◌≤◌, Bool, List, [], ◌∷◌, ◌++◌, length, map, refl, sym, ◌∙◌}
+use Rattle.std.proofs.Common.{ap, subst, arith, ◌↔◌, true, eqb}
+use Rattle.std.proofs.lemmas.Bool.{eqb-true}
+use Rattle.std.proofs.lemmas.List.{map-append}
+use Rattle.std.proofs.lemmas.List.Sorted.{Contains-permutation, IsPermutation-sym}
+use Rattle.std.proofs.lemmas.Option.{slice_get-get_or}
+use Rattle.std.specs.List.Sorted.{IsPermutation}
+use Rattle.std.specs.Prelude.{slice_get, Some, Contains}
+use Rattle.flatgrammar.specs.Flat.{Flat, Place}
+use Rattle.flatgrammar.specs.NodeSteps.{flat_of}
+use Rattle.flatgrammar.specs.TableViews.{GiveRoots}
+use Rattle.flatgrammar.specs.declared.tables.Tables as code_flat
+use Rattle.flatgrammar.proofs.CallOfLemmas.{get_map, get_unmap}
+use Rattle.letterclasses.specs.Stacks.{IsFront, IsNext, Led, led, moves, LedToEnd, ReadBy}
+use Rattle.lazydfa.specs.declared.conts.Cont.{Cont}
+use Rattle.lazydfa.specs.declared.cache.State.{State}
+use Rattle.lazydfa.specs.Conts.{stack_of, last_of, AreKept, IsStackOf, IsTransition}
+use Rattle.lazydfa.specs.Cached.{AreGrown, IsAt, IsInterned, IsStartAt}
+use Rattle.lazydfa.specs.StateSets.{AreMoreStates, IsLed, IsNextState, IsStartState, set_of, sets_of}
+use Rattle.lazydfa.specs.StateSets.{StateSet, StateSets}
+use Rattle.lazydfa.proofs.AreCachedLemmas.{grown_at, transition_kept}
+use Rattle.lazydfa.proofs.ContsLemmas.{kept_same, kept_stack}
+use Rattle.lazydfa.proofs.IsAtLemmas.{at_start, front_as}
+use Rattle.lazydfa.proofs.TellLemmas.{transition_next}
+
+pub contained : {A : Type 0} (xs : List A) (k : ℕ) (x : A) → slice_get xs k ≡ Some x → Contains xs x
+contained [] k x is = absurd (cc is)
+contained (y ∷ xs) zero x is = (0, omega arith, cc is)
+contained (y ∷ xs) (suc k) x is =
+    let h = contained xs k x is in (suc h.0, (let lt = h.1 in omega (arith, lt)), h.2)
+
+pub got : {A : Type 0} (xs : List A) (x : A) (h : Contains xs x) → slice_get xs h.0 ≡ Some x
+got xs x h = slice_get-get_or xs h.0 x h.1 ∙ ap (λ v. Some v) h.2
+
+module _ (conts : List Cont) (ids : List ℕ) where
+  to_list : (s : List Place) → IsStackOf conts ids s → Contains (map (stack_of conts) ids) s
+  to_list s h =
+      subst (λ v. Contains (map (stack_of conts) ids) v) (sym h.is)
+      (contained (map (stack_of conts) ids) h.stands.0 (stack_of conts h.id)
+      (get_map (stack_of conts) ids h.stands.0 (got ids h.id h.stands)))
+
+  from_list : (s : List Place) → Contains (map (stack_of conts) ids) s → IsStackOf conts ids s
+  from_list s h =
+      let u = get_unmap (stack_of conts) ids h.0 s (got (map (stack_of conts) ids) s h) in
+      record { id = u.from; stands = contained ids h.0 u.from u.at; is = sym u.is }
+
+-- the stacks of states stay
+map_same : (f g : ℕ → List Place) (ids : List ℕ) → ((id : ℕ) → Contains ids id → f id ≡ g id) → map f ids ≡ map g ids
+map_same f g [] same = refl
+map_same f g (x ∷ ids) same =
+    ap (λ v. v ∷ map f ids) (same x (0, omega arith, refl))
+    ∙ ap (λ v. g x ∷ v) (map_same f g ids (λ id c. same id (suc c.0, (let lt = c.1 in omega (arith, lt)), c.2)))
+
+module _ (old new : List Cont) (kept : AreKept old new) where
+  set_kept : (state : State) → ((id : ℕ) → Contains state.tops.items id → id ≤ length old)
+      → set_of new state ≡ set_of old state
+  set_kept state within =
+      ap (λ v. record { stacks = v; ended = state.ended }) (map_same (stack_of new) (stack_of old) state.tops.items
+      (λ id h. kept_stack old new kept id (within id h)))
+
+  sets_kept : (states : List State) → ((s : ℕ) (state : State) → slice_get states s ≡ Some state → (id : ℕ)
+      → Contains state.tops.items id → id ≤ length old) → sets_of new states ≡ sets_of old states
+  sets_kept [] within = refl
+  sets_kept (x ∷ states) within =
+      ap (λ v. v ∷ sets_of new states) (set_kept x (within 0 x refl))
+      ∙ ap (λ v. set_of old x ∷ v) (sets_kept states (λ s state is. within (suc s) state is))
+
+  pub more_states : (tables : code_flat.Tables) (states more : List State) → AreGrown states more
+      → ((s : ℕ) (state : State) → slice_get states s ≡ Some state → (id : ℕ) → Contains state.tops.items id
+      → id ≤ length old) → AreMoreStates (record { tables = tables; states = sets_of old states })
+      (record { tables = tables; states = sets_of new more })
+  more_states tables states more grown within = record {
+    same = refl;
+    added = sets_of new grown.added;
+    grown = ap (λ v. sets_of new v) grown.grown ∙ (map-append (set_of new) states grown.added
+        ∙ ap (λ v. v ++ sets_of new grown.added) (sets_kept states within));
+  }
+
+-- a transition by other words
+module _ (flat : Flat) (last : Place → Bool) where
+  led_as : (P Q : List Place → Type 0) → ((s : List Place) → P s → Q s) → {s : List Place} → Led flat last P s
+      → Led flat last Q s
+  led_as P Q to {s} (led h) = led (to s h)
+  led_as P Q to (moves h m) = moves (led_as P Q to h) m
+
+  module _ (c : ℕ) (P Q : List Place → Type 0) where
+    read_as : ((s : List Place) → P s → Q s) → (s : List Place) → ReadBy flat last P c s → ReadBy flat last Q c s
+    read_as to s (ReadBy.reads {q = q} {below = below} h rd lies) = ReadBy.reads (to (q ∷ below) h) rd lies
+
+    after_as : ((s : List Place) → P s → Q s) → {s : List Place} → Led flat last (ReadBy flat last P c) s
+        → Led flat last (ReadBy flat last Q c) s
+    after_as to h = led_as (ReadBy flat last P c) (ReadBy flat last Q c) (read_as to) h
+
+    end_as : ((s : List Place) → P s → Q s) → LedToEnd flat last (ReadBy flat last P c)
+        → LedToEnd flat last (ReadBy flat last Q c)
+    end_as to h = record { place = h.place; led_to = after_as to h.led_to; done = h.done }
+
+  next_as : (c : ℕ) (P Q N M : List Place → Type 0) (ended : Bool) → ((s : List Place) → P s → Q s)
+      → ((s : List Place) → Q s → P s) → ((s : List Place) → N s → M s) → ((s : List Place) → M s → N s)
+      → IsNext flat last P c N ended → IsNext flat last Q c M ended
+  next_as c P Q N M ended to of on off h = record {
+    tops_are = λ top. (
+      λ m. let g = (h.tops_are top).0 (off top m) in (g.0, after_as c P Q to g.1),
+      λ g. on top ((h.tops_are top).1 (g.0, after_as c Q P of g.1)),
+    );
+    ended_is = (λ e. end_as c P Q to (h.ended_is.0 e), λ e. h.ended_is.1 (end_as c Q P of e));
+  }
+
+module _ (tables : code_flat.Tables) (roots : GiveRoots (flat_of tables) tables.roots.items) (conts : List Cont)
+    (states : List State) where
+  abbrev Sets : StateSets
+  Sets = record { tables = tables; states = sets_of conts states }
+
+  pub led_next : (c s t : ℕ) → IsLed tables c conts states s t → IsNextState Sets c s t
+  led_next c s t l = record {
+    from = set_of conts l.from;
+    to = set_of conts l.to;
+    from_is = get_map (set_of conts) states s l.from_is;
+    to_is = get_map (set_of conts) states t l.to_is;
+    next = next_as (flat_of tables) (last_of tables) c (IsStackOf conts l.from.tops.items)
+        (Contains (map (stack_of conts) l.from.tops.items)) (IsStackOf conts l.to.tops.items)
+        (Contains (map (stack_of conts) l.to.tops.items)) l.to.ended (to_list conts l.from.tops.items)
+        (from_list conts l.from.tops.items) (to_list conts l.to.tops.items) (from_list conts l.to.tops.items)
+        (transition_next tables roots c conts l.from.tops.items conts l.to.tops.items l.to.ended l.is);
+  }
+
+  pub start_state : (t : ℕ) → IsStartAt tables conts states t → IsStartState Sets t
+  start_state t s = record {
+    state = set_of conts s.state;
+    is = get_map (set_of conts) states t s.is;
+    front = λ x. front_as (flat_of tables) (last_of tables) x 0 (IsStackOf conts s.state.tops.items)
+        (Contains (map (stack_of conts) s.state.tops.items)) s.state.ended [] (to_list conts s.state.tops.items)
+        (from_list conts s.state.tops.items) (first x (at_start tables roots x conts states t s));
+  }
+    where
+      first : (x : List ℕ) (a : IsAt tables conts states t x 0 []) → IsFront (flat_of tables) (last_of tables) x 0
+          (IsStackOf conts s.state.tops.items) s.state.ended []
+      first x a =
+          let same : a.state ≡ s.state = cc (a.is, s.is) in
+          subst (λ v. IsFront (flat_of tables) (last_of tables) x 0 (IsStackOf conts v.tops.items) v.ended []) same
+          a.front
+
+-- the ids of a transition in another order
+pub reordered : (tables : code_flat.Tables) (c : ℕ) (first : List Cont) (tops : List ℕ) (conts : List Cont)
+    (next other : List ℕ) (ended : Bool) → IsPermutation next other
+    → IsTransition tables c first tops conts next ended → IsTransition tables c first tops conts other ended
+reordered tables c first tops conts next other ended p t = record {
+  within = λ id h. t.within id (back id h);
+  tops_are = λ stack. (
+    λ s. (t.tops_are stack).0 (record { id = s.id; stands = back s.id s.stands; is = s.is }),
+    λ h. let s = (t.tops_are stack).1 h in
+        record { id = s.id; stands = Contains-permutation next other s.id p s.stands; is = s.is },
+  );
+  ended_is = t.ended_is;
+}
+  where
+    back : (id : ℕ) → Contains other id → Contains next id
+    back id h = Contains-permutation other next id (IsPermutation-sym next other p) h
+
+-- a transition to a state that was added
+module _ (tables : code_flat.Tables) (conts mid new : List Cont) (states more : List State) (from : State)
+    (tops next : List ℕ) (ended : Bool) (s t v : ℕ)
+    (within : (id : ℕ) → Contains from.tops.items id → id ≤ length conts) (kept : AreKept conts mid) (same : new ≡ mid)
+    (interned : IsInterned states more next ended t) (at_s : slice_get states s ≡ Some from)
+    (tops_are : tops ≡ from.tops.items) (is : IsTransition tables v conts tops mid next ended) where
+  pub led_whole : IsLed tables v new more s t
+  led_whole = subst (λ c. IsLed tables v c more s t) (sym same) (record {
+    from = from;
+    to = interned.is.state;
+    from_is = grown_at states more interned.grown s from at_s;
+    to_is = interned.is.is;
+    is = transition_kept tables v conts mid mid mid from.tops.items interned.is.state.tops.items
+        interned.is.state.ended kept (kept_same mid) within
+        (subst (λ w. IsTransition tables v conts w mid interned.is.state.tops.items interned.is.state.ended) tops_are
+        (subst (λ w. IsTransition tables v conts tops mid w interned.is.state.ended) (sym interned.is.tops_are)
+        (subst (λ w. IsTransition tables v conts tops mid next w) (sym interned.is.ended_is) is)));
+  })
+
+-- a state without ids has no stack
+to_empty : (f : ℕ → List Place) (ids : List ℕ) → length ids ≡ 0 → map f ids ≡ []
+to_empty f [] none = refl
+to_empty f (x ∷ ids) none = absurd (omega (arith, none))
+
+from_empty : (f : ℕ → List Place) (ids : List ℕ) → map f ids ≡ [] → length ids ≡ 0
+from_empty f [] none = refl
+from_empty f (x ∷ ids) none = absurd (cc none)
+
+pub dead_is : (conts : List Cont) (state : State) (sets : StateSet) → set_of conts state ≡ sets → (dead : Bool)
+    → dead ≡ eqb (length state.tops.items) 0 → (dead ≡ true) ↔ (sets.stacks ≡ [])
+dead_is conts state sets same dead is = (
+  λ yes. subst (λ v. v.stacks ≡ []) same (to_empty (stack_of conts) state.tops.items
+      (eqb-true (length state.tops.items) 0 (sym is ∙ yes))),
+  λ none. let e = from_empty (stack_of conts) state.tops.items (ap (λ v. v.stacks) same ∙ none) in
+      grind (arith, is, e),
+)

@@ -1,0 +1,157 @@
+//! States that a search reaches, by number.
+ghost use Rattle.std.specs.Prelude.{◌≡◌, ◌↔◌, [], IsTrue, IfOk, IfSome, slice_get, Some};
+ghost use Rattle.std.specs.List.Sorted.{IsPermutation};
+ghost use Rattle.lazydfa.specs.Cached.{IsCache, Grows};
+ghost use Rattle.lazydfa.specs.StateSets.{AreMoreStates, AreStatesOf, IsLed, IsNextState, IsStartState, StateSet};
+
+use crate::automaton::{are_served, empty_memo};
+use crate::cache::{Cache, forget, has_ended, state_of};
+use crate::fill::may_fill;
+use crate::run::begin;
+use crate::transition::{Front, transition};
+use flatgrammar::{Flat, Tables};
+use ruletable::Memory;
+use std::alloc::Global;
+use std::marker::Model;
+use std::rc::Rc;
+
+/// The states of a flat grammar that a search has reached, numbered from 0 in the order of their making. A state is a
+/// set of return stacks. Contracts see the stacks of each.
+///
+/// An `Automaton` reads lines, and splits shared suffixes off its states. Here each state has its whole stacks, in
+/// ascending order of their ids, so equal sets have one number, but for the start. After `Memory` there is no state.
+#[derive(Drop)]
+pub struct States {
+    /// Allocates the states.
+    alloc: Global,
+    /// The grammar, shared with the `Flat` from which it was made.
+    tables: Rc<Tables>,
+    /// The states and their stacks, without cells.
+    cache: Cache,
+}
+
+impl Model for States {
+    ghost use Rattle.std.specs.Prelude.{[]};
+    ghost use Rattle.flatgrammar.specs.NodeSteps.{flat_of};
+    ghost use Rattle.flatgrammar.specs.TableViews.{GiveRoots};
+    ghost use Rattle.lazydfa.specs.Cached.{IsCache};
+    ghost use Rattle.lazydfa.specs.StateSets.{StateSets, sets_of};
+
+    ghost Value = { StateSets };
+
+    ghost view = { λ s. record {
+      tables = s.tables.value;
+      states = sets_of s.cache.conts.items.items
+          s.cache.states.items;
+    } };
+
+    ghost invariant = { λ s. (GiveRoots (flat_of s.tables.value) s.tables.value.roots.items) × (IsCache s.tables.value
+        [] s.cache) };
+}
+
+// Returns a front with its ids in ascending order.
+fn in_order(front: Front) -> Front
+    ensures tops { IsPermutation front.tops.items result.tops.items }
+    ensures ended { result.ended ≡ front.ended }
+{
+    let mut tops = front.tops;
+    tops.sort_unstable();
+    Front {
+        tops,
+        ended: front.ended,
+    }
+}
+
+// Returns the number of the state that a symbol leads to from another; `None` if there is no such state, or no room for
+// more. `Memory` if an allocation fails; the cache is of no use then.
+fn lead_whole(
+    alloc: Global,
+    tables: &Tables,
+    cache: &mut Cache,
+    state: usize,
+    value: u32,
+) -> Result<Option<usize>, Memory>
+    requires cached { IsCache tables.now [] cache.old }
+    ensures cached { IfOk result (λ told. IsCache tables.now [] cache.new) }
+    ensures grows { IfOk result (λ told. Grows cache.old cache.new) }
+    ensures is { IfOk result (λ told. IfSome told (IsLed tables.now value cache.new.conts.items.items
+        cache.new.states.items state)) }
+{
+    if state >= cache.states.len() || !may_fill(cache) {
+        return Ok(None);
+    }
+    let tops = cache.states[state].tops.as_slice();
+    let told = transition(alloc, tables, tops, value, &mut cache.conts, &mut cache.ids)?;
+    let Some(front) = told else {
+        return Ok(None);
+    };
+    let t = state_of(cache, 0, in_order(front))?;
+    Ok(Some(t))
+}
+
+impl States {
+    /// Returns no state of a flat grammar, with room for `room` entries: continuations, and a quarter of each top.
+    /// `None` if the grammar counts how often something nullable is repeated, or its augmented start is no
+    /// concatenation of one. `Memory` if an allocation fails.
+    pub fn new(alloc: Global, flat: &Flat, room: usize) -> Result<Option<States>, Memory>
+        ensures { IfOk result (λ made. IfSome made (AreStatesOf flat.now)) }
+    {
+        let tables = flat.share()?;
+        if !are_served(&tables) {
+            return Ok(None);
+        }
+        let memo = empty_memo(alloc, tables.nodes.len(), room);
+        Ok(Some(States {
+            alloc,
+            tables,
+            cache: memo.cache,
+        }))
+    }
+
+    /// Returns the number of the start state; `None` if there is no room for it. `Memory` if an allocation fails.
+    pub fn start(&mut self) -> Result<Option<usize>, Memory>
+        ensures more { IfOk result (λ told. AreMoreStates self.old self.new) }
+        ensures is { IfOk result (λ told. IfSome told (IsStartState self.new)) }
+    {
+        match begin(self.alloc, &self.tables, &[], &mut self.cache) {
+            Ok(true) => Ok(Some(0)),
+            Ok(false) => Ok(None),
+            Err(fault) => {
+                forget(&mut self.cache);
+                Err(fault)
+            }
+        }
+    }
+
+    /// Returns the number of the state that a symbol leads to from another. It has no stack where nothing reads the
+    /// symbol. `None` if there is no such state, or no room for more. `Memory` if an allocation fails.
+    pub fn next(&mut self, state: usize, value: u32) -> Result<Option<usize>, Memory>
+        ensures more { IfOk result (λ told. AreMoreStates self.old self.new) }
+        ensures is { IfOk result (λ told. IfSome told (IsNextState self.new value state)) }
+    {
+        match lead_whole(self.alloc, &self.tables, &mut self.cache, state, value) {
+            Ok(told) => Ok(told),
+            Err(fault) => {
+                forget(&mut self.cache);
+                Err(fault)
+            }
+        }
+    }
+
+    /// Returns whether the augmented start may end in a state.
+    pub fn has_ended(&self, state: usize) -> bool
+        ensures { (got : StateSet) → slice_get self.now.states state ≡ Some got → result ≡ got.ended }
+    {
+        has_ended(&self.cache, state)
+    }
+
+    /// Returns whether a state has no stack, so that no symbol can follow.
+    pub fn is_dead(&self, state: usize) -> bool
+        ensures { (got : StateSet) → slice_get self.now.states state ≡ Some got → IsTrue result ↔ (got.stacks ≡ []) }
+    {
+        match self.cache.states.get(state) {
+            Some(got) => got.tops.is_empty(),
+            None => false,
+        }
+    }
+}
