@@ -46,7 +46,8 @@ PASSED = {
     "matchfailure: Desk.found: only forwards",
     # The contract of `start` says that the grammar is sound, and how its nodes are numbered.
     "matchfailure: Desk.step: discards", "matchfailure: FailureSearch.explain_no_match: discards",
-    "matchfailure: rule_name: discards", "pegrun: run_units: discards",
+    "matchfailure: farthest_failure: discards", "matchfailure: rule_of: discards", "matchfailure: use_rows: discards",
+    "pegrun: run_units: discards",
 }
 # The parameters that only a contract reads, each with what the contract says by it.
 UNREAD = {
@@ -59,8 +60,8 @@ UNREAD = {
     # of which cells and in which of how many buckets the result is the last one
     "memo: last_of.cells", "memo: last_of.count",
     # what is evaluated, and on which bytes
-    "matchfailure: FailureSearch.failure_in.unit", "packrat: Machine.run_turns.more",
-    "packrat: close.peg", "packrat: close.window", "packrat: go_on_node.window",
+    "matchfailure: FailureSearch.failure_in.unit", "matchfailure: add_outside.window",
+    "packrat: Machine.run_turns.more", "packrat: close.peg", "packrat: close.window", "packrat: go_on_node.window",
     "packrat: go_on_tail.window", "packrat: put_operands.window", "packrat: put_turns.window",
     # of which tables, sets or rows the lists are
     "earley: complete_rest.places", "earley: keep_set.places", "earley: predict_row.row",

@@ -82,7 +82,7 @@ REACHED_EXPLAINED = abnf("a reached name explained", b"s = t\nt = s / u\n", b"X\
                          b"  reached by 's' > 't' > 'u'\n", 2, words=["-x"])
 STOP_EXPLAINED = peg("a stop explained", b"S <- 'a' ('=' [0-9]+ ';')* {x}", b"a=12,", [b"x\n"],
                      b"no match at byte 1\n  byte 4, line 1, column 5, in the unit at byte 0\n  a=12,\n      ^\n"
-                     b'  expected [0-9] in S\n  expected ";" in S\n', 1, words=["-x"])
+                     b'  expected ";" in S\n  expected [0-9] in S\n', 1, words=["-x"])
 REFUSED_EXPLAINED = abnf("refused lines explained", b'd = 2DIGIT "-" 2DIGIT\n', b"12x3\n12-34\n12-\n123456\n",
                          [NO, YES, NO],
                          b'line 1, letter 3: expected "-"\n  12x3\n    ^\n'

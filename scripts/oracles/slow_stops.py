@@ -72,6 +72,15 @@ def leaf_text(e):
     return class_text(e[1]) if e[0] == "set" else '"' + "".join(byte_text(it, "", '"\\') for it in e[1]) + '"'
 
 
+def distances(rules, start):
+    """Returns how many uses lead to each rule from the start rule at least."""
+    found, edge = {start: 0}, [start]
+    while edge:
+        edge = sorted({name for rule in edge for name in slow_peg.names_in(rules[rule])} - set(found))
+        found.update(dict.fromkeys(edge, 1 + max(found.values())))
+    return found
+
+
 def cut(text):
     return slow_faults.shown(text.encode("latin-1")[:60]) + ".." * (len(text) > 60)
 
@@ -106,6 +115,24 @@ class Explained:
         self.rules, self.start, self.taken = {name: fresh(body) for name, body in rules.items()}, start, taken
         self.leaves = leaves(self.rules)
 
+    def takes_nothing(self, unit):
+        found = slow_peg.Matcher(self.rules, self.taken[unit:]).match(self.rules[self.start], 0)
+        return found is not None and found[0] == 0
+
+    def listed(self, failures):
+        """Returns what is reported of failures, each the number of a leaf and where it began: the expression, where it
+        began, and its rule, in order and once.
+        """
+        far, order = distances(self.rules, self.start), list(self.rules)
+        kinds = ["bytes", "set", "any"]
+
+        def key(failure):
+            e, name = self.leaves[failure[0]]
+            return far[name], order.index(name), kinds.index(e[0]), *failure
+
+        some = [(leaf_text(self.leaves[it[0]][0]), it[1], self.leaves[it[0]][1]) for it in sorted(failures, key=key)]
+        return list(dict.fromkeys(some))
+
     def farthest(self, unit):
         """Returns where the unit that begins there fails farthest, with all that fails there; none if nothing does."""
         numbers = {id(e): number for number, (e, _) in enumerate(self.leaves)}
@@ -117,18 +144,20 @@ class Explained:
     def no_match(self, before, last):
         """Returns the lines behind `no match`, of the last unit, which begins there, and the one before it, if any."""
         found = [it for it in (self.farthest(last), None if before is None else self.farthest(before)) if it]
+        told = f"  rule '{cut(self.start)}' matched and took no byte\n" if self.takes_nothing(last) else ""
         if not found:
-            return '  no comparison failed outside of "!"\n'
+            return told or '  no comparison failed outside of "!"\n'
         place, unit, failures = max(found, key=lambda it: it[0])
         begin = max(unit, self.taken.rfind(10, 0, place) + 1)
         line = self.taken[begin:].partition(b"\n")[0]
-        told = f"  byte {place}, {position(self.taken, place)}, in the unit at byte {unit}\n"
-        told += picture(line, place - begin)
-        for number, begun in failures[:MOST]:
-            e, name = self.leaves[number]
+        end = ", the end of the input" if place == len(self.taken) else ""
+        told += f"  byte {place}, {position(self.taken, place)}{end}, in the unit at byte {unit}\n"
+        told += picture(line, place - begin) if line else ""
+        listed = self.listed(failures)
+        for text, begun, name in listed[:MOST]:
             where = "" if unit + begun == place else f" from byte {unit + begun}"
-            told += f"  expected {cut(leaf_text(e))}{where} in {cut(name)}\n"
-        return told + (f"  and {len(failures) - MOST} more\n" if len(failures) > MOST else "")
+            told += f"  expected {cut(text)}{where} in {cut(name)}\n"
+        return told + (f"  and {len(listed) - MOST} more\n" if len(listed) > MOST else "")
 
     def long_unit(self, place):
         return f"  the unit begins on {position(self.taken, place)}\n  -l allows at most 16777216\n"

@@ -1,7 +1,7 @@
 -- The failures that are found in what is seen.
 -- Serves: explain_no_match
-use Rattle.std.proofs.Common.{◌≡◌, ℕ, zero, suc, ◌+◌, ◌^◌, ◌<◌, ◌≤◌, List, ◌++◌, drop, Option, Some, None, refl, sym}
-use Rattle.std.proofs.Common.{ap, ◌∙◌, subst, arith, add-zero}
+use Rattle.std.proofs.Common.{◌≡◌, ℕ, zero, suc, ◌+◌, ◌^◌, ◌<◌, ◌≤◌, Bool, List, ◌++◌, drop, Option, Some, None}
+use Rattle.std.proofs.Common.{refl, sym, ap, ◌∙◌, subst, arith, add-zero}
 use Rattle.std.specs.Option.{MatchOption}
 use Rattle.std.specs.Prelude.{IfSome}
 use Rattle.matchfailure.specs.Farthest.{IsFarthest, NoneFails}
@@ -16,7 +16,12 @@ use Rattle.pegread.specs.Pattern.{Rule}
 use Rattle.matchfailure.specs.FittingFailures.{IsFitting}
 use Rattle.matchfailure.specs.FoundFailures.{IsFound, IsFoundBefore, failure_found}
 use Rattle.matchfailure.specs.NoMatches.{IsNoMatchTold, IsFailureOf, IsUnitFailure, failing_byte, failure_of}
-use Rattle.matchfailure.specs.NoMatches.{lines_of_failure, unit_before}
+use Rattle.matchfailure.specs.NoMatches.{AreReportedOf, lines_of_failure, no_match_lines, told_failure}
+use Rattle.matchfailure.specs.NoMatches.{unit_before}
+use Rattle.matchfailure.specs.NoMatchLines.{opening}
+use Rattle.matchfailure.specs.NodeTexts.{name_of_rule}
+use Rattle.matchfailure.specs.UnitEnds.{EndsSo, outcome_at, takes_no_byte}
+use Rattle.gramcheck.specs.Outcome.{Event, RuleGives}
 use Rattle.matchfailure.specs.InputPlaces.{place_behind}
 use Rattle.matchfailure.specs.declared.explain.place.TextPlace.{TextPlace}
 use Rattle.matchfailure.proofs.FoundLinesLemmas.{seen-from}
@@ -59,19 +64,35 @@ module _ (rules : List Rule) (start : ℕ) (nodes : List Shape) (bodies front se
       → IsFound rules start nodes bodies (drop last seen) latest → (told t : Told) (b l : Option ℕ) (lines : List ℕ)
       → t ≡ told_unit_of b l → b ≡ failing_byte (failure_found at.byte before)
       → l ≡ failing_byte (failure_found (at.byte + last) latest) → t ≡ told
-      → lines ≡ lines_of_failure rules nodes (front ++ seen)
-      (failure_of told (failure_found at.byte before) (failure_found (at.byte + last) latest))
-      → IsNoMatchTold rules start (front ++ seen) (unit_before at.byte last) (at.byte + last) lines
-  no-match-told numbered last before latest f g told t b l lines e h k same are = record {
-    nodes = nodes;
-    bodies = bodies;
-    numbered = numbered;
-    of_before = failure_found at.byte before;
-    of_last = failure_found (at.byte + last) latest;
-    before_fails = failure-before last before f;
-    last_fails = found-failure last latest g;
-    are = are ∙ ap (λ u. lines_of_failure rules nodes (front ++ seen) (failure_of u (failure_found at.byte before)
-        (failure_found (at.byte + last) latest)))
-        (sym same ∙ e ∙ ap (λ x. told_unit_of x l) h
-        ∙ ap (told_unit_of (failing_byte (failure_found at.byte before))) k);
-  }
+      → (listed : List Visit) → AreReportedOf rules start nodes bodies
+      (failure_of told (failure_found at.byte before) (failure_found (at.byte + last) latest)) listed
+      → lines ≡ lines_of_failure rules nodes bodies (front ++ seen)
+      (failure_of told (failure_found at.byte before) (failure_found (at.byte + last) latest)) listed
+      → (end : Option ℕ) → EndsSo rules start (drop last seen) end → (stuck : Bool)
+      → ((events : List Event) → stuck ≡ takes_no_byte (outcome_at end events)) → (why : List ℕ)
+      → why ≡ opening stuck (name_of_rule rules start) lines ++ lines
+      → IsNoMatchTold rules start (front ++ seen) (unit_before at.byte last) (at.byte + last) why
+  no-match-told numbered last before latest f g told t b l lines e h k same listed reported are end ends stuck tested
+      why whole =
+      let failure : failure_of told (failure_found at.byte before) (failure_found (at.byte + last) latest)
+      ≡ told_failure (failure_found at.byte before) (failure_found (at.byte + last) latest) =
+      ap (λ u. failure_of u (failure_found at.byte before) (failure_found (at.byte + last) latest))
+      (sym same ∙ e ∙ ap (λ x. told_unit_of x l) h
+      ∙ ap (told_unit_of (failing_byte (failure_found at.byte before))) k) in record {
+        nodes = nodes;
+        bodies = bodies;
+        numbered = numbered;
+        of_before = failure_found at.byte before;
+        of_last = failure_found (at.byte + last) latest;
+        before_fails = failure-before last before f;
+        last_fails = found-failure last latest g;
+        outcome = outcome_at end ends.events;
+        looked = ends.looked;
+        gives = subst (λ w. RuleGives rules start w (outcome_at end ends.events) ends.looked)
+            (sym (seen-from front seen at last is)) ends.gives;
+        told = listed;
+        reported = subst (λ o. AreReportedOf rules start nodes bodies o listed) failure reported;
+        are = whole ∙ ap (λ s. opening s (name_of_rule rules start) lines ++ lines) (tested ends.events)
+            ∙ ap (no_match_lines (outcome_at end ends.events) (name_of_rule rules start))
+            (are ∙ ap (λ o. lines_of_failure rules nodes bodies (front ++ seen) o listed) failure);
+      }

@@ -1,7 +1,10 @@
 -- What is seen of an input after its front.
 -- Serves: explain_no_match
 use Rattle.std.proofs.Common.{◌≡◌, ℕ, ◌+◌, List, ◌++◌, length, take, drop, sym, ap, ◌∙◌, arith, ◌-◌, length-drop}
+use Rattle.std.proofs.Common.{◌==◌, true, false, [], ◌∷◌, refl}
+use Rattle.std.proofs.lemmas.Bool.{eqb-true}
 use Rattle.std.proofs.Math.Seq.{drop-append-add, take-append-add, take-length}
+use Rattle.matchfailure.specs.NoMatchLines.{nothing_failed, opening}
 use Rattle.matchfailure.specs.InputPlaces.{place_behind}
 use Rattle.matchfailure.specs.declared.explain.place.TextPlace.{TextPlace}
 
@@ -34,3 +37,8 @@ told-of-input told front seen at failing offset place e f =
     ap (λ (w : List ℕ). told w failing) (sym (seen-from front seen at offset e))
     ∙ ap (told (drop (at.byte + offset) (front ++ seen)))
     (f ∙ ap place_behind (sym (taken-to front seen at offset place e)))
+
+-- the first line where there are no others
+pub quiet-opening : (name lines : List ℕ) → (length lines == 0) ≡ true → opening false name lines ≡ nothing_failed
+quiet-opening name [] e = refl
+quiet-opening name (b ∷ lines) e = let none = eqb-true (length (b ∷ lines)) 0 e in absurd (omega (arith, none))

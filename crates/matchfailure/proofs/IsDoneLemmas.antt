@@ -6,7 +6,9 @@ use Rattle.gramcheck.specs.Grammar.{Grammar, IsSoundGrammar}
 use Rattle.pegnodes.specs.Nodes.{shape_of}
 use Rattle.pegmatch.specs.declared.matcher.Unit.{Unit as UnitAnswer}
 use Rattle.pegmatch.specs.declared.matcher.Unit.TheVariants.{Took, Failed, Need}
+use Rattle.pegread.specs.PegViews.{rules_of}
 use Rattle.matchfailure.specs.Desk.{View, Fits, IsStep, IsDone}
+use Rattle.matchfailure.specs.UnitEnds.{EndsSo, end_of_unit}
 use Rattle.matchfailure.proofs.IsStepLemmas.{fits_at_most}
 
 -- how many steps are left at most
@@ -32,3 +34,18 @@ module _ (g : Grammar) (x : List ℕ) (sound : IsSoundGrammar g) where
   step_ends old new (Took end begun) s = s.0.done
   step_ends old new (Failed begun) s = s.0.done
   step_ends old new Need s = absurd (cc s.1.behind)
+
+  -- where the start rule ends by its answer
+  pub step_answers : (old new : View) (unit : UnitAnswer) → IsStep g x false old new (Some unit)
+      → EndsSo (rules_of g.rules) g.start x (end_of_unit unit)
+  step_answers old new (Took end begun) s = record {
+    events = s.0.answers.events;
+    looked = s.0.answers.looked;
+    gives = s.0.answers.gives;
+  }
+  step_answers old new (Failed begun) s = record {
+    events = s.0.answers.events;
+    looked = s.0.answers.looked;
+    gives = s.0.answers.gives;
+  }
+  step_answers old new Need s = absurd (cc s.1.behind)

@@ -21,6 +21,9 @@ pub mod FarthestWithinLemmas
 pub mod LongerFarthestLemmas
 mod PlaceBehindLemmas
 pub mod RuleOfNodeLemmas
+mod ReportOrderLemmas
+mod EachOnceLemmas
+mod UseRowsLemmas
 mod ExpectedLinesLemmas
 mod FoundLinesLemmas
 mod PieceJoinsLemmas

@@ -7,7 +7,10 @@ use Rattle.pegnodes.specs.NodeLists.{bodies_of_rules, nodes_of_rules}
 use Rattle.pegnodes.specs.Nodes.{Shape}
 use Rattle.pegread.specs.Pattern.{Rule}
 use Rattle.matchfailure.specs.NoMatches.{IsNoMatchTold, IsFailureOf, IsUnitFailure, UnitFailure, lines_of_failure}
-use Rattle.matchfailure.specs.NoMatches.{told_failure}
+use Rattle.matchfailure.specs.NoMatches.{AreReportedOf, no_match_lines, told_failure}
+use Rattle.matchfailure.specs.NodeTexts.{name_of_rule}
+use Rattle.gramcheck.specs.Outcome.{Outcome, RuleGives}
+use Rattle.matchfailure.proofs.ReportOrderLemmas.{one-reported}
 
 -- a start rule has one farthest failure
 abbrev pub OneFarthest : Type 0
@@ -18,10 +21,16 @@ abbrev pub FarthestOrNone : Type 0
 FarthestOrNone = (rules : List Rule) (nodes : List Shape) (bodies x : List ℕ) (start f : ℕ) (vs : List Visit)
     → IsFarthest rules nodes bodies x start f vs → NoneFails rules nodes bodies x start → ⊥
 
+-- a start rule gives one outcome
+abbrev pub OneOutcome : Type 0
+OneOutcome = (rules : List Rule) (start : ℕ) (x : List ℕ) (k j : ℕ) (o c : Outcome) → RuleGives rules start x o k
+    → RuleGives rules start x c j → (o ≡ c) × (k ≡ j)
+
 same-failure : (f g : UnitFailure) → f.unit ≡ g.unit → f.place ≡ g.place → f.expected ≡ g.expected → f ≡ g
 same-failure f g a b c = λ i. record { unit = a i; place = b i; expected = c i }
 
-module _ (one : OneFarthest) (never : FarthestOrNone) (rules : List Rule) (start : ℕ) (text : List ℕ) where
+module _ (one : OneFarthest) (never : FarthestOrNone) (single : OneOutcome) (rules : List Rule) (start : ℕ)
+    (text : List ℕ) where
   one-unit-failure : (nodes : List Shape) (bodies : List ℕ) (unit : ℕ) (a b : Option UnitFailure)
       → IsUnitFailure rules start nodes bodies text unit a → IsUnitFailure rules start nodes bodies text unit b → a ≡ b
   one-unit-failure nodes bodies unit None None f g = refl
@@ -49,24 +58,54 @@ module _ (one : OneFarthest) (never : FarthestOrNone) (rules : List Rule) (start
   abbrev own-bodies : List ℕ
   own-bodies = bodies_of_rules 0 rules
 
+  abbrev lines-of : Outcome → Option UnitFailure → List Visit → List ℕ
+  lines-of outcome failure told =
+      no_match_lines outcome (name_of_rule rules start) (lines_of_failure rules own-nodes own-bodies text failure told)
+
+  -- what is reported of a failure is one list
+  one-list-of : (failure : Option UnitFailure) (a b : List Visit)
+      → AreReportedOf rules start own-nodes own-bodies failure a
+      → AreReportedOf rules start own-nodes own-bodies failure b → a ≡ b
+  one-list-of None a b f g = f ∙ sym g
+  one-list-of (Some u) a b f g =
+      one-reported rules start own-nodes own-bodies u.unit u.place u.expected a b f g
+
+  record Own (before : Option ℕ) (last : ℕ) (a : List ℕ) (t : IsNoMatchTold rules start text before last a)
+      : Type 0 where
+    before_fails : IsFailureOf rules start own-nodes own-bodies text before t.of_before
+    last_fails : IsFailureOf rules start own-nodes own-bodies text (Some last) t.of_last
+    reported : AreReportedOf rules start own-nodes own-bodies (told_failure t.of_before t.of_last) t.told
+    are : a ≡ lines-of t.outcome (told_failure t.of_before t.of_last) t.told
+
   told-own : (before : Option ℕ) (last : ℕ) (a : List ℕ) → (t : IsNoMatchTold rules start text before last a)
-      → IsFailureOf rules start own-nodes own-bodies text before t.of_before
-      × IsFailureOf rules start own-nodes own-bodies text (Some last) t.of_last
-      × (a ≡ lines_of_failure rules own-nodes text (told_failure t.of_before t.of_last))
-  told-own before last a t = (
-    same-nodes t.nodes own-nodes t.bodies own-bodies before t.of_before t.numbered.nodes_are t.numbered.bodies_are
-        t.before_fails,
-    same-nodes t.nodes own-nodes t.bodies own-bodies (Some last) t.of_last t.numbered.nodes_are t.numbered.bodies_are
-        t.last_fails,
-    t.are ∙ ap (λ ns. lines_of_failure rules ns text (told_failure t.of_before t.of_last)) t.numbered.nodes_are,
-  )
+      → Own before last a t
+  told-own before last a t =
+      let ns = t.numbered.nodes_are in
+      let bs = t.numbered.bodies_are in record {
+        before_fails = same-nodes t.nodes own-nodes t.bodies own-bodies before t.of_before ns bs t.before_fails;
+        last_fails = same-nodes t.nodes own-nodes t.bodies own-bodies (Some last) t.of_last ns bs t.last_fails;
+        reported = subst (λ m. AreReportedOf rules start own-nodes m (told_failure t.of_before t.of_last) t.told) bs
+            (subst (λ n. AreReportedOf rules start n t.bodies (told_failure t.of_before t.of_last) t.told) ns
+            t.reported);
+        are = t.are
+            ∙ ap (λ n. no_match_lines t.outcome (name_of_rule rules start)
+            (lines_of_failure rules n t.bodies text (told_failure t.of_before t.of_last) t.told)) ns
+            ∙ ap (λ m. no_match_lines t.outcome (name_of_rule rules start)
+            (lines_of_failure rules own-nodes m text (told_failure t.of_before t.of_last) t.told)) bs;
+      }
 
   pub one-told : (before : Option ℕ) (last : ℕ) (a b : List ℕ) → IsNoMatchTold rules start text before last a
       → IsNoMatchTold rules start text before last b → a ≡ b
   one-told before last a b t u =
       let f = told-own before last a t in
       let g = told-own before last b u in
-      let first = one-failure own-nodes own-bodies before t.of_before u.of_before f.0 g.0 in
-      let second = one-failure own-nodes own-bodies (Some last) t.of_last u.of_last f.1 g.1 in
-      f.2 ∙ ap (λ o. lines_of_failure rules own-nodes text (told_failure o t.of_last)) first
-      ∙ ap (λ o. lines_of_failure rules own-nodes text (told_failure u.of_before o)) second ∙ sym g.2
+      let first = one-failure own-nodes own-bodies before t.of_before u.of_before f.before_fails g.before_fails in
+      let second = one-failure own-nodes own-bodies (Some last) t.of_last u.of_last f.last_fails g.last_fails in
+      let failure : told_failure t.of_before t.of_last ≡ told_failure u.of_before u.of_last =
+      ap (λ o. told_failure o t.of_last) first ∙ ap (told_failure u.of_before) second in
+      let outcome = single rules start (drop last text) t.looked u.looked t.outcome u.outcome t.gives u.gives in
+      let list = one-list-of (told_failure u.of_before u.of_last) t.told u.told
+      (subst (λ o. AreReportedOf rules start own-nodes own-bodies o t.told) failure f.reported) g.reported in
+      f.are ∙ ap (λ o. lines-of o (told_failure t.of_before t.of_last) t.told) outcome.0
+      ∙ ap (λ o. lines-of u.outcome o t.told) failure
+      ∙ ap (lines-of u.outcome (told_failure u.of_before u.of_last)) list ∙ sym g.are

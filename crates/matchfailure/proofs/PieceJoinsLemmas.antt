@@ -19,3 +19,11 @@ pub six-pieces : (o a b c d e f u v w x y z : List ℕ) → a ≡ o ++ u → b �
 six-pieces o a b c d e f u v w x y z g h i j k l =
     let whole : f ≡ (((((o ++ u) ++ v) ++ w) ++ x) ++ y) ++ z = rw (l, k, j, i, h, g) refl in
     whole ∙ simp append_assoc
+
+pub ten-pieces : (o a b c d e f g h i j q r s t u v w x y z : List ℕ) → a ≡ o ++ q → b ≡ a ++ r → c ≡ b ++ s
+    → d ≡ c ++ t → e ≡ d ++ u → f ≡ e ++ v → g ≡ f ++ w → h ≡ g ++ x → i ≡ h ++ y → j ≡ i ++ z
+    → j ≡ o ++ (q ++ (r ++ (s ++ (t ++ (u ++ (v ++ (w ++ (x ++ (y ++ z)))))))))
+ten-pieces o a b c d e f g h i j q r s t u v w x y z aa bb cc' dd ee ff gg hh ii jj =
+    let whole : j ≡ (((((((((o ++ q) ++ r) ++ s) ++ t) ++ u) ++ v) ++ w) ++ x) ++ y) ++ z =
+    rw (jj, ii, hh, gg, ff, ee, dd, cc', bb, aa) refl in
+    whole ∙ simp append_assoc

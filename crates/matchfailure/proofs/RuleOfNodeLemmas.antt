@@ -1,18 +1,18 @@
 -- The rule of a node, where the numbers of the rules' bodies ascend.
 -- Serves: explain_no_match
-use Rattle.std.proofs.Common.{◌≡◌, ℕ, zero, suc, ◌+◌, ◌-◌, ◌<◌, ◌≤◌, List, [], ◌∷◌, refl, sym, ap, ◌∙◌}
-use Rattle.std.proofs.Common.{arith, slice_get, map, Some, length}
+use Rattle.std.proofs.Common.{◌≡◌, ℕ, zero, suc, ◌+◌, ◌<◌, ◌≤◌, inl, inr, ◌∙◌, List, [], ◌∷◌, refl}
+use Rattle.std.proofs.Common.{length, sym, ap, arith, slice_get, map, Some}
+use Rattle.std.proofs.lemmas.Bool.{cases_lt}
 use Rattle.std.proofs.lemmas.List.{length-map}
+use Rattle.pegread.specs.PegViews.{rules_of}
 use Rattle.pegread.specs.Pattern as e
 use Rattle.pegread.specs.Pattern.{Pattern, Rule}
 use Rattle.pegnodes.specs.NodeCounts.{node_count}
-use Rattle.pegnodes.specs.NodeLists.{bodies_of_rules, node_number}
-use Rattle.pegnodes.specs.Nodes.{Shape}
-use Rattle.pegnodes.specs.NodeLists.{AreNumbered}
-use Rattle.pegread.specs.PegViews.{rules_of, rule_of}
+use Rattle.pegnodes.specs.NodeLists.{bodies_of_rules}
+use Rattle.pegread.specs.PegViews.{rule_of}
 use Rattle.pegread.specs.declared.expr.Expr.{Expr}
 use Rattle.ruletable.specs.Rules as table
-use Rattle.matchfailure.specs.NodeTexts.{rule_of_node}
+use Rattle.matchfailure.specs.NodeTexts.{name_of_rule, rule_of_node}
 
 count-positive : (p : Pattern) → 0 < node_count p
 count-positive e.Any = omega arith
@@ -30,77 +30,84 @@ count-positive (e.Act t) = omega arith
 count-positive e.Open = omega arith
 count-positive e.Close = omega arith
 
+some-is : {x y : ℕ} → Some x ≡ Some y → x ≡ y
+some-is h = cc
+
+bodies-from : (rules : List Rule) (first i m : ℕ) → slice_get (bodies_of_rules first rules) i ≡ Some m → first ≤ m
+bodies-from [] first i m at = absurd (cc at)
+bodies-from (r ∷ rules) first zero m at =
+    let some = count-positive r.body in
+    let is = some-is at in
+    omega (arith, some, is)
+bodies-from (r ∷ rules) first (suc i) m at =
+    let later = bodies-from rules (first + node_count r.body) i m at in omega (arith, later)
+
+-- a later body has a greater number
+pub bodies-ascend : (rules : List Rule) (first i j m n : ℕ) → i < j → slice_get (bodies_of_rules first rules) i ≡ Some m
+    → slice_get (bodies_of_rules first rules) j ≡ Some n → m < n
+bodies-ascend [] first i j m n less at there = absurd (cc at)
+bodies-ascend (r ∷ rules) first i zero m n less at there = absurd (omega (arith, less))
+bodies-ascend (r ∷ rules) first zero (suc j) m n less at there =
+    let some = count-positive r.body in
+    let is = some-is at in
+    let later = bodies-from rules (first + node_count r.body) j n there in
+    omega (arith, some, is, later)
+bodies-ascend (r ∷ rules) first (suc i) (suc j) m n less at there =
+    bodies-ascend rules (first + node_count r.body) i j m n (omega (arith, less)) at there
+
 -- the bodies before that of rule id have smaller numbers than the node
 abbrev pub AreBefore : List ℕ → ℕ → ℕ → Type 0
 AreBefore bodies id n = (j m : ℕ) → j < id → slice_get bodies j ≡ Some m → m < n
 
--- in a rule's body
-rule-here : (rule : Rule) (rules : List Rule) (n : ℕ) → n < node_count rule.body
-    → rule_of_node (rule ∷ rules) n ≡ rule.name
-rule-here rule rules n l = grind (arith, l)
+-- those from it on do not
+abbrev pub AreFrom : List ℕ → ℕ → ℕ → Type 0
+AreFrom bodies id n = (j m : ℕ) → id ≤ j → slice_get bodies j ≡ Some m → n ≤ m
 
--- after a rule's body
-rule-behind : (rule : Rule) (rules : List Rule) (n : ℕ) → node_count rule.body ≤ n
-    → rule_of_node (rule ∷ rules) n ≡ rule_of_node rules (n - node_count rule.body)
-rule-behind rule rules n l = grind (arith, l)
+rule-below : (body : ℕ) (bodies : List ℕ) (n : ℕ) → body < n
+    → rule_of_node (body ∷ bodies) n ≡ suc (rule_of_node bodies n)
+rule-below body bodies n less = grind (arith, less)
 
-same-some : {A : Type 0} (x y : A) → Some x ≡ Some y → x ≡ y
-same-some x y e = cc
+rule-here : (body : ℕ) (bodies : List ℕ) (n : ℕ) → n ≤ body → rule_of_node (body ∷ bodies) n ≡ 0
+rule-here body bodies n le = grind (arith, le)
 
-pub rule-found : (rules : List Rule) (first n id m : ℕ) (name : List ℕ)
-    → AreBefore (bodies_of_rules first rules) id (first + n) → slice_get (bodies_of_rules first rules) id ≡ Some m
-    → first + n ≤ m → slice_get (map (λ r. r.name) rules) id ≡ Some name → rule_of_node rules n ≡ name
-rule-found [] first n id m name before at l is = absurd (cc is)
-rule-found (r ∷ rules) first n zero m name before at l is =
-    let some = count-positive r.body in
-    let number = same-some (node_number first r.body) m at in
-    rule-here r rules n (omega (arith, some, number, l)) ∙ same-some r.name name is
-rule-found (r ∷ rules) first n (suc id) m name before at l is =
-    let some = count-positive r.body in
-    let less = before 0 (node_number first r.body) (omega arith) refl in
-    let count : node_count r.body ≤ n = omega (arith, some, less) in
-    let sum : (first + node_count r.body) + (n - node_count r.body) ≡ first + n = omega (arith, count) in
-    rule-behind r rules n count
-    ∙ rule-found rules (first + node_count r.body) (n - node_count r.body) id m name
-    (λ j k below has. rw sum (before (suc j) k (omega (arith, below)) has)) at (omega (arith, sum, l)) is
+-- the first body whose number is not less than the node's
+pub rule-is : (bodies : List ℕ) (n id : ℕ) → id ≤ length bodies → AreBefore bodies id n → AreFrom bodies id n
+    → id ≡ rule_of_node bodies n
+rule-is [] n id few before from = omega (arith, few)
+rule-is (b ∷ bodies) n zero few before from = sym (rule-here b bodies n (from 0 b (omega arith) refl))
+rule-is (b ∷ bodies) n (suc id) few before from =
+    let rest = rule-is bodies n id (omega (arith, few)) (λ j m less at. before (suc j) m (omega (arith, less)) at)
+    (λ j m le at. from (suc j) m (omega (arith, le)) at) in
+    ap suc rest ∙ sym (rule-below b bodies n (before 0 b (omega arith) refl))
 
-pub rule-missed : (rules : List Rule) (first n : ℕ)
-    → AreBefore (bodies_of_rules first rules) (length rules) (first + n) → rule_of_node rules n ≡ []
-rule-missed [] first n before = refl
-rule-missed (r ∷ rules) first n before =
-    let some = count-positive r.body in
-    let less = before 0 (node_number first r.body) (omega arith) refl in
-    let count : node_count r.body ≤ n = omega (arith, some, less) in
-    let sum : (first + node_count r.body) + (n - node_count r.body) ≡ first + n = omega (arith, count) in
-    rule-behind r rules n count ∙ rule-missed rules (first + node_count r.body) (n - node_count r.body)
-    (λ j k below has. rw sum (before (suc j) k (omega (arith, below)) has))
+-- the search goes on in the later half, or in the earlier one
+pub before-half : (rules : List Rule) (mid n m : ℕ) → slice_get (bodies_of_rules 0 rules) mid ≡ Some m → m < n
+    → AreBefore (bodies_of_rules 0 rules) (mid + 1) n
+before-half rules mid n m at less j k low there = elim (cases_lt j mid) [
+  | inl before ↦ let up = bodies-ascend rules 0 j mid k m before there at in omega (arith, up, less)
+  | inr from ↦ let is : j ≡ mid = omega (arith, low, from) in
+      let same = some-is (sym there ∙ ap (slice_get (bodies_of_rules 0 rules)) is ∙ at) in omega (arith, same, less)
+]
 
-names-kept : (rules : List (table.Rule Expr)) → map (λ (r : Rule). r.name) (map rule_of rules)
-    ≡ map (λ (r : table.Rule Expr). r.name) rules
-names-kept [] = refl
-names-kept (r ∷ rules) = ap (λ (ns : List (List ℕ)). r.name ∷ ns) (names-kept rules)
+pub from-half : (rules : List Rule) (mid n m : ℕ) → slice_get (bodies_of_rules 0 rules) mid ≡ Some m → n ≤ m
+    → AreFrom (bodies_of_rules 0 rules) mid n
+from-half rules mid n m at le j k low there = elim (cases_lt mid j) [
+  | inl after ↦ let up = bodies-ascend rules 0 mid j m k after at there in omega (arith, up, le)
+  | inr not ↦ let is : j ≡ mid = omega (arith, low, not) in
+      let same = some-is (sym there ∙ ap (slice_get (bodies_of_rules 0 rules)) is ∙ at) in omega (arith, same, le)
+]
 
--- of a grammar's numbered rules: the first body whose number is not less than the node's
-pub name-found : (rules : table.Rules Expr) (nodes : List Shape) (bodies : List ℕ) (n id m : ℕ) (name : List ℕ)
-    → AreNumbered (rules_of rules) nodes bodies → AreBefore bodies id n → slice_get bodies id ≡ Some m → n ≤ m
-    → slice_get (table.names_of rules) id ≡ Some name → name ≡ rule_of_node (rules_of rules) n
-name-found rules nodes bodies n id m name numbered before at l is =
-    let e = numbered.bodies_are in
-    sym (rule-found (rules_of rules) 0 n id m name
-    (λ j k below has. omega (arith, before j k below (ap (λ (bs : List ℕ). slice_get bs j) e ∙ has)))
-    (ap (λ (bs : List ℕ). slice_get bs id) (sym e) ∙ at) (omega (arith, l))
-    (ap (λ (ns : List (List ℕ)). slice_get ns id) (names-kept rules.rules) ∙ is))
+-- the name of a rule, by its number
+pub name-is : (rules : List (table.Rule Expr)) (id : ℕ) (name : List ℕ)
+    → slice_get (map (λ r. r.name) rules) id ≡ Some name → name ≡ name_of_rule (map rule_of rules) id
+name-is [] id name at = absurd (cc at)
+name-is (r ∷ rules) zero name at = cc at
+name-is (r ∷ rules) (suc id) name at = name-is rules id name at
 
--- where there is none
-pub name-missed : (rules : table.Rules Expr) (nodes : List Shape) (bodies : List ℕ) (n id : ℕ)
-    → AreNumbered (rules_of rules) nodes bodies → AreBefore bodies id n → length rules.rules ≤ id
-    → [] ≡ rule_of_node (rules_of rules) n
-name-missed rules nodes bodies n id numbered before l =
-    let e = numbered.bodies_are in
-    let count = length-map rules.rules rule_of in
-    sym (rule-missed (rules_of rules) 0 n
-    (λ j k below has. omega (
-      arith,
-      before j k (omega (arith, below, count, l))
-          (ap (λ (bs : List ℕ). slice_get bs j) e ∙ has),
-    )))
+pub no-name : (rules : List (table.Rule Expr)) (id : ℕ) → length rules ≤ id → [] ≡ name_of_rule (map rule_of rules) id
+no-name [] id past = refl
+no-name (r ∷ rules) zero past = absurd (omega (arith, past))
+no-name (r ∷ rules) (suc id) past = no-name rules id (omega (arith, past))
+
+pub count-is : (rules : table.Rules Expr) → length (rules_of rules) ≡ length rules.rules
+count-is rules = length-map rules.rules rule_of

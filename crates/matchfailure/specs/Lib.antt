@@ -8,9 +8,11 @@ pub mod Farthest
 pub mod CellAsks
 pub mod GreatestStop
 pub mod ToldUnit
+pub mod UnitEnds
 pub mod InputPlaces
 pub mod NodeTexts
 pub mod NoMatchLines
+pub mod ReportOrder
 pub mod NoMatches
 pub mod FailureSearches
 pub mod FittingFailures

@@ -1,6 +1,7 @@
 -- What explains that no unit goes on: of the last unit and the one before it, where the one fails farthest whose
 -- failing byte stands farther in the input.
-use Rattle.std.specs.Prelude.{◌≡◌, ℕ, zero, suc, ◌+◌, List, Option, Some, None, take, drop}
+use Rattle.std.specs.Prelude.{◌≡◌, ℕ, zero, suc, ◌+◌, List, [], ◌++◌, Option, Some, None, take, drop}
+use Rattle.gramcheck.specs.Outcome.{Outcome, RuleGives}
 use Rattle.matchfailure.specs.Farthest.{IsFarthest, NoneFails}
 use Rattle.matchfailure.specs.ToldUnit.{told_unit_of}
 use Rattle.matchfailure.specs.declared.farthest.told.Told.{Told}
@@ -9,7 +10,10 @@ use Rattle.matchfailure.specs.declared.farthest.visit.Visit.{Visit}
 use Rattle.pegnodes.specs.NodeLists.{AreNumbered}
 use Rattle.pegnodes.specs.Nodes.{Shape}
 use Rattle.pegread.specs.Pattern.{Rule}
-use Rattle.matchfailure.specs.NoMatchLines.{failure_lines, nothing_failed}
+use Rattle.matchfailure.specs.NodeTexts.{name_of_rule}
+use Rattle.matchfailure.specs.NoMatchLines.{failure_lines, opening}
+use Rattle.matchfailure.specs.ReportOrder.{AreReported}
+use Rattle.matchfailure.specs.UnitEnds.{takes_no_byte}
 use Rattle.matchfailure.specs.InputPlaces.{place_behind}
 
 -- where a unit fails farthest outside of `!`
@@ -51,12 +55,22 @@ module _ (rules : List Rule) (start : ℕ) (nodes : List Shape) (bodies text : L
   IsFailureOf None failure = failure ≡ None
   IsFailureOf (Some unit) failure = IsUnitFailure unit failure
 
--- the lines of a failure in a text
-abbrev pub lines_of_failure : List Rule → List Shape → List ℕ → Option UnitFailure → List ℕ
-lines_of_failure rules nodes text None = nothing_failed
-lines_of_failure rules nodes text (Some f) =
-    failure_lines rules nodes (drop f.unit text) (place_behind (take (f.unit + f.place) text)) f.unit f.place
-    f.expected
+-- what is reported of what was expected, if there is a failure
+abbrev pub AreReportedOf : List Rule → ℕ → List Shape → List ℕ → Option UnitFailure → List Visit → Type 0
+AreReportedOf rules start nodes bodies None told = told ≡ []
+AreReportedOf rules start nodes bodies (Some f) told =
+    AreReported rules start nodes bodies f.unit f.place f.expected told
+
+-- the lines of a failure in a text, if there is one
+abbrev pub lines_of_failure : List Rule → List Shape → List ℕ → List ℕ → Option UnitFailure → List Visit → List ℕ
+lines_of_failure rules nodes bodies text None told = []
+lines_of_failure rules nodes bodies text (Some f) told =
+    failure_lines rules nodes bodies (drop f.unit text) (place_behind (take (f.unit + f.place) text)) f.unit f.place
+    told
+
+-- the lines of a failure with the line before them, where the start rule gives this on the last unit
+abbrev pub no_match_lines : Outcome → List ℕ → List ℕ → List ℕ
+no_match_lines outcome name lines = opening (takes_no_byte outcome) name lines ++ lines
 
 -- The lines explain that no unit goes on after the last one of an input, of which these bytes are taken.
 pub record IsNoMatchTold (rules : List Rule) (start : ℕ) (text : List ℕ) (before : Option ℕ) (last : ℕ)
@@ -68,4 +82,12 @@ pub record IsNoMatchTold (rules : List Rule) (start : ℕ) (text : List ℕ) (be
   pub of_last : Option UnitFailure
   pub before_fails : IsFailureOf rules start nodes bodies text before of_before
   pub last_fails : IsUnitFailure rules start nodes bodies text last of_last
-  pub are : lines ≡ lines_of_failure rules nodes text (told_failure of_before of_last)
+  -- what the start rule gives on the last unit, and how far it looks
+  pub outcome : Outcome
+  pub looked : ℕ
+  pub gives : RuleGives rules start (drop last text) outcome looked
+  -- what is reported of what was expected
+  pub told : List Visit
+  pub reported : AreReportedOf rules start nodes bodies (told_failure of_before of_last) told
+  pub are : lines ≡ no_match_lines outcome (name_of_rule rules start)
+      (lines_of_failure rules nodes bodies text (told_failure of_before of_last) told)

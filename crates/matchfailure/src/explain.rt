@@ -4,7 +4,9 @@ mod explain;
 mod laws;
 mod lines;
 mod node_texts;
+mod order;
 mod place;
+mod uses;
 
 pub use explain::{FailureSearch, explain_long_unit};
 pub use laws::{fails_so_in_input, one_no_match};

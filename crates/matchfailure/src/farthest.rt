@@ -12,7 +12,7 @@ mod stop;
 mod told;
 mod visit;
 
-pub use failures::{Farthest, farthest_failure};
+pub use failures::{Farthest, UnitSearch, farthest_failure};
 pub use laws::{
     failing_leaf_stops, farthest_is_within, farthest_or_none, one_farthest, same_on_longer,
     stops_fail,

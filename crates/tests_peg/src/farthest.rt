@@ -37,7 +37,8 @@ fn add_visits(peg: &SoundPeg, visits: &[Visit], out: &mut Text) {
 /// there.
 pub(crate) fn farthest_of(alloc: Global, fields: &Fields, out: &mut Text) -> Option<()> {
     let peg = sound(alloc, fields.text(0), "")?;
-    match farthest_failure(alloc, &peg, fields.text(1)).ok()? {
+    let search = farthest_failure(alloc, &peg, fields.text(1)).ok()?;
+    match search.farthest {
         None => out.add(b"none"),
         Some(far) => {
             out.add_number(far.place as u128);

@@ -54,8 +54,8 @@ static ROWS: [Row; 4] = [
   byte 4, line 1, column 5, in the unit at byte 0
   a=12,
       ^
-  expected [0-9] in S
   expected \";\" in S
+  expected [0-9] in S
 ",
         0,
         (1, 0),

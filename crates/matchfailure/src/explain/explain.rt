@@ -1,24 +1,32 @@
 //! Explains why no unit goes on.
-ghost use Rattle.std.specs.Prelude.{◌≡◌, ℕ, ◌+◌, ◌^◌, ◌<◌, ◌≤◌, ◌++◌, List, length, drop, min, IfOk, IfSome};
+ghost use Rattle.std.specs.Prelude.{◌≡◌, ℕ, ◌+◌, ◌^◌, ◌<◌, ◌≤◌, ◌++◌, List, length, drop, min, IfOk, IfSome, OnOk};
 ghost use Rattle.gramcheck.specs.Grammar.{IsSoundGrammar};
 ghost use Rattle.pegnodes.specs.Nodes.{shapes_of};
 ghost use Rattle.pegread.specs.PegViews.{rules_of};
 ghost use Rattle.matchfailure.specs.FailureSearches.{evaluated_by, most_evaluated};
 ghost use Rattle.matchfailure.specs.FittingFailures.{IsFitting};
 ghost use Rattle.matchfailure.specs.FoundFailures.{IsFound, IsFoundBefore, failure_found};
-ghost use Rattle.matchfailure.specs.NoMatchLines.{long_unit_lines};
-ghost use Rattle.matchfailure.specs.NoMatches.{IsNoMatchTold, failing_byte, lines_of_failure, unit_before};
+ghost use Rattle.gramcheck.specs.Outcome.{Event};
+ghost use Rattle.matchfailure.specs.NodeTexts.{name_of_rule};
+ghost use Rattle.matchfailure.specs.NoMatchLines.{long_unit_lines, no_byte_taken, opening};
+ghost use Rattle.matchfailure.specs.NoMatches.{AreReportedOf, IsNoMatchTold, failing_byte, lines_of_failure};
+ghost use Rattle.matchfailure.specs.NoMatches.{unit_before};
+ghost use Rattle.matchfailure.specs.declared.farthest.visit.Visit.{Visit};
 ghost use Rattle.matchfailure.specs.InputPlaces.{place_behind};
+ghost use Rattle.matchfailure.specs.UnitEnds.{EndsSo, outcome_at, takes_no_byte};
 
 use crate::explain::lines::lines_of_farthest;
 use crate::explain::place::TextPlace;
-use crate::farthest::{Farthest, Told, farthest_failure, farthest_is_within, told_unit};
-use diagnostics::push_number;
+use crate::farthest::{
+    Farthest, Told, UnitSearch, farthest_failure, farthest_is_within, told_unit,
+};
+use diagnostics::{push_cut, push_number};
 use gramcheck::SoundPeg;
 use ruletable::Memory;
 use std::alloc::Global;
 
-/// Returns the lines of what was found of a unit. `seen` stands at `at`; the unit begins `offset` bytes after that.
+/// Returns the lines of what was found of a unit, none if no comparison fails. `seen` stands at `at`; the unit begins
+/// `offset` bytes after that.
 fn lines_of_found(
     alloc: Global,
     peg: &SoundPeg,
@@ -31,9 +39,12 @@ fn lines_of_found(
     requires stands { (front : List ℕ) × (at ≡ place_behind front) × (length front + length seen.now < 2 ^ 63) }
     requires fitting { IfSome found.now (IsFitting (length peg.now.nodes) (length (drop offset seen.now))
         (at.byte + offset)) }
-    ensures { IfOk result (λ why. (front : List ℕ) → at ≡ place_behind front → why.items
-        ≡ lines_of_failure (rules_of peg.now.rules) (shapes_of peg.now.nodes) (front ++ seen.now)
-        (failure_found (at.byte + offset) found.now)) }
+    ensures { IfOk result (λ why. (told : List Visit)
+        × AreReportedOf (rules_of peg.now.rules) peg.now.start (shapes_of peg.now.nodes) peg.now.bodies
+        (failure_found (at.byte + offset) found.now) told
+        × ((front : List ℕ) → at ≡ place_behind front → why.items ≡ lines_of_failure (rules_of peg.now.rules)
+        (shapes_of peg.now.nodes) peg.now.bodies (front ++ seen.now) (failure_found (at.byte + offset) found.now)
+        told)) }
 {
     match found {
         Some(farthest) => {
@@ -41,7 +52,7 @@ fn lines_of_found(
             let place = at.behind(&seen[..offset + farthest.place]);
             lines_of_farthest(alloc, peg, &seen[offset..], place, unit, farthest)
         }
-        None => Ok(Vec::from_slice(alloc, b"  no comparison failed outside of \"!\"\n")?),
+        None => Ok(Vec::new(alloc)),
     }
 }
 
@@ -54,6 +65,57 @@ fn byte_of(found: &Option<Farthest>, unit: usize) -> Option<u128>
         Some(farthest) => Some((unit + farthest.place) as u128),
         None => None,
     }
+}
+
+// Returns whether the start rule succeeds, but takes no byte.
+fn is_stuck(end: Option<usize>) -> bool
+    ensures { (events : List Event) → result ≡ takes_no_byte (outcome_at end events) }
+{
+    match end {
+        Some(end) => end == 0,
+        None => false,
+    }
+}
+
+// Adds that the unit took no byte, where the start rule has this name.
+fn push_no_byte(out: &mut Vec<u8>, name: &[u8]) -> Result<(), Memory>
+    ensures { OnOk result (out.new.items ≡ out.old.items ++ no_byte_taken name.now) }
+{
+    out.extend_from_slice(b"  rule '")?;
+    push_cut(out, name)?;
+    out.extend_from_slice(b"' matched and took no byte\n")?;
+    Ok(())
+}
+
+// Adds the first line: that the last unit took no byte, or that no comparison failed if there are no lines of a
+// failure.
+fn push_opening(
+    out: &mut Vec<u8>,
+    peg: &SoundPeg,
+    is_stuck: bool,
+    lines: &[u8],
+) -> Result<(), Memory>
+    ensures { OnOk result (out.new.items ≡ out.old.items
+        ++ opening is_stuck (name_of_rule (rules_of peg.now.rules) peg.now.start) lines.now) }
+{
+    if is_stuck {
+        return push_no_byte(out, peg.rules().name(peg.start()));
+    }
+    if lines.is_empty() {
+        out.extend_from_slice(b"  no comparison failed outside of \"!\"\n")?;
+    }
+    Ok(())
+}
+
+// Returns the lines of a failure after their first line.
+fn opened(alloc: Global, peg: &SoundPeg, is_stuck: bool, lines: &[u8]) -> Result<Vec<u8>, Memory>
+    ensures { IfOk result (λ why. why.items ≡ opening is_stuck
+        (name_of_rule (rules_of peg.now.rules) peg.now.start) lines.now ++ lines.now) }
+{
+    let mut out = Vec::new(alloc);
+    push_opening(&mut out, peg, is_stuck, lines)?;
+    out.extend_from_slice(lines)?;
+    Ok(out)
 }
 
 /// A search for the farthest failures of units. It evaluates a unit anew, and holds the count alone, so that contracts
@@ -72,7 +134,8 @@ impl FailureSearch {
         FailureSearch { evaluated: 0 }
     }
 
-    /// Returns where a unit fails farthest. `seen` holds what is seen of the unit, which begins after `unit` bytes.
+    /// Returns where a unit ends and where it fails farthest. `seen` holds what is seen of the unit, which begins after
+    /// `unit` bytes.
     ///
     /// # Errors
     /// `Memory` if an allocation fails.
@@ -82,13 +145,14 @@ impl FailureSearch {
         peg: &SoundPeg,
         seen: &[u8],
         unit: usize,
-    ) -> Result<Option<Farthest>, Memory>
+    ) -> Result<UnitSearch, Memory>
         requires sound { IsSoundGrammar peg.now }
         requires fits { unit + length seen.now < 2 ^ 63 }
-        ensures found { IfOk result (IsFound (rules_of peg.now.rules) peg.now.start (shapes_of peg.now.nodes)
-            peg.now.bodies seen.now) }
-        ensures fitting { IfOk result (λ found. IfSome found (IsFitting (length peg.now.nodes) (length seen.now)
-            unit)) }
+        ensures found { IfOk result (λ search. IsFound (rules_of peg.now.rules) peg.now.start
+            (shapes_of peg.now.nodes) peg.now.bodies seen.now search.farthest) }
+        ensures fitting { IfOk result (λ search. IfSome search.farthest (IsFitting (length peg.now.nodes)
+            (length seen.now) unit)) }
+        ensures end { IfOk result (λ search. EndsSo (rules_of peg.now.rules) peg.now.start seen.now search.end) }
         ensures once { evaluated_by self.new ≡ min (evaluated_by self.old + 1) most_evaluated }
     {
         farthest_is_within();
@@ -120,12 +184,13 @@ impl FailureSearch {
         if last == 0 {
             return Ok(None);
         }
-        self.failure_in(alloc, peg, seen, unit)
+        Ok(self.failure_in(alloc, peg, seen, unit)?.farthest)
     }
 
     /// Returns the lines that explain why no unit follows the last one. They report where that unit, or the one before
     /// it, fails farthest: the byte, the line and the column of the input, and a picture. Then they list the
-    /// expressions that were expected there, each with its rule.
+    /// expressions that were expected there, each with its rule. Before them they say if the last unit matches and
+    /// takes no byte.
     ///
     /// `seen` holds all that is taken of the input from the front of the unit before on, which stands at `at`. The last
     /// unit begins `last` bytes after that. If there is no unit before, `last` is 0.
@@ -153,9 +218,17 @@ impl FailureSearch {
         let _ = peg.start();
         let before = self.failure_before(alloc, peg, seen, at.byte, last)?;
         let latest = self.failure_in(alloc, peg, &seen[last..], at.byte + last)?;
-        match told_unit(byte_of(&before, at.byte), byte_of(&latest, at.byte + last)) {
-            Told::Before => lines_of_found(alloc, peg, seen, at, 0, &before),
-            Told::Last => lines_of_found(alloc, peg, seen, at, last, &latest),
+        let stuck = is_stuck(latest.end);
+        let failing = byte_of(&latest.farthest, at.byte + last);
+        match told_unit(byte_of(&before, at.byte), failing) {
+            Told::Before => {
+                let lines = lines_of_found(alloc, peg, seen, at, 0, &before)?;
+                opened(alloc, peg, stuck, &lines)
+            }
+            Told::Last => {
+                let lines = lines_of_found(alloc, peg, seen, at, last, &latest.farthest)?;
+                opened(alloc, peg, stuck, &lines)
+            }
         }
     }
 }

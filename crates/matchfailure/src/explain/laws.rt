@@ -7,6 +7,7 @@ ghost use Rattle.pegread.specs.Pattern.{Rule};
 ghost use Rattle.matchfailure.specs.NoMatches.{IsNoMatchTold, IsUnitFailure, UnitFailure};
 
 use crate::farthest::{farthest_or_none, one_farthest, same_on_longer};
+use gramcheck::one_outcome_of_start;
 
 /// Says that at most one text explains that no unit goes on after the last one of an input.
 pub fn one_no_match()
@@ -15,6 +16,7 @@ pub fn one_no_match()
 {
     one_farthest();
     farthest_or_none();
+    one_outcome_of_start();
 }
 
 /// States that a unit has the same farthest failure in a prefix of an input as in the whole input. The start rule must

@@ -1,14 +1,17 @@
 //! The lines that report where a unit fails farthest.
-ghost use Rattle.std.specs.Prelude.{◌≡◌, ℕ, ◌+◌, ◌^◌, ◌<◌, ◌≤◌, ◌++◌, length, OnOk, IfOk};
+ghost use Rattle.std.specs.Prelude.{◌≡◌, ℕ, ◌+◌, ◌^◌, ◌<◌, ◌≤◌, ◌++◌, List, length, OnOk, IfOk};
 ghost use Rattle.std.specs.List.{flat_map};
 ghost use Rattle.matchfailure.specs.VisitLists.{ListsVisit};
+ghost use Rattle.matchfailure.specs.ReportOrder.{AreReported};
+ghost use Rattle.matchfailure.specs.declared.farthest.visit.Visit.{Visit};
 ghost use Rattle.pegnodes.specs.Nodes.{shapes_of};
 ghost use Rattle.pegread.specs.PegViews.{rules_of};
 ghost use Rattle.matchfailure.specs.FittingFailures.{AreFitting, IsFitting};
-ghost use Rattle.matchfailure.specs.NoMatchLines.{begun_at, expected_line, expected_lines, failing_picture};
-ghost use Rattle.matchfailure.specs.NoMatchLines.{failing_place, failure_lines, more_expected};
+ghost use Rattle.matchfailure.specs.NoMatchLines.{begun_at, end_shown, expected_line, expected_lines};
+ghost use Rattle.matchfailure.specs.NoMatchLines.{failing_picture, failing_place, failure_lines, more_expected};
 
 use crate::explain::node_texts::{leaf_at, rule_name};
+use crate::explain::order::reported;
 use crate::explain::place::TextPlace;
 use crate::farthest::{Farthest, Visit};
 use diagnostics::{line_around, push_cut, push_number, push_picture};
@@ -19,9 +22,24 @@ use std::alloc::Global;
 /// How many of the expressions that were expected are reported.
 pub const MAX_EXPECTED: usize = 16;
 
-// Adds the line of the position where a unit fails. The unit begins after `unit` bytes.
-fn push_failing_place(out: &mut Vec<u8>, at: TextPlace, unit: usize) -> Result<(), Memory>
-    ensures { OnOk result (out.new.items ≡ out.old.items ++ failing_place at unit) }
+// Adds that no byte stands there, if so.
+fn push_end(out: &mut Vec<u8>, is_end: bool) -> Result<(), Memory>
+    ensures { OnOk result (out.new.items ≡ out.old.items ++ end_shown is_end) }
+{
+    if is_end {
+        out.extend_from_slice(b", the end of the input")?;
+    }
+    Ok(())
+}
+
+// Adds the line of the position where a unit fails, which may be the input's end. The unit begins after `unit` bytes.
+fn push_failing_place(
+    out: &mut Vec<u8>,
+    at: TextPlace,
+    is_end: bool,
+    unit: usize,
+) -> Result<(), Memory>
+    ensures { OnOk result (out.new.items ≡ out.old.items ++ failing_place at is_end unit) }
 {
     out.extend_from_slice(b"  byte ")?;
     push_number(out, at.byte)?;
@@ -29,22 +47,35 @@ fn push_failing_place(out: &mut Vec<u8>, at: TextPlace, unit: usize) -> Result<(
     push_number(out, at.line)?;
     out.extend_from_slice(b", column ")?;
     push_number(out, at.column)?;
+    push_end(out, is_end)?;
     out.extend_from_slice(b", in the unit at byte ")?;
     push_number(out, unit)?;
     out.extend_from_slice(b"\n")?;
     Ok(())
 }
 
-// Adds the line of that byte of a text, with a caret below the byte.
+// Adds the line of that byte of a text, with a caret below the byte, unless the line is empty.
 fn push_failing_picture(out: &mut Vec<u8>, text: &[u8], place: usize) -> Result<(), Memory>
     requires { place ≤ length text.now }
     ensures { OnOk result (out.new.items ≡ out.old.items ++ failing_picture text.now place) }
 {
-    push_picture(out, line_around(text, place, LineRule::Lf))
+    let around = line_around(text, place, LineRule::Lf);
+    if around.line.is_empty() {
+        return Ok(());
+    }
+    push_picture(out, around)
 }
 
-// Adds where an expression begins, unless it begins where it fails.
-fn push_begun(out: &mut Vec<u8>, unit: usize, place: usize, begin: usize) -> Result<(), Memory>
+/// Adds where an expression begins, unless it begins where it fails.
+///
+/// # Errors
+/// `Memory` if an allocation fails.
+pub(crate) fn push_begun(
+    out: &mut Vec<u8>,
+    unit: usize,
+    place: usize,
+    begin: usize,
+) -> Result<(), Memory>
     requires { unit + begin < 2 ^ 63 }
     ensures { OnOk result (out.new.items ≡ out.old.items ++ begun_at unit place begin) }
 {
@@ -67,7 +98,7 @@ fn push_expected_line(
     requires node { visit.node < length peg.now.nodes }
     requires begin { unit + visit.place < 2 ^ 63 }
     ensures { OnOk result (out.new.items ≡ out.old.items
-        ++ expected_line (rules_of peg.now.rules) (shapes_of peg.now.nodes) unit place visit) }
+        ++ expected_line (rules_of peg.now.rules) (shapes_of peg.now.nodes) peg.now.bodies unit place visit) }
 {
     let leaf = leaf_at(alloc, peg, visit.node)?;
     out.extend_from_slice(b"  expected ")?;
@@ -86,13 +117,13 @@ fn push_each(
     peg: &SoundPeg,
     unit: usize,
     place: usize,
-    expected: &[Visit],
+    told: &[Visit],
 ) -> Result<(), Memory>
-    requires { AreFitting (length peg.now.nodes) unit expected.now }
+    requires { AreFitting (length peg.now.nodes) unit told.now }
     ensures { OnOk result (out.new.items ≡ out.old.items ++ flat_map (expected_line (rules_of peg.now.rules)
-        (shapes_of peg.now.nodes) unit place) expected.now) }
+        (shapes_of peg.now.nodes) peg.now.bodies unit place) told.now) }
 {
-    for visit in expected {
+    for visit in told {
         push_expected_line(alloc, out, peg, unit, place, *visit)?;
     }
     Ok(())
@@ -117,15 +148,15 @@ fn push_expected(
     peg: &SoundPeg,
     unit: usize,
     place: usize,
-    expected: &[Visit],
+    told: &[Visit],
 ) -> Result<(), Memory>
-    requires { AreFitting (length peg.now.nodes) unit expected.now }
+    requires { AreFitting (length peg.now.nodes) unit told.now }
     ensures { OnOk result (out.new.items ≡ out.old.items ++ expected_lines (rules_of peg.now.rules)
-        (shapes_of peg.now.nodes) unit place expected.now) }
+        (shapes_of peg.now.nodes) peg.now.bodies unit place told.now) }
 {
-    let shown = expected.len().min(MAX_EXPECTED);
-    push_each(alloc, out, peg, unit, place, &expected[..shown])?;
-    push_more(out, expected.len() - shown)?;
+    let shown = told.len().min(MAX_EXPECTED);
+    push_each(alloc, out, peg, unit, place, &told[..shown])?;
+    push_more(out, told.len() - shown)?;
     Ok(())
 }
 
@@ -143,13 +174,16 @@ pub(crate) fn lines_of_farthest(
     farthest: &Farthest,
 ) -> Result<Vec<u8>, Memory>
     requires { IsFitting (length peg.now.nodes) (length seen.now) unit farthest.now }
-    ensures { IfOk result (λ why. why.items ≡ failure_lines (rules_of peg.now.rules) (shapes_of peg.now.nodes) seen.now
-        at unit farthest.now.place farthest.now.expected.items) }
+    ensures { IfOk result (λ why. (told : List Visit) × AreReported (rules_of peg.now.rules) peg.now.start
+        (shapes_of peg.now.nodes) peg.now.bodies unit farthest.now.place farthest.now.expected.items told
+        × (why.items ≡ failure_lines (rules_of peg.now.rules) (shapes_of peg.now.nodes) peg.now.bodies seen.now at unit
+        farthest.now.place told)) }
 {
     let place = farthest.place;
+    let told = reported(alloc, peg, unit, farthest)?;
     let mut out = Vec::new(alloc);
-    push_failing_place(&mut out, at, unit)?;
+    push_failing_place(&mut out, at, place == seen.len(), unit)?;
     push_failing_picture(&mut out, seen, place)?;
-    push_expected(alloc, &mut out, peg, unit, place, &farthest.expected)?;
+    push_expected(alloc, &mut out, peg, unit, place, &told)?;
     Ok(out)
 }

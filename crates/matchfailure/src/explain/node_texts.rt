@@ -2,7 +2,7 @@
 ghost use Rattle.std.specs.Prelude.{◌≡◌, ◌<◌, Some, length, slice_get, IfOk};
 ghost use Rattle.pegnodes.specs.Nodes.{shape_of, shapes_of};
 ghost use Rattle.pegread.specs.PegViews.{rules_of};
-ghost use Rattle.matchfailure.specs.NodeTexts.{leaf_text, rule_of_node};
+ghost use Rattle.matchfailure.specs.NodeTexts.{leaf_text, name_of_rule, rule_of_node};
 
 use gramcheck::SoundPeg;
 use pegnodes::Node;
@@ -38,17 +38,34 @@ pub(crate) fn leaf_at(alloc: Global, peg: &SoundPeg, n: usize) -> Result<Vec<u8>
     leaf_of(alloc, peg.node(n))
 }
 
-/// Returns the name of the rule in whose body the node of that number stands.
-pub(crate) fn rule_name(peg: &SoundPeg, n: usize) -> &[u8]
-    ensures { result.now ≡ rule_of_node (rules_of peg.now.rules) n }
+/// Returns the id of the rule in whose body the node of that number stands, by halves: the bodies' numbers ascend.
+pub(crate) fn rule_of(peg: &SoundPeg, n: usize) -> usize
+    ensures { result ≡ rule_of_node peg.now.bodies n }
 {
     // its contract says that the grammar is sound
     let _ = peg.start();
-    let rules = peg.rules();
-    for id in 0..rules.len() {
-        if n <= peg.body_node(id) {
-            return rules.name(id);
+    let mut low = 0;
+    let mut high = peg.rules().len();
+    'halves: while low < high {
+        let mid = low + (high - low) / 2;
+        if peg.body_node(mid) < n {
+            low = mid + 1;
+        } else {
+            high = mid;
         }
     }
-    b""
+    low
+}
+
+/// Returns the name of the rule in whose body the node of that number stands.
+pub(crate) fn rule_name(peg: &SoundPeg, n: usize) -> &[u8]
+    ensures { result.now ≡ name_of_rule (rules_of peg.now.rules) (rule_of_node peg.now.bodies n) }
+{
+    let id = rule_of(peg, n);
+    let rules = peg.rules();
+    if id < rules.len() {
+        rules.name(id)
+    } else {
+        b""
+    }
 }

@@ -1,37 +1,43 @@
 //! The plain machine, run to its end.
-ghost use Rattle.std.specs.Prelude.{ℕ, false, IfOk, OnOk};
+ghost use Rattle.std.specs.Prelude.{◌≡◌, ℕ, false, IfOk, OnOk};
 ghost use Rattle.gramcheck.specs.Grammar.{IsSoundGrammar};
+ghost use Rattle.pegread.specs.PegViews.{rules_of};
 ghost use Rattle.matchfailure.specs.Desk.{IsDone};
+ghost use Rattle.matchfailure.specs.UnitEnds.{EndsSo, end_of_unit};
 
 use crate::desk::Desk;
 use gramcheck::SoundPeg;
+use pegmatch::Unit;
 use ruletable::Memory;
-use std::alloc::Global;
 
-// Evaluates the start rule at the front of a window that is taken as the whole rest: each pair that is visited has a
-// cell then.
-fn evaluate(desk: &mut Desk, peg: &SoundPeg, window: &[u8]) -> Result<(), Memory>
-    requires { IsSoundGrammar peg.now }
-    ensures { OnOk result (IsDone peg.now window.now false desk.new) }
+// Returns where a unit ends, if it matches.
+fn end_of(unit: Unit) -> Option<usize>
+    ensures { result ≡ end_of_unit unit }
 {
-    desk.begin(peg)?;
-    'steps: loop {
-        if let Some(_) = desk.step(peg, window, false)? {
-            return Ok(());
-        }
+    match unit {
+        Unit::Took { end, .. } => Some(end),
+        Unit::Failed { .. } | Unit::Need => None,
     }
 }
 
-/// Returns a machine that has evaluated the start rule at the front of a window, which is taken as the whole rest: each
-/// pair that is visited has a cell.
+/// Evaluates the start rule at the front of a window, which is taken as the whole rest: each pair that is visited has a
+/// cell then. Returns where the start rule ends, if it succeeds.
 ///
 /// # Errors
 /// `Memory` if an allocation fails.
-pub(crate) fn evaluated(alloc: Global, peg: &SoundPeg, window: &[u8]) -> Result<Desk, Memory>
+pub(crate) fn evaluate(
+    desk: &mut Desk,
+    peg: &SoundPeg,
+    window: &[u8],
+) -> Result<Option<usize>, Memory>
     requires { IsSoundGrammar peg.now }
-    ensures { IfOk result (λ desk. IsDone peg.now window.now false desk) }
+    ensures done { OnOk result (IsDone peg.now window.now false desk.new) }
+    ensures end { IfOk result (EndsSo (rules_of peg.now.rules) peg.now.start window.now) }
 {
-    let mut desk = Desk::new(alloc);
-    evaluate(&mut desk, peg, window)?;
-    Ok(desk)
+    desk.begin(peg)?;
+    'steps: loop {
+        if let Some(unit) = desk.step(peg, window, false)? {
+            return Ok(end_of(unit));
+        }
+    }
 }

@@ -1,10 +1,14 @@
 //! The farthest failure of a unit.
-ghost use Rattle.std.specs.Prelude.{IfOk};
+ghost use Rattle.std.specs.Prelude.{false, IfOk};
 ghost use Rattle.std.specs.Option.{MatchOption};
 ghost use Rattle.pegread.specs.PegViews.{rules_of};
 ghost use Rattle.pegnodes.specs.Nodes.{shapes_of};
+ghost use Rattle.matchfailure.specs.Desk.{IsDone};
 ghost use Rattle.matchfailure.specs.Farthest.{IsFarthest, NoneFails};
+ghost use Rattle.matchfailure.specs.UnitEnds.{EndsSo};
 
+use crate::desk::Desk;
+use crate::farthest::evaluated::evaluate;
 use crate::farthest::greatest::{greatest_stop, stopped_at};
 use crate::farthest::order::put_in_order;
 use crate::farthest::outside::add_outside;
@@ -22,26 +26,30 @@ pub struct Farthest {
     pub expected: Vec<Visit>,
 }
 
-/// Finds the farthest byte at which a comparison outside of `!` fails, when the start rule is matched at the front of
-/// the window, with all leaves that were expected there. Returns `None` if no comparison fails outside of `!`. The
-/// window is taken as the whole rest of the input, whether the start rule succeeds on it or not.
-///
-/// It evaluates the start rule anew, each node at each position once.
-///
-/// # Errors
-/// `Memory` if an allocation fails.
-pub fn farthest_failure(
+/// What the evaluation of a unit shows.
+#[derive(Drop)]
+pub struct UnitSearch {
+    /// Where the start rule ends, in bytes from the front of the window, if it succeeds.
+    pub end: Option<usize>,
+    /// Where its comparisons fail farthest, if one fails outside of `!`.
+    pub farthest: Option<Farthest>,
+}
+
+// Finds the farthest failure by the cells of a machine that evaluated the unit.
+fn failure_by(
     alloc: Global,
     peg: &SoundPeg,
     window: &[u8],
+    desk: &Desk,
 ) -> Result<Option<Farthest>, Memory>
+    requires { IsDone peg.now window.now false desk.now }
     ensures { IfOk result (λ found. MatchOption found
         (NoneFails (rules_of peg.now.rules) (shapes_of peg.now.nodes) peg.now.bodies window.now peg.now.start)
         (λ far. IsFarthest (rules_of peg.now.rules) (shapes_of peg.now.nodes) peg.now.bodies window.now peg.now.start
         far.place far.expected.items)) }
 {
     let mut seen = VisitList::new(alloc);
-    add_outside(alloc, peg, window, &mut seen)?;
+    add_outside(peg, window, desk, &mut seen)?;
     let visits = seen.as_slice();
     let Some(place) = greatest_stop(peg, window, visits) else {
         return Ok(None);
@@ -49,4 +57,27 @@ pub fn farthest_failure(
     let mut expected = stopped_at(alloc, peg, window, visits, place)?;
     put_in_order(&mut expected);
     Ok(Some(Farthest { place, expected }))
+}
+
+/// Evaluates the start rule at the front of the window. Finds where it ends, and the farthest byte at which a
+/// comparison outside of `!` fails, with all leaves that were expected there. The window is taken as the whole rest of
+/// the input, whether the start rule succeeds on it or not.
+///
+/// It evaluates each node at each position once.
+///
+/// # Errors
+/// `Memory` if an allocation fails.
+pub fn farthest_failure(alloc: Global, peg: &SoundPeg, window: &[u8]) -> Result<UnitSearch, Memory>
+    ensures farthest { IfOk result (λ search. MatchOption search.farthest
+        (NoneFails (rules_of peg.now.rules) (shapes_of peg.now.nodes) peg.now.bodies window.now peg.now.start)
+        (λ far. IsFarthest (rules_of peg.now.rules) (shapes_of peg.now.nodes) peg.now.bodies window.now peg.now.start
+        far.place far.expected.items)) }
+    ensures end { IfOk result (λ search. EndsSo (rules_of peg.now.rules) peg.now.start window.now search.end) }
+{
+    // its contract says that the grammar is sound
+    let _ = peg.start();
+    let mut desk = Desk::new(alloc);
+    let end = evaluate(&mut desk, peg, window)?;
+    let farthest = failure_by(alloc, peg, window, &desk)?;
+    Ok(UnitSearch { end, farthest })
 }

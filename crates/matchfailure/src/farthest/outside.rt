@@ -1,40 +1,41 @@
 //! The pairs that are asked for outside of `!`.
-ghost use Rattle.std.specs.Prelude.{◌≡◌, ◌↔◌, ℕ, [], length, OnOk};
+ghost use Rattle.std.specs.Prelude.{◌≡◌, ◌↔◌, ℕ, false, [], length, OnOk};
 ghost use Rattle.pegread.specs.PegViews.{rules_of};
 ghost use Rattle.pegnodes.specs.Nodes.{shapes_of};
+ghost use Rattle.matchfailure.specs.Desk.{IsDone};
 ghost use Rattle.matchfailure.specs.Farthest.{Outside};
 ghost use Rattle.matchfailure.specs.VisitLists.{ListsVisit, AreOnce, AreWithin};
 
+use crate::desk::Desk;
 use crate::farthest::asked::add_asked;
-use crate::farthest::evaluated::evaluated;
 use crate::farthest::visit::{Visit, VisitList};
 use gramcheck::SoundPeg;
 use ruletable::Memory;
-use std::alloc::Global;
 
-/// Adds the pairs that the start rule's outcome asks for outside of `!` to an empty list. The window is the whole rest.
+/// Adds the pairs that the start rule's outcome asks for outside of `!` to an empty list. The machine has evaluated the
+/// start rule on the window, which is the whole rest.
 ///
 /// # Errors
 /// `Memory` if an allocation fails.
 pub(crate) fn add_outside(
-    alloc: Global,
     peg: &SoundPeg,
     window: &[u8],
+    desk: &Desk,
     seen: &mut VisitList,
 ) -> Result<(), Memory>
-    requires { seen.old ≡ [] }
+    requires done { IsDone peg.now window.now false desk.now }
+    requires empty { seen.old ≡ [] }
     ensures listed { OnOk result ((v : Visit) → ListsVisit seen.new v ↔ Outside (rules_of peg.now.rules)
         (shapes_of peg.now.nodes) peg.now.bodies window.now peg.now.start v.node v.place) }
     ensures once { OnOk result (AreOnce seen.new) }
     ensures within { OnOk result (AreWithin (length peg.now.nodes) (length window.now) seen.new) }
 {
     seen.add(peg.body_node(peg.start()), 0)?;
-    let desk = evaluated(alloc, peg, window)?;
     let mut next = 0;
     'visits: while next < seen.as_slice().len() {
         let visits = seen.as_slice();
         let visit = visits[next];
-        add_asked(peg, &desk, peg.node(visit.node), visit, seen)?;
+        add_asked(peg, desk, peg.node(visit.node), visit, seen)?;
         next += 1;
     }
     Ok(())

@@ -9,11 +9,15 @@ use Rattle.matchfailure.proofs.explain.explain.lines_of_found.Goals as goal
 
 pub returns-in-Some : goal.returns-in-Some
 returns-in-Some c =
+    IfOk-weaker c.lines_of_farthest.result _ _ (λ why found.
     let lines = λ (w : List ℕ) (p : TextPlace). failure_lines (rules_of c.args.peg.now.rules)
-    (shapes_of c.args.peg.now.nodes) w p (c.args.at.byte + c.args.offset) c.in-Some.farthest.place
-    c.in-Some.farthest.expected.items in
-    IfOk-weaker c.lines_of_farthest.result _ _ (λ why told front is. rw c.in-Some.is (told
-    ∙ ap (λ (w : List ℕ). lines w c.behind-place.result) (slice-from c.args.seen.now c.args.offset)
-    ∙ told-of-input lines front c.args.seen.now c.args.at c.behind-place.result c.args.offset
-    c.in-Some.farthest.place is
-    (c.behind-place.ensures front is))) c.lines_of_farthest.ensures
+    (shapes_of c.args.peg.now.nodes) c.args.peg.now.bodies w p (c.args.at.byte + c.args.offset)
+    c.in-Some.farthest.place found.0 in (
+      found.0,
+      rw c.in-Some.is found.1,
+      λ front is. rw c.in-Some.is (found.2
+          ∙ ap (λ (w : List ℕ). lines w c.behind-place.result) (slice-from c.args.seen.now c.args.offset)
+          ∙ told-of-input lines front c.args.seen.now c.args.at c.behind-place.result c.args.offset
+          c.in-Some.farthest.place is
+          (c.behind-place.ensures front is)),
+    )) c.lines_of_farthest.ensures

@@ -1,23 +1,22 @@
-use Rattle.std.proofs.Common.{◌≡◌, length, ap, sym, ◌∙◌, arith}
+use Rattle.std.proofs.Common.{ap, ◌∙◌, sym, arith, length}
 use Rattle.std.specs.Prelude.{slice_get}
+use Rattle.pegread.specs.PegViews.{rules_of}
 use Rattle.pegread.specs.declared.expr.Expr.{Expr}
 use Rattle.ruletable.specs.Rules as table
-use Rattle.matchfailure.proofs.RuleOfNodeLemmas.{name-found, name-missed}
+use Rattle.matchfailure.specs.NodeTexts.{name_of_rule}
+use Rattle.matchfailure.proofs.RuleOfNodeLemmas.{name-is, no-name}
 use Rattle.matchfailure.proofs.explain.node_texts.rule_name.Goals as goal
 
-pub returns-then-n-body_node : goal.returns-then-n-body_node
-returns-then-n-body_node c =
-    name-found c.args.peg.now.rules _ c.args.peg.now.bodies c.args.n c.loop-id.id c.body_node.result c.name.result.now
-    c.start.ensures.numbered c.loop-id.invariant c.body_node.ensures c.if-n-body_node.true
-    (ap (λ (rules : table.Rules Expr). slice_get (table.names_of rules) c.loop-id.id) (sym c.rules-rules.ensures)
+pub returns-then-id-len : goal.returns-then-id-len
+returns-then-id-len c =
+    name-is c.args.peg.now.rules.rules c.rule_of-id.result c.name.result.now
+    (ap (λ (r : table.Rules Expr). slice_get (table.names_of r) c.rule_of-id.result) (sym c.rules-rules.ensures)
     ∙ c.name.ensures)
+    ∙ ap (name_of_rule (rules_of c.args.peg.now.rules)) c.rule_of-id.ensures
 
-pub returns : goal.returns
-returns c =
-    name-missed c.args.peg.now.rules _ c.args.peg.now.bodies c.args.n c.loop-id.id c.start.ensures.numbered
-    c.loop-id.invariant
-    (let count = c.len-id-end.ensures.len in
-    let same : length c.rules-rules.result.now.rules ≡ length c.args.peg.now.rules.rules =
-    ap (λ (rules : table.Rules Expr). length rules.rules) c.rules-rules.ensures in
-    let l = c.loop-id-test.false in
-    omega (arith, count, same, l))
+pub returns-else-id-len : goal.returns-else-id-len
+returns-else-id-len c =
+    let same = ap (λ (r : table.Rules Expr). length r.rules) c.rules-rules.ensures in
+    no-name c.args.peg.now.rules.rules c.rule_of-id.result
+    (omega (arith, same, c.len.ensures.len, c.if-id-len.false))
+    ∙ ap (name_of_rule (rules_of c.args.peg.now.rules)) c.rule_of-id.ensures

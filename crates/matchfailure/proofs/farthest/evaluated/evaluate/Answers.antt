@@ -1,5 +1,5 @@
 use Rattle.std.proofs.Common.{ap}
-use Rattle.matchfailure.proofs.IsDoneLemmas.{step_goes_on, step_ends}
+use Rattle.matchfailure.proofs.IsDoneLemmas.{step_goes_on, step_ends, step_answers}
 use Rattle.matchfailure.proofs.farthest.evaluated.evaluate.Goals as goal
 
 pub steps-init : goal.steps-init
@@ -11,9 +11,14 @@ steps-init c = record {
 pub steps-smaller : goal.steps-smaller
 steps-smaller c =
     step_goes_on c.args.peg.now c.args.window.now c.requires c.steps.desk c.step.new.self
-    c.steps.invariant.fits (rw c.in_default.is at c.in_ok-step.ensures.step)
+    c.steps.invariant.fits (rw c.in_default.is at c.in_ok-unit.ensures.step)
 
-pub returns-in-Some : goal.returns-in-Some
-returns-in-Some c =
+pub returns-in-Some-clause-done : goal.returns-in-Some-clause-done
+returns-in-Some-clause-done c =
     step_ends c.args.peg.now c.args.window.now c.requires c.steps.desk c.step.new.self _
-    (rw c.in-Some.is at c.in_ok-step.ensures.step)
+    (rw c.in-Some.is at c.in_ok-unit.ensures.step)
+
+pub returns-in-Some-clause-end : goal.returns-in-Some-clause-end
+returns-in-Some-clause-end c =
+    rw c.end_of.ensures (step_answers c.args.peg.now c.args.window.now c.requires c.steps.desk c.step.new.self _
+    (rw c.in-Some.is at c.in_ok-unit.ensures.step))

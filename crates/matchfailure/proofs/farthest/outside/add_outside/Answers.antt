@@ -8,7 +8,7 @@ use Rattle.matchfailure.proofs.farthest.outside.add_outside.Goals as goal
 pub visits-init : goal.visits-init
 visits-init c =
     spread_begins c.args.peg.now c.args.window.now c.body_node.result
-    (rw c.start.ensures.id at c.body_node.ensures) _ _ c.requires c.in_ok-add.ensures
+    (rw c.start.ensures.id at c.body_node.ensures) _ _ c.requires.empty c.in_ok-add.ensures
 
 pub visits-smaller : goal.visits-smaller
 visits-smaller c =
@@ -18,7 +18,7 @@ visits-smaller c =
 
 pub visits-preserved : goal.visits-preserved
 visits-preserved c =
-    spread_on c.args.peg.now c.args.window.now c.start.ensures.sound _ c.in_ok-desk.ensures _ _ _ _ _
+    spread_on c.args.peg.now c.args.window.now c.start.ensures.sound _ c.requires.done _ _ _ _ _
     c.visits.invariant
     (rw c.as_slice-visits.ensures (slice_get-get_or c.visits.seen c.visits.next _
     (omega (arith, ap length c.as_slice.ensures))))

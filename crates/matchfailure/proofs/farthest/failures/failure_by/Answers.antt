@@ -1,5 +1,5 @@
 use Rattle.matchfailure.proofs.IsFarthestLemmas.{none_fails, is_farthest}
-use Rattle.matchfailure.proofs.farthest.failures.farthest_failure.Goals as goal
+use Rattle.matchfailure.proofs.farthest.failures.failure_by.Goals as goal
 
 pub greatest_stop-requires : goal.greatest_stop-requires
 greatest_stop-requires c = rw c.as_slice-visits.ensures c.in_ok-add_outside.ensures.within

@@ -1,0 +1,28 @@
+-- Where the start rule ends on a text.
+use Rattle.std.specs.Prelude.{ℕ, ◌==◌, Bool, false, List, Option, Some, None}
+use Rattle.gramcheck.specs.Outcome.{Event, Outcome, Fails, Takes, RuleGives}
+use Rattle.pegread.specs.Pattern.{Rule}
+use Rattle.pegmatch.specs.declared.matcher.Unit.{Unit as UnitAnswer}
+use Rattle.pegmatch.specs.declared.matcher.Unit.TheVariants.{Took, Failed, Need}
+
+-- the outcome of a success that ends there, or of a failure
+abbrev pub outcome_at : Option ℕ → List Event → Outcome
+outcome_at None events = Fails
+outcome_at (Some end) events = Takes end events
+
+-- the start rule succeeds on the text and ends there, or fails
+pub record EndsSo (rules : List Rule) (start : ℕ) (x : List ℕ) (end : Option ℕ) : Type 0 where
+  pub events : List Event
+  pub looked : ℕ
+  pub gives : RuleGives rules start x (outcome_at end events) looked
+
+-- it succeeds and takes no byte
+abbrev pub takes_no_byte : Outcome → Bool
+takes_no_byte Fails = false
+takes_no_byte (Takes end events) = end == 0
+
+-- where it ends by a matcher's answer
+abbrev pub end_of_unit : UnitAnswer → Option ℕ
+end_of_unit (Took end begun) = Some end
+end_of_unit (Failed begun) = None
+end_of_unit Need = None
