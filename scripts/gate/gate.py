@@ -31,7 +31,8 @@ BEFORE = (
 )
 BEHIND = (
     ("docs/run_examples.sh",), ("docs/man_examples.py",), ("gate/run_rows.py",),
-    ("oracles/random_cases.py", "-n", "5000", "-u", "-w", "-z", "-p", "-x"), ("oracles/both_judges.py",),
+    ("oracles/random_cases.py", "-n", "5000", "-u", "-w", "-z", "-k", "-p", "-q", "-1", "-x"),
+    ("oracles/both_judges.py",),
     ("oracles/dense_lines.py",), ("oracles/slow_abnfx.py",), ("oracles/random_texts.py", "-n", "300"),
     ("bench/hostile_grammars.py",), ("gate/faults.py",), ("gate/completions_test.py",), ("gate/package_test.py",),
     ("gate/library_test.py",), ("gate/python_test.py",), ("oracles/fuzz.py",)

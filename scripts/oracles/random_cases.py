@@ -1,16 +1,17 @@
 #!/usr/bin/env python3
 """Compares bin/pegi and bin/abnfi with slow answers to random grammars and inputs (slow_peg.py, slow_abnf.py).
 
-usage: random_cases.py [-n COUNT] [-s SEED] [-u] [-w] [-z] [-p] [-x] [pegi | abnfi]
+usage: random_cases.py [-n COUNT] [-s SEED] [-u] [-w] [-z] [-k] [-p] [-q] [-1] [-x] [pegi | abnfi]
 
 A case is a unit that pegi tries, a line that abnfi judges, or a grammar that is refused. COUNT cases are compared, half
 of them by each program; 20000 if it is not given. Cases and their order follow from the seed alone. Prints how many
 cases were compared; at the first disagreement it prints the case and ends with status 1. A program that is not built is
-skipped. With -u half of the runs of abnfi have its option `-u utf8`; so it is with -w and its option `-w`, and with -z
-and its option `-z`. With -p most of them have its option `-p` or `-n`. With -x half of the runs of both have the option
-`-x`, half of these with what explains their notes, with hints (slow_notes.py, slow_hints.py), how the run of pegi stops
-(slow_stops.py), and refused lines (slow_refused.py), the others of a text with a fault (slow_faults.py): a grammar's,
-of which some bytes are changed.
+skipped. With -u half of the runs of abnfi have its option `-u utf8`; so it is with -w, -z and -k, and its options of
+these names. With -p most of them have its option `-p` or `-n`, with -q some its option `-q`. With -1 a third of the
+runs of pegi have its option `-1`. With -x half of the runs of both have the option `-x`, half of these with what
+explains their notes, with hints (slow_notes.py, slow_hints.py), how the run of pegi stops (slow_stops.py), and refused
+lines (slow_refused.py), the others of a text with a fault (slow_faults.py): a grammar's, of which some bytes are
+changed.
 """
 import argparse
 import collections
@@ -69,28 +70,29 @@ def explained(r, case, start, fault_of, notes_of, hints_of):
     return told and Case(words, text, case.given, (b"", told.encode(), 2), 1)
 
 
-def peg_case(r, may_be_explained=False):
+def peg_case(r, may):
     """Returns a random run of pegi; none where its slow answer takes too long."""
     rules, given = random_peg.grammar(r), random_peg.given(r)
     start = r.choice([it[0] for it in rules] + ["X"]) if r.random() < 0.1 else None
     limit, raw = r.choice([65536] * 8 + [1, 2, 3, 5, 10]), r.random() < 0.2
-    words = ["-l", str(limit)] + ["-r"] * raw + (["-s", start] if start else [])
+    is_whole = "1" in may and r.random() < 0.3
+    words = ["-l", str(limit)] + ["-r"] * raw + (["-s", start] if start else []) + ["-1"] * is_whole
     text = random_peg.grammar_text(r, rules)
     try:
-        *wanted, count = slow_peg.answer(rules, given, limit, start, raw)
+        *wanted, count = slow_peg.answer(rules, given, limit, start, raw, is_whole)
     except (slow_peg.TooSlow, RecursionError):
         return None
     case = Case(words, text, given, tuple(wanted), count)
-    if may_be_explained and r.random() < 0.5:
+    if "x" in may and r.random() < 0.5:
         out, message, status = wanted
-        behind = slow_stops.behind_stop(rules, given, limit, start) if status in (1, 3) else b""
+        behind = slow_stops.behind_stop(rules, given, limit, start, is_whole) if status in (1, 3) else b""
         case = case._replace(wanted=(out, message + behind, status))
         return explained(r, case, start, slow_faults.peg, functools.partial(slow_notes.peg, grammar=rules),
                          functools.partial(slow_notes.peg_hints, grammar=rules))
     return case
 
 
-def printed(what, is_numbered, case, end):
+def printed(what, is_numbered, case, end, is_kept):
     """Returns what `-p` and `-n` print in place of the answers of a run."""
     out, _, status = case.wanted
     answers = out.splitlines(keepends=True)
@@ -98,45 +100,65 @@ def printed(what, is_numbered, case, end):
     if what == "count":
         return b"%d derived, %d refused\n" % (derived, len(answers) - derived) if status in (0, 1) else b""
     text = b""
-    for number, (line, answer) in enumerate(zip(case.given.split(end), answers), 1):
+    lines = slow_abnf.lines_of(case.given, end, is_kept)
+    for number, ((line, _), answer) in enumerate(zip(lines, answers), 1):
         is_shown = what == "answers" or what == ("derived" if answer == b"yes\n" else "refused")
         head = b"%d:" % number if is_numbered else b""
-        text += head + (answer if what == "answers" else line + end) if is_shown else b""
+        text += head + (answer if what == "answers" else line + end * (not is_kept)) if is_shown else b""
     return text
 
 
-def printed_case(r, case, end):
+def printed_case(r, case, end, is_kept):
     """Returns the run with `-p`, `-n` or both, or as it is."""
     what, is_numbered = r.choice(["answers", "answers", "derived", "refused", "count", "none"]), r.random() < 0.5
     words = [*case.words, *(["-p", what] if what != "answers" or r.random() < 0.2 else []), *["-n"] * is_numbered]
-    return case._replace(words=words, wanted=(printed(what, is_numbered, case, end), *case.wanted[1:]))
+    return case._replace(words=words, wanted=(printed(what, is_numbered, case, end, is_kept), *case.wanted[1:]))
 
 
-def abnf_case(r, may_be_utf8=False, may_be_viable=False, may_be_nul=False, may_be_printed=False,
-              may_be_explained=False):
-    """Returns a random run of abnfi."""
-    is_utf8 = may_be_utf8 and r.random() < 0.5
-    is_viable = may_be_viable and r.random() < 0.5
-    is_nul = may_be_nul and r.random() < 0.5
+def with_end(r, rules, end):
+    """Returns rules whose first one derives what theirs does, and often the end of a line after it."""
+    last = ("values", [end[0]])
+    return [("kept-line", False, ("concat", [("name", rules[0][0]), r.choice([last, last, ("opt", last)])])), *rules]
+
+
+def until_refused(given, answers, end):
+    """Returns the lines of an input up to the first that these answers refuse."""
+    for number, answer in enumerate(answers, 1):
+        if answer != b"yes\n":
+            return b"".join(it + end for it in given.split(end)[:number])[:len(given)]
+    return given
+
+
+def abnf_case(r, may):
+    """Returns a random run of abnfi; `may` has the letters of the options that it may have."""
+    is_utf8, is_viable, is_nul, is_kept = (it in may and r.random() < 0.5 for it in "uwzk")
     rules = random_abnf.grammar(r)
     judged = r.choice([it[0].upper() for it in rules] + ["X", "alpha"]) if r.random() < 0.1 else None
     limit = r.choice([65536] * 8 + [5, 8])
     words = ["-l", str(limit)] + (["-s", judged] if judged else []) + ["-u", "utf8"] * is_utf8 + ["-w"] * is_viable
-    words += ["-z"] * is_nul
+    is_quiet = "q" in may and r.random() < 0.2
+    words += ["-z"] * is_nul + ["-k"] * is_kept + ["-q"] * is_quiet
     longest = 40 if rules in random_abnf.SHAPES else 10
     end = b"\0" if is_nul else b"\n"
-    text, given = random_abnf.grammar_text(r, rules), random_abnf.given(r, rules, judged, LINES, longest, is_utf8, end)
-    *wanted, count = slow_abnf.answer(rules, given, limit, judged, is_utf8, is_viable, end)
+    given = random_abnf.given(r, rules, judged, LINES, longest, is_utf8, end)
+    if is_kept and judged is None and r.random() < 0.8:
+        rules = with_end(r, rules, end)
+    text = random_abnf.grammar_text(r, rules)
+    asked = (limit, judged, is_utf8, is_viable, end, is_kept)
+    *wanted, count = slow_abnf.answer(rules, given, *asked)
     case = Case(words, text, given, tuple(wanted), count)
-    if may_be_printed and wanted[2] != 2:
-        case = printed_case(r, case, end)
-    if may_be_explained and r.random() < 0.5:
+    if "p" in may and wanted[2] != 2:
+        case = printed_case(r, case, end, is_kept)
+    seen = until_refused(given, wanted[0].splitlines(keepends=True), end) if is_quiet else given
+    if is_quiet:
+        case = case._replace(wanted=(b"", *slow_abnf.answer(rules, seen, *asked)[1:3]))
+    if "x" in may and r.random() < 0.5:
         out, message, status = case.wanted
         if status != 2:
             notes, _ = slow_abnf.notes_on(slow_abnf.Rules(rules), judged)
-            message = notes + slow_refused.behind_notes(rules, given, limit, judged, is_utf8, end)
+            message = notes + slow_refused.behind_notes(rules, seen, limit, judged, is_utf8, end, is_kept)
         hints = functools.partial(slow_hints.abnf_hints, start=judged, letters="utf8" if is_utf8 else "bytes",
-                                  end=end[0])
+                                  end=None if is_kept else end[0])
         case = case._replace(wanted=(out, message, status))
         return explained(r, case, judged, slow_faults.abnf, slow_notes.abnf, hints)
     return case
@@ -187,16 +209,20 @@ def main():
     words.add_argument("-u", action="store_true", help="half of the runs of abnfi by `-u utf8`")
     words.add_argument("-w", action="store_true", help="half of the runs of abnfi by `-w`")
     words.add_argument("-z", action="store_true", help="half of the runs of abnfi by `-z`")
+    words.add_argument("-k", action="store_true", help="half of the runs of abnfi by `-k`")
     words.add_argument("-p", action="store_true", help="most of the runs of abnfi by `-p` or `-n`")
+    words.add_argument("-q", action="store_true", help="some of the runs of abnfi by `-q`")
+    words.add_argument("-1", action="store_true", help="a third of the runs of pegi by `-1`")
     words.add_argument("-x", action="store_true", help="half of the runs of both by `-x`")
     words.add_argument("program", nargs="?", choices=["pegi", "abnfi"])
     given = words.parse_args()
     sys.setrecursionlimit(20000)
     count = given.n // 2 if given.program is None else given.n
+    may = [it for it in "uwzkpq1x" if getattr(given, it)]
     right = True
     with tempfile.TemporaryDirectory(prefix="random_cases-") as folder:
-        for name, make in (("pegi", lambda r: peg_case(r, given.x)),
-                           ("abnfi", lambda r: abnf_case(r, given.u, given.w, given.z, given.p, given.x))):
+        for name, make in (("pegi", lambda r: peg_case(r, may)),
+                           ("abnfi", lambda r: abnf_case(r, may))):
             program = TOP / "bin" / name
             if given.program not in (None, name):
                 continue

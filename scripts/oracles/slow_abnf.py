@@ -249,18 +249,26 @@ def furthest(rules, letters, key, is_utf8):
     return next((size for size in sizes if Deriver(rules, letters[:size], may_follow).derives(key)), 0)
 
 
-def answer(grammar, given, limit, judged, is_utf8=False, is_viable=False, end=b"\n"):
+def lines_of(given, end, is_kept):
+    """Yields what is judged of each line, with its end if that is kept, and how many bytes stand before its end."""
+    *lines, last = given.split(end)
+    for it in lines:
+        yield it + end if is_kept else it, len(it)
+    if last:
+        yield last, len(last)
+
+
+def answer(grammar, given, limit, judged, is_utf8=False, is_viable=False, end=b"\n", is_kept=False):
     """Returns the output, the error output, the status, and how many lines were judged; refusals are one."""
     rules = Rules(grammar)
     told, refused = notes_on(rules, judged)
     if refused:
         return b"", told, 2, 1
     key = (judged or next(iter(rules.file))).upper()
-    lines = given.split(end)
-    lines = lines[:-1] if lines[-1] == b"" else lines
+    lines = list(lines_of(given, end, is_kept))
     out, status = [], 0
-    for number, line in enumerate(lines, 1):
-        if len(line) > limit:
+    for number, (line, size) in enumerate(lines, 1):
+        if size > limit:
             return b"".join(out), told + b"line %d longer than %d bytes\n" % (number, limit), 3, number
         letters, is_text = letters_of(line, is_utf8)
         yes = is_text and Deriver(rules, letters).derives(key)

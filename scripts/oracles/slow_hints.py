@@ -132,7 +132,7 @@ def told(some):
 
 def abnf_hints(text, start, letters, end):
     """Returns the hints on a grammar, of which a text and perhaps the name of the judged rule are given. The letters
-    are `bytes` or `utf8`; `end` is the byte that ends a line.
+    are `bytes` or `utf8`; `end` is the byte that ends a line, if no line holds it.
     """
     definitions = Reader(text).definitions()
     rules = slow_abnf.Rules([it[:3] for it in definitions])
@@ -149,7 +149,8 @@ def abnf_hints(text, start, letters, end):
     judged = (start or next(iter(rules.file))).upper()
     spared = fewest_of(rules.all, lambda it: slow_abnf.is_letter(it, is_utf8) and it != end)
     last = ""
-    if judged in rules.all and some[judged] < math.inf == spared[judged] and is_whole(rules, judged):
+    may_be_told = end is not None and judged in rules.all
+    if may_be_told and some[judged] < math.inf == spared[judged] and is_whole(rules, judged):
         last = (f"rule '{cut(rules.spelled.get(judged, judged).encode())}' derives no line\n"
                 f"  all that it derives holds %x{end:02X}\n"
                 + ("  with -z, records end with %x00 and may hold %x0A\n" if end == 10 else ""))

@@ -110,8 +110,8 @@ def text_of(events, unit, raw):
     return b"".join(printed)
 
 
-def run_units(rules, start, text, limit, raw):
-    """Returns the output, the message, the status, and how many units were tried."""
+def run_units(rules, start, text, limit, raw, is_whole):
+    """Returns the output, the message, the status, and how many units were tried: one if it is to be the whole text."""
     place, printed, tried = 0, [], 0
     while True:
         matcher = Matcher(rules, text[place:])
@@ -122,9 +122,9 @@ def run_units(rules, start, text, limit, raw):
         if found:
             printed.append(text_of(found[1], text[place:], raw))
             place += found[0]
-        if not found or found[0] == 0:
+        if not found or found[0] == 0 or is_whole:
             break
-    ended = place == len(text)
+    ended = place == len(text) and not (is_whole and not found)
     return b"".join(printed), b"" if ended else b"no match at byte %d\n" % place, 0 if ended else 1, tried
 
 
@@ -226,11 +226,11 @@ def notes_on(grammar, start):
     return "".join(it + "\n" for it in lines).encode(), bool(refusing or behind)
 
 
-def answer(grammar, text, limit, start, raw):
+def answer(grammar, text, limit, start, raw, is_whole=False):
     """Returns the output, the error output, the status, and how many units were tried; refusals are one."""
     told, refused = notes_on(grammar, start)
     if refused:
         return b"", told, 2, 1
     rules, _ = first_bodies(grammar)
-    out, message, status, tried = run_units(rules, start or next(iter(rules)), text, limit, raw)
+    out, message, status, tried = run_units(rules, start or next(iter(rules)), text, limit, raw, is_whole)
     return out, told + message, status, tried

@@ -161,16 +161,14 @@ def refusal(following, name, line, number):
     return at + expected + "\n" + slow_stops.picture(line, before)
 
 
-def behind_notes(grammar, given, limit, judged, is_utf8, end):
+def behind_notes(grammar, given, limit, judged, is_utf8, end, is_kept=False):
     """Returns what a run of a grammar that is not refused tells behind its notes."""
     rules = slow_abnf.Rules(grammar)
     key = (judged or next(iter(rules.file))).upper()
     following, told, more = Following(rules, key, is_utf8), [], 0
-    lines = given.split(end)
-    lines = lines[:-1] if lines[-1] == b"" else lines
     message = ""
-    for number, line in enumerate(lines, 1):
-        if len(line) > limit:
+    for number, (line, size) in enumerate(slow_abnf.lines_of(given, end, is_kept), 1):
+        if size > limit:
             message = f"line {number} longer than {limit} bytes\n" + LIMIT_LINE
             break
         letters, is_text = slow_abnf.letters_of(line, is_utf8)

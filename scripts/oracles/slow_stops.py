@@ -163,7 +163,7 @@ class Explained:
         return f"  the unit begins on {position(self.taken, place)}\n  -l allows at most 16777216\n"
 
 
-def behind_stop(grammar, text, limit, start):
+def behind_stop(grammar, text, limit, start, is_whole=False):
     """Returns the lines behind the message of a run that stops since no unit goes on, or since one is too long."""
     rules, _ = slow_peg.first_bodies(grammar)
     start = start or next(iter(rules))
@@ -174,5 +174,7 @@ def behind_stop(grammar, text, limit, start):
         if not found or found[0] == 0 or matcher.looked > limit:
             break
         before, place = place, place + found[0]
+        if is_whole:
+            break
     told = Explained(rules, start, text[:place + limit + 1])
     return (told.long_unit(place) if matcher.looked > limit else told.no_match(before, place)).encode("latin-1")

@@ -57,9 +57,17 @@ options_are m options by read =
           (flag_is c app.top.rules is m by.4 d 9 (codes "null-data") 122
           (record { named = λ n. cc; help = refl; version = refl })
           (record { within = omega arith; at = λ q. refl; only = refl })) read.nul;
+      keeps = flag_found f (rows_of f) refl (codes "keep-ends") options.keeps
+          (flag_is c app.top.rules is m by.4 d 12 (codes "keep-ends") 107
+          (record { named = λ n. cc; help = refl; version = refl })
+          (record { within = omega arith; at = λ q. refl; only = refl })) read.keeps;
       printed = read.printed ∙ ap printed_named (first_found f (rows_of f) refl (codes "print"));
       numbered = flag_found f (rows_of f) refl (codes "line-number") options.numbered
           (flag_is c app.top.rules is m by.4 d 11 (codes "line-number") 110
           (record { named = λ n. cc; help = refl; version = refl })
           (record { within = omega arith; at = λ q. refl; only = refl })) read.numbered;
+      quiet = flag_found f (rows_of f) refl (codes "quiet") options.quiet
+          (flag_is c app.top.rules is m by.4 d 13 (codes "quiet") 113
+          (record { named = λ n. cc; help = refl; version = refl })
+          (record { within = omega arith; at = λ q. refl; only = refl })) read.quiet;
     }

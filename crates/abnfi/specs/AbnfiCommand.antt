@@ -60,11 +60,20 @@ print_rule names = record (new_rule (codes "print")) {
 abbrev pub number_rule : Rule
 number_rule = flag_rule (codes "line-number") (code "n")
 
--- `abnfi [-m MODE] [-l N] [-s RULE] [-u MODE] [-p WHAT] [-n] [-w] [-z] [-x] GRAMMAR [FILE]`
+-- `-k`
+abbrev pub keep_rule : Rule
+keep_rule = flag_rule (codes "keep-ends") (code "k")
+
+-- `-q`
+abbrev pub quiet_rule : Rule
+quiet_rule = flag_rule (codes "quiet") (code "q")
+
+-- `abnfi [-m MODE] [-l N] [-s RULE] [-u MODE] [-p WHAT] [-n] [-w] [-z] [-k] [-q] [-x] GRAMMAR [FILE]`
 abbrev pub abnfi_app : Names → Names → Names → App
 abnfi_app names alphabets printed =
-    with_rule (with_rule (with_rule (with_rule (with_rule (tool_app names (codes "abnfi"))
-    (long_named (letters_rule alphabets))) viable_rule) nul_rule) (long_named (print_rule printed))) number_rule
+    with_rule (with_rule (with_rule (with_rule (with_rule (with_rule (with_rule (tool_app names (codes "abnfi"))
+    (long_named (letters_rule alphabets))) viable_rule) nul_rule) (long_named (print_rule printed))) number_rule)
+    keep_rule) quiet_rule
 
 -- this is the command of the program
 abbrev pub IsAbnfiApp : App → Type 0
@@ -88,13 +97,17 @@ pub record ReadsAbnfi (f : Found) (options : AbnfOptions) : Type 0 where
   pub letters : options.letters ≡ alphabet_named (first_value f (codes "letters"))
   pub viable : IsFlagOf (one_text f (codes "viable")) options.viable
   pub nul : IsFlagOf (one_text f (codes "null-data")) options.nul
+  pub keeps : IsFlagOf (one_text f (codes "keep-ends")) options.keeps
   pub printed : options.printed ≡ printed_named (first_value f (codes "print"))
   pub numbered : IsFlagOf (one_text f (codes "line-number")) options.numbered
+  pub quiet : IsFlagOf (one_text f (codes "quiet")) options.quiet
 
 -- the matches ask for these options
 pub record AsksAbnfi (rows : List Row) (options : AbnfOptions) : Type 0 where
   pub letters : options.letters ≡ alphabet_named (first_of (codes "letters") rows)
   pub viable : options.viable ≡ is_flagged (one_of (codes "viable") rows)
   pub nul : options.nul ≡ is_flagged (one_of (codes "null-data") rows)
+  pub keeps : options.keeps ≡ is_flagged (one_of (codes "keep-ends") rows)
   pub printed : options.printed ≡ printed_named (first_of (codes "print") rows)
   pub numbered : options.numbered ≡ is_flagged (one_of (codes "line-number") rows)
+  pub quiet : options.quiet ≡ is_flagged (one_of (codes "quiet") rows)

@@ -37,10 +37,12 @@ Input:
   -l, --limit <N>       Take lines of at most N bytes, from 1 to 16777216 [default: 65536]
   -u, --letters <MODE>  Take bytes or code points of UTF-8 as letters [default: bytes] [possible values: bytes, utf8]
   -z, --null-data       Cut the input at NUL bytes in place of line feeds
+  -k, --keep-ends       Judge each line with its line feed, or its NUL byte
 
 Output:
   -p, --print <WHAT>  Choose what to print [default: answers] [possible values: answers, derived, refused, count, none]
   -n, --line-number   Print the number of each line before it
+  -q, --quiet         Print nothing, and end at the first refused line
   -w, --viable        Write how far a refused line goes: no N
   -x, --explain       Explain messages in more lines
 
@@ -102,7 +104,7 @@ fn printed_of(matches: &ArgMatches<'_>) -> Printed
     }
 }
 
-/// The program `abnfi [-m MODE] [-l N] [-s RULE] [-u MODE] [-p WHAT] [-n] [-w] [-z] [-x] GRAMMAR [FILE]`.
+/// The program `abnfi [-m MODE] [-l N] [-s RULE] [-u MODE] [-p WHAT] [-n] [-w] [-z] [-k] [-q] [-x] GRAMMAR [FILE]`.
 pub(crate) struct Abnfi;
 
 impl Program for Abnfi {
@@ -124,7 +126,9 @@ impl Program for Abnfi {
         let command = add_flag(command, alloc, "viable", 'w')?;
         let command = add_flag(command, alloc, "null-data", 'z')?;
         let command = add_option(command, printed)?;
-        add_flag(command, alloc, "line-number", 'n')
+        let command = add_flag(command, alloc, "line-number", 'n')?;
+        let command = add_flag(command, alloc, "keep-ends", 'k')?;
+        add_flag(command, alloc, "quiet", 'q')
     }
 
     fn options(matches: &ArgMatches<'_>) -> AbnfOptions {
@@ -132,8 +136,10 @@ impl Program for Abnfi {
             letters: letters_of(matches),
             viable: matches.get_flag("viable"),
             nul: matches.get_flag("null-data"),
+            keeps: matches.get_flag("keep-ends"),
             printed: printed_of(matches),
             numbered: matches.get_flag("line-number"),
+            quiet: matches.get_flag("quiet"),
         }
     }
 

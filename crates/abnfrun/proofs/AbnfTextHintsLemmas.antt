@@ -21,7 +21,7 @@ use Rattle.abnfhints.specs.AbnfHints.{AreAbnfHints}
 use Rattle.abnfhints.specs.declared.line_end.LineEnd.{LineEnd}
 use Rattle.abnfprint.specs.AbnfReadBack.{file_rules}
 use Rattle.abnfrun.specs.AbnfNoted.{all_rules, judged_of, rule_given}
-use Rattle.abnfrun.specs.AbnfTextHints.{AreTextHints, end_for, id_of_rule}
+use Rattle.abnfrun.specs.AbnfTextHints.{AreTextHints, end_for, hinted_rule, id_of_rule}
 use Rattle.abnfrun.specs.AbnfSettings.{AbnfSettings}
 use Rattle.abnfrun.proofs.AllRulesLemmas.{some_rules}
 
@@ -40,12 +40,13 @@ pub text_hints_are_one : ReadingsAreOne → HintsOnRulesAreOne → (text : List 
 text_hints_are_one reading one text settings a b g h =
     let same : h.definitions ≡ g.definitions = reading text h.definitions g.definitions h.reads g.reads in
     one (has settings.options.letters) (all_rules g.definitions) (length (file_rules g.definitions))
-    (id_of_rule (all_rules g.definitions) (judged_of g.definitions (rule_given settings)))
+    (hinted_rule settings.options.keeps (id_of_rule (all_rules g.definitions)
+    (judged_of g.definitions (rule_given settings))))
     (end_for settings.options.nul) text
     a b g.are_hints
     (subst (λ (ds : List Definition). AreAbnfHints (has settings.options.letters) (all_rules ds) (length
     (file_rules ds))
-    (id_of_rule (all_rules ds) (judged_of ds (rule_given settings)))
+    (hinted_rule settings.options.keeps (id_of_rule (all_rules ds) (judged_of ds (rule_given settings))))
     (end_for settings.options.nul) text b) same h.are_hints)
 
 -- a name finds the rule that has its id
@@ -88,7 +89,8 @@ pub text_hints : (text : List ℕ) (settings : AbnfSettings) (definitions : List
     (count : ℕ)
     (judged : Option ℕ) (end : LineEnd) (hints : List ℕ) → Reads text definitions → rules ≡ all_rules definitions
     → count ≡ length (file_rules definitions)
-    → (0 < length rules → judged ≡ id_of_rule rules (judged_in (rule_given settings) rules))
+    → (0 < length rules
+    → judged ≡ hinted_rule settings.options.keeps (id_of_rule rules (judged_in (rule_given settings) rules)))
     → end ≡ end_for settings.options.nul → AreAbnfHints (has settings.options.letters) rules count judged end text hints
     → AreTextHints text settings hints
 text_hints text settings definitions rules count judged end hints reads all counted is ends are =

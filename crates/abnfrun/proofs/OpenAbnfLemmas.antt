@@ -10,17 +10,20 @@ use Rattle.abnfread.specs.AbnfViews.{rules_of}
 use Rattle.abnfrun.specs.AbnfAnswers.{AbnfStates, judges}
 use Rattle.abnfrun.specs.AbnfLanguage.{IsChecked}
 use Rattle.abnfrun.specs.AbnfNoted.{all_rules, judged_of, rule_given}
-use Rattle.abnfrun.specs.AbnfReply.{AnswersFor, IsAnswerTo, RefusalFor, form_of}
-use Rattle.abnfrun.specs.OpenAbnf.{IsOpened, TellsAlone, answer_alone, line_alone}
+use Rattle.abnfrun.specs.AbnfReply.{AnswersFor, IsAnswerTo, RefusalFor, form_of, judged_size}
+use Rattle.abnfrun.specs.OpenAbnf.{IsOpened, TellsAlone, answer_alone, judged_line, line_alone}
 use Rattle.abnfrun.specs.AbnfTextHints.{AreTextHints}
 use Rattle.abnfrun.specs.OpenJudge.{OpenJudge}
-use Rattle.linejudge.specs.InputLines.{HasNoEnd, StandsAt, with_end, none, one_more, finished, at_front, behind}
-use Rattle.linejudge.specs.InputLines.{printed_last, printed_line, refused_by, status_after, place_taken}
+use Rattle.linejudge.specs.InputLines.{GoesBy, HasNoEnd, StandsAt, with_end, none, one_more, at_front, behind, is_over}
+use Rattle.linejudge.specs.InputLines.{kept_line, kept_size, printed_last, printed_line, refused_by, status_after}
+use Rattle.linejudge.specs.InputLines.{place_taken}
 use Rattle.linejudge.specs.LineRefusals.{LinesReply, TellsLine, count_untold, none_told, one_told}
 use Rattle.linejudge.specs.declared.answers.Answer.{Answer}
 use Rattle.linejudge.specs.declared.answers.Answer.TheVariants.{Yes, No, NoAfter}
 use Rattle.linejudge.specs.declared.line.LineForm.{LineForm}
 use Rattle.linejudge.specs.declared.reached.At.{At}
+use Rattle.linejudge.proofs.KeptLineLemmas.{kept_short}
+use Rattle.linejudge.proofs.LinesLemmas.{ends_quietly}
 use Rattle.ruletable.specs.Notes.{Said}
 use Rattle.toolrun.specs.Input.{Input}
 use Rattle.toolrun.specs.Reply.{Reply}
@@ -53,8 +56,11 @@ module _ (Told : List ℕ → Answer → Type 0) (asked : Bool) (Refusal : List 
   abbrev after : At
   after = behind at_front (length line + 1) said
 
+  abbrev judged : List ℕ
+  judged = kept_line form line
+
   abbrev shown : List ℕ
-  shown = printed_line form 1 line said
+  shown = printed_line form 1 judged said
 
   abbrev last : List ℕ
   last = printed_last form.printed after
@@ -82,11 +88,13 @@ module _ (Told : List ℕ → Answer → Type 0) (asked : Bool) (Refusal : List 
   one_line_taken : length line + 1 ≡ place_taken form.limit alone after
   one_line_taken = omega (arith, all_is_taken)
 
-  pub one_line_replies : HasNoEnd form.end line → length line ≤ form.limit → Told line said
-      → TellsLine Told asked Refusal at_front line said why → LinesReply Told asked Refusal form alone reply
+  pub one_line_replies : HasNoEnd form.end line → length judged ≤ kept_size form form.limit → Told judged said
+      → TellsLine Told asked Refusal at_front judged said why → LinesReply Told asked Refusal form alone reply
   one_line_replies one within told tells =
-      let stands : StandsAt form alone 0 line (length line + 1) =
-      with_end line (record { after = []; cut = refl; one = one; within = within }) in
+      let short = kept_short form line form.limit within in
+      let stands : StandsAt form alone 0 judged (length line + 1) =
+      with_end line (record { after = []; cut = refl; one = one; within = short }) in
+      let by : GoesBy form alone at_front judged (length line + 1) = record { goes = refl; stands = stands } in
       record {
         plain = reply_of [];
         replies = record {
@@ -94,8 +102,8 @@ module _ (Told : List ℕ → Answer → Type 0) (asked : Bool) (Refusal : List 
           before = shown;
           last = last;
           stop = Quiet (status_after after.refused);
-          steps = one_more at_front [] line (length line + 1) said none stands told;
-          ends = finished (nothing_is_left, refl);
+          steps = one_more at_front [] judged (length line + 1) said none by told;
+          ends = ends_quietly form alone after (is_over form after) refl (nothing_is_left, refl);
           out = refl;
           err = refl;
           status = ap (λ n. code_of (status_after n)) (sym one_counted);
@@ -104,7 +112,7 @@ module _ (Told : List ℕ → Answer → Type 0) (asked : Bool) (Refusal : List 
         before = why;
         tells = record {
           first = why;
-          refusals = one_told at_front [] line (length line + 1) said why none_told stands told tells;
+          refusals = one_told at_front [] judged (length line + 1) said why none_told by told tells;
           is = rw (one_counted, none_more asked said) (sym (append-nil why));
         };
         why = [];
@@ -129,7 +137,7 @@ pub judge_is_opened : (text : List ℕ) (settings : AbnfSettings) (notes : List 
       grammar = grammar;
       letters = settings.options.letters;
       viable = settings.options.viable;
-      limit = settings.limit;
+      limit = judged_size settings settings.limit;
     } → IsOpened text settings notes (Some judge)
 judge_is_opened text settings notes sound grammar judge is some made =
     let ready = rw some at is.ready in
@@ -145,9 +153,9 @@ pub open_states : (text line : List ℕ) (settings : AbnfSettings) (notes : List
     (said : Answer) (why : List ℕ) → settings.mode ≡ Run → IsOpened text settings notes (Some judge)
     → HintedNotes settings (ExplainsAbnfNote text) (AreTextHints text settings) notes told
     → HasNoEnd (form_of settings).end line
-    → length line ≤ judge.limit
-    → IsAnswerTo judge.letters judge.viable (rules_of judge.grammar.rules) judge.grammar.judged line said
-    → TellsAlone judge settings line said why
+    → length (judged_line settings line) ≤ judge.limit
+    → IsAnswerTo judge.letters judge.viable (rules_of judge.grammar.rules) judge.grammar.judged
+    (judged_line settings line) said → TellsAlone judge settings (judged_line settings line) said why
     → AbnfStates text settings (line_alone settings line) told (answer_alone settings line said why)
 open_states text line settings notes told judge said why run is tells one within answers explains =
     let j = is.ready.1 in

@@ -9,9 +9,12 @@ use Rattle.letters.specs.Letters.{has}
 use Rattle.letters.specs.Utf8Text.{IsLongestText, Spells}
 use Rattle.letters.specs.declared.alphabet.Alphabet.{Alphabet}
 use Rattle.letters.specs.declared.alphabet.Alphabet.TheVariants.{Bytes, Utf8}
+use Rattle.linejudge.specs.InputLines.{kept_size}
 use Rattle.linejudge.specs.LineRefusals.{LinesReply, LinesStates}
 use Rattle.linejudge.specs.declared.answers.Answer.{Answer}
 use Rattle.linejudge.specs.declared.line.LineForm.{LineForm}
+use Rattle.linejudge.specs.declared.printed.Printed.{Printed}
+use Rattle.linejudge.specs.declared.printed.Printed.TheVariants.{Nothing}
 use Rattle.linejudge.specs.declared.answers.Answer.TheVariants.{Yes, No, NoAfter}
 use Rattle.refusedlines.specs.Refusals.{IsRefusalTold}
 use Rattle.toolrun.specs.Input.{Input}
@@ -52,14 +55,25 @@ IsAnswerTo letters viable rules judged line (NoAfter n) = (viable ≡ true) × (
 abbrev pub AnswersFor : List Rule → ℕ → AbnfSettings → List ℕ → Answer → Type 0
 AnswersFor rules judged settings = IsAnswerTo settings.options.letters settings.options.viable rules judged
 
--- how settings cut an input into lines, at LF, or at NUL if they ask for it, and what they print for them
+-- nothing is printed by a quiet run
+abbrev pub printed_by : Bool → Printed → Printed
+printed_by quiet printed = cond quiet Nothing printed
+
+-- how settings cut an input into lines, at LF, or at NUL if they ask for it; whether that end is judged with its line;
+-- what they print for the lines, and whether the run stops after a rejected one
 abbrev pub form_of : AbnfSettings → LineForm
 form_of settings = record {
   limit = settings.limit;
   end = cond settings.options.nul 0 (code "\n");
-  printed = settings.options.printed;
+  keeps = settings.options.keeps;
+  printed = printed_by settings.options.quiet settings.options.printed;
   numbered = settings.options.numbered;
+  stops = settings.options.quiet;
 }
+
+-- how many bytes settings let be judged of a line that has an end, and so many bytes before it
+abbrev pub judged_size : AbnfSettings → ℕ → ℕ
+judged_size settings = kept_size (form_of settings)
 
 -- what explains a rejected line of that number
 abbrev pub RefusalFor : List Rule → ℕ → AbnfSettings → List ℕ → ℕ → List ℕ → Type 0

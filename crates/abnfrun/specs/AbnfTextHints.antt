@@ -14,6 +14,11 @@ use Rattle.abnfrun.specs.AbnfSettings.{AbnfSettings}
 abbrev pub id_of_rule : List Rule → ℕ → Option ℕ
 id_of_rule rules id = if nat_lt id (length rules) then Some id else None
 
+-- The rule that is reported if it derives no line: the judged one. If the end of a line is judged with it, there is
+-- none, since a line may then hold that byte.
+abbrev pub hinted_rule : Bool → Option ℕ → Option ℕ
+hinted_rule keeps judged = cond keeps None judged
+
 -- the byte that ends lines: NUL, if settings ask for it
 abbrev pub end_for : Bool → LineEnd
 end_for nul = cond nul Nul Lf
@@ -23,5 +28,5 @@ pub record AreTextHints (text : List ℕ) (settings : AbnfSettings) (hints : Lis
   pub definitions : List Definition
   pub reads : Reads text definitions
   pub are_hints : AreAbnfHints (has settings.options.letters) (all_rules definitions) (length (file_rules definitions))
-      (id_of_rule (all_rules definitions) (judged_of definitions (rule_given settings))) (end_for settings.options.nul)
-      text hints
+      (hinted_rule settings.options.keeps (id_of_rule (all_rules definitions)
+      (judged_of definitions (rule_given settings)))) (end_for settings.options.nul) text hints

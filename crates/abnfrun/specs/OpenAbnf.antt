@@ -4,9 +4,10 @@ use Rattle.abnfread.specs.AbnfReading.{Reads}
 use Rattle.abnfread.specs.AbnfViews.{rules_of}
 use Rattle.abnfread.specs.Element.{Definition}
 use Rattle.abnfrun.specs.AbnfNoted.{all_rules, judged_of, AreNotesOn, IsRefusedFor, rule_given}
-use Rattle.abnfrun.specs.AbnfReply.{IsAnswerTo, form_of}
+use Rattle.abnfrun.specs.AbnfReply.{IsAnswerTo, form_of, judged_size}
 use Rattle.abnfrun.specs.OpenJudge.{OpenJudge}
-use Rattle.linejudge.specs.InputLines.{at_front, behind, printed_last, printed_line, refused_by, status_after}
+use Rattle.linejudge.specs.InputLines.{at_front, behind, kept_line, printed_last, printed_line, refused_by}
+use Rattle.linejudge.specs.InputLines.{status_after}
 use Rattle.linejudge.specs.LineRefusals.{TellsLine}
 use Rattle.linejudge.specs.declared.answers.Answer.{Answer}
 use Rattle.refusedlines.specs.Refusals.{IsRefusalTold}
@@ -22,7 +23,7 @@ pub record IsJudgeOf (definitions : List Definition) (settings : AbnfSettings) (
   pub judged : judge.grammar.judged ≡ judged_of definitions (rule_given settings)
   pub letters : judge.letters ≡ settings.options.letters
   pub viable : judge.viable ≡ settings.options.viable
-  pub limit : judge.limit ≡ settings.limit
+  pub limit : judge.limit ≡ judged_size settings settings.limit
 
 -- The text is a grammar with these notes, which reject it; or lines are judged by it.
 pub record IsOpened (text : List ℕ) (settings : AbnfSettings) (notes : List Said)
@@ -43,11 +44,15 @@ TellsAlone judge settings = TellsLine
     (IsAnswerTo judge.letters judge.viable (rules_of judge.grammar.rules) judge.grammar.judged) settings.explain
     (IsRefusalTold judge.letters (rules_of judge.grammar.rules) judge.grammar.judged) at_front
 
+-- what is judged of that line: the line, or the line with its end, if settings ask for it
+abbrev pub judged_line : AbnfSettings → List ℕ → List ℕ
+judged_line settings = kept_line (form_of settings)
+
 -- the reply to the input that is one line: what is printed for that answer, and its explanation
 abbrev pub answer_alone : AbnfSettings → List ℕ → Answer → List ℕ → Reply
 answer_alone settings line said told = record {
-  out = printed_line (form_of settings) 1 line said
-      ++ printed_last settings.options.printed (behind at_front (length line + 1) said);
+  out = printed_line (form_of settings) 1 (judged_line settings line) said
+      ++ printed_last (form_of settings).printed (behind at_front (length line + 1) said);
   err = told;
   status = code_of (status_after (refused_by said));
   taken = length line + 1;

@@ -36,9 +36,12 @@ use toolrun::{Status, run_tool};
 /// - The settings may ask for other output than the answers: the lines that are derived, or those that are not, each
 ///   with its end; the counts of both, at the end of the input; or nothing. If they ask for numbers, the number of a
 ///   line from 1 and a colon stand before its output.
+/// - If the settings ask for quiet, nothing is printed, and the run ends after the first line that is not derived.
 /// - A line that is not derived is answered by `no`. If the settings ask for the longest viable prefix, it is answered
 ///   by `no N`, where that prefix has N symbols. Of a line that is not UTF-8 these symbols are those of its longest
 ///   prefix that is.
+/// - If the settings ask that ends are kept, the end of a line belongs to what is judged, and a last piece without one
+///   is judged as it stands. Lines are then printed as they were judged, and no hint speaks of lines.
 /// - If the settings ask for explanations, `err` reports the first 16 lines that are not derived, before the message in
 ///   which the run ends. Of each it says where it is rejected, which symbols can follow there, all of them and no
 ///   other, and whether the line can end there. Then it says how many more there are.

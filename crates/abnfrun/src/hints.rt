@@ -3,7 +3,7 @@ ghost use Rattle.std.specs.Prelude.{◌≡◌, ◌<◌, ℕ, List, length, IfOk,
 ghost use Rattle.abnfcheck.specs.AbnfNotes.{judged_in};
 ghost use Rattle.abnfread.specs.AbnfViews.{rules_of};
 ghost use Rattle.abnfrun.specs.AbnfExplainedNotes.{AreNotePlaces};
-ghost use Rattle.abnfrun.specs.AbnfTextHints.{AreTextHints, end_for, id_of_rule};
+ghost use Rattle.abnfrun.specs.AbnfTextHints.{AreTextHints, end_for, hinted_rule, id_of_rule};
 
 use crate::abnf_places::AbnfPlaces;
 use crate::options::AbnfSettings;
@@ -24,6 +24,18 @@ fn judged_rule(rules: &RuleTable<Elem>, start: Option<&str>) -> Result<Option<us
     }
 }
 
+// Returns the id of the rule that is reported if it derives no line, if there is one. `Memory` if an allocation fails.
+fn hinted_id(rules: &RuleTable<Elem>, settings: &AbnfSettings<'_>) -> Result<Option<usize>, Memory>
+    requires { rules.now.names ≡ NameCase.Fold }
+    ensures { IfOk result (λ id. 0 < length (rules_of rules.now) → id ≡ hinted_rule settings.now.options.keeps
+        (id_of_rule (rules_of rules.now) (judged_in (option_copied settings.now.start) (rules_of rules.now)))) }
+{
+    if settings.options.keeps {
+        return Ok(None);
+    }
+    judged_rule(rules, settings.start)
+}
+
 // Returns what ends a line.
 fn line_end(nul: bool) -> LineEnd
     ensures { result ≡ end_for nul }
@@ -41,7 +53,7 @@ pub(crate) fn hints_of(
     ensures { IfOk result (λ told. (text : List ℕ) → AreNotePlaces text (option_copied settings.now.start) places.now
         → AreTextHints text settings.now told.items) }
 {
-    let judged = judged_rule(&places.rules, settings.start)?;
+    let judged = hinted_id(&places.rules, settings)?;
     let hinted = Hinted {
         places: &places.places,
         rules: &places.rules,

@@ -3,7 +3,7 @@ ghost use Rattle.std.specs.Prelude.{◌≡◌, ◌≤◌, ◌+◌, ℕ, Bool, Li
 ghost use Rattle.abnfread.specs.Element.{Rule};
 ghost use Rattle.abnfread.specs.AbnfViews.{rules_of};
 ghost use Rattle.abnfcheck.specs.Derivable.{AreLetters};
-ghost use Rattle.abnfrun.specs.AbnfReply.{IsAnswerTo, form_of};
+ghost use Rattle.abnfrun.specs.AbnfReply.{IsAnswerTo, form_of, judged_size};
 ghost use Rattle.abnfrun.specs.OpenJudge.{ExplainsLines};
 ghost use Rattle.abnfrun.specs.LetterAnswers.{IsAnswerOn, torn};
 ghost use Rattle.lowering.specs.Lowered.{IsLowered};
@@ -20,7 +20,7 @@ use earley::Chart;
 use flatgrammar::{Flat, Verdict};
 use lazydfa::Automaton;
 use letters::{Alphabet, CodePoint, Letter, decode, utf8_is_decided, utf8_len};
-use linejudge::{Answer, Judge, LineForm};
+use linejudge::{Answer, Judge, LineForm, Printed};
 use lowering::{items_tell, lower, values_are_letters};
 use prune::lower_viable;
 use refusedlines::{Explainer, RefusedLine, explain_refused};
@@ -244,6 +244,18 @@ impl Judge<Work> for LineJudge<'_> {
     }
 }
 
+/// Returns how many bytes settings let be judged of a line: its end is one more, if it belongs to them.
+fn judged_limit(settings: &AbnfSettings<'_>) -> usize
+    ensures limit { result ≡ judged_size settings.now settings.now.limit }
+    ensures small { result ≤ 16777217 }
+{
+    if settings.options.keeps {
+        settings.limit + 1
+    } else {
+        settings.limit
+    }
+}
+
 /// Lowers a grammar as settings ask for: for lines within their limit, and its productive parts alone if they ask for
 /// viable prefixes. `Memory` if an allocation fails.
 pub(crate) fn lowered(
@@ -251,16 +263,21 @@ pub(crate) fn lowered(
     grammar: &SoundAbnf,
     settings: &AbnfSettings<'_>,
 ) -> Result<Flat, Memory>
-    ensures limit { IfOk result (λ flat. flat.limit ≡ settings.now.limit) }
+    ensures limit { IfOk result (λ flat. flat.limit ≡ judged_size settings.now settings.now.limit) }
     ensures lowered { IfOk result (λ flat. settings.now.options.viable ≡ false →
         IsLowered (rules_of grammar.now.rules) grammar.now.judged flat) }
     ensures tells { IfOk result (λ flat. settings.now.options.viable ≡ true →
         TellsBeginnings (has settings.now.options.letters) (rules_of grammar.now.rules) grammar.now.judged flat) }
 {
     if settings.options.viable {
-        return lower_viable(alloc, grammar, settings.options.letters, settings.limit);
+        return lower_viable(
+            alloc,
+            grammar,
+            settings.options.letters,
+            judged_limit(settings),
+        );
     }
-    lower(alloc, grammar, settings.limit)
+    lower(alloc, grammar, judged_limit(settings))
 }
 
 /// Lowers a grammar for lines of one symbol more than settings allow, by which rejected lines are explained, if
@@ -272,10 +289,11 @@ pub(crate) fn explainer_of(
 ) -> Result<Option<Flat>, Memory>
     ensures asked { IfOk result (λ made. is_some made ≡ settings.now.explain) }
     ensures explains { IfOk result (λ made. IfSome made (ExplainsLines (rules_of grammar.now.rules)
-        grammar.now.judged settings.now.options.letters settings.now.limit)) }
+        grammar.now.judged settings.now.options.letters (judged_size settings.now settings.now.limit))) }
 {
     if settings.explain {
-        let more = lower_viable(alloc, grammar, settings.options.letters, settings.limit + 1)?;
+        let limit = judged_limit(settings) + 1;
+        let more = lower_viable(alloc, grammar, settings.options.letters, limit)?;
         return Ok(Some(more));
     }
     Ok(None)
@@ -298,7 +316,13 @@ pub(crate) fn line_form(settings: &AbnfSettings<'_>) -> LineForm
     LineForm {
         limit: settings.limit,
         end: if settings.options.nul { 0 } else { b'\n' },
-        printed: settings.options.printed,
+        keeps: settings.options.keeps,
+        printed: if settings.options.quiet {
+            Printed::Nothing
+        } else {
+            settings.options.printed
+        },
         numbered: settings.options.numbered,
+        stops: settings.options.quiet,
     }
 }

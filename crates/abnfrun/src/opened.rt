@@ -2,7 +2,7 @@
 ghost use Rattle.std.specs.Prelude.{◌≡◌, ◌≤◌, length, map, IfErr, IfOk};
 ghost use Rattle.abnfread.specs.AbnfReading.{IsFaultOf};
 ghost use Rattle.abnfread.specs.AbnfViews.{rules_of};
-ghost use Rattle.abnfrun.specs.AbnfReply.{IsAnswerTo};
+ghost use Rattle.abnfrun.specs.AbnfReply.{IsAnswerTo, judged_size};
 ghost use Rattle.abnfrun.specs.OpenAbnf.{IsOpened};
 ghost use Rattle.ruletable.specs.Notes.{said_of};
 
@@ -96,7 +96,7 @@ fn judge_by(
       grammar = grammar;
       letters = settings.now.options.letters;
       viable = settings.now.options.viable;
-      limit = settings.now.limit;
+      limit = judged_size settings.now settings.now.limit;
     }) }
 {
     let flat = lowered(alloc, &grammar, settings)?;
@@ -111,8 +111,9 @@ fn judge_by(
 }
 
 /// Reads and checks a grammar's text, and returns the notes on it and what judges lines by it as settings ask: by the
-/// rule that they name, within their limit. They say what symbols are, and whether the longest viable prefix is asked
-/// for; all else of them is not looked at. The text's fault if it is not a grammar, or if an allocation fails.
+/// rule that they name, within their limit. They say what symbols are, whether the longest viable prefix is asked for,
+/// and whether lines have their ends; all else of them is not looked at. The text's fault if it is not a grammar, or if
+/// an allocation fails.
 pub fn open_abnf(
     alloc: Global,
     text: &[u8],

@@ -13,10 +13,14 @@ pub struct AbnfOptions {
     pub viable: bool,
     /// Whether a NUL byte ends a line, in place of LF.
     pub nul: bool,
+    /// Whether the end of a line belongs to what is judged.
+    pub keeps: bool,
     /// The output for each line.
     pub printed: Printed,
     /// Whether the number of a line and a colon stand before what is printed for it.
     pub numbered: bool,
+    /// Whether nothing is printed, and the run ends after the first rejected line.
+    pub quiet: bool,
 }
 
 /// The settings of a run of the ABNF tool.

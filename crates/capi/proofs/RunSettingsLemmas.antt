@@ -1,4 +1,4 @@
--- What a run of a grammar states depends on the limit, raw and explain of the settings alone.
+-- What a run of a grammar states depends on the limit, raw, whole and explain of the settings alone.
 -- Serves: peg_run
 use Rattle.std.proofs.Common.{◌≡◌, ◌≤◌, ℕ, Bool, true, false, List, refl, sym, ◌∙◌, subst, Option, ap, ap₂}
 use Rattle.std.proofs.Math.Bridge.{le_prop}
@@ -10,7 +10,7 @@ use Rattle.memoryrun.specs.PlannedRun.{IsPlannedRun}
 use Rattle.pegrun.specs.PegReply.{PlainReplies, Replies, RunStates}
 use Rattle.pegrun.specs.StopsExplained.{MayLack, StopLines, UnitBefore, WhyStopped, none_before, one_before}
 use Rattle.pegrun.specs.Units.{Ends, GivesAt, IsUnit, Units, broken, empty_at_end, empty_before_end, finished}
-use Rattle.pegrun.specs.Units.{no_match, none, one_more, overlong, taken_at}
+use Rattle.pegrun.specs.Units.{no_match, no_unit, none, one_more, over_at_end, over_before_end, overlong, taken_at}
 use Rattle.toolrun.specs.Explained.{ExplainedIf}
 use Rattle.toolrun.specs.Input.{Input, bounded}
 use Rattle.toolrun.specs.Reply.{Reply}
@@ -26,13 +26,14 @@ explained_so true Why Other f why is = f why is
 explained_so false Why Other f why is = is
 
 module _ (rules : List Rule) (start : ℕ) (a b : PegSettings) (input : Input) (limit : b.limit ≡ a.limit)
-    (raw : b.options.raw ≡
-    a.options.raw) (explain : b.explain ≡ a.explain) where
+    (raw : b.options.raw ≡ a.options.raw) (whole : b.options.whole ≡ a.options.whole)
+    (explain : b.explain ≡ a.explain) where
   taken_by : (s : ℕ) → taken_at a input s ≡ taken_at b input s
   taken_by s = rw limit refl
 
   gives_by : (s : ℕ) (o : Outcome) → GivesAt rules start a input s o → GivesAt rules start b input s o
   gives_by s o g = record {
+    goes = rw whole g.goes;
     may_run = λ fault. rw limit (g.may_run fault);
     looked = g.looked;
     gives = g.gives;
@@ -50,12 +51,16 @@ module _ (rules : List Rule) (start : ℕ) (a b : PegSettings) (input : Input) (
   ends_by : (s : ℕ) (last : List ℕ) (stop : Stop) → Ends rules start a input s last stop
       → Ends rules start b input s last stop
   ends_by s last stop (broken fault lt) = broken fault (rw limit lt)
-  ends_by s last stop (overlong o looked may gives lt) =
-      rw (sym limit) (overlong o looked (λ fault. rw limit (may fault)) gives (rw limit lt))
+  ends_by s last stop (overlong o looked goes may gives lt) =
+      rw (sym limit) (overlong o looked (rw whole goes) (λ fault. rw limit (may fault)) gives (rw limit lt))
   ends_by s last stop (no_match gives lt) = no_match (gives_by s _ gives) lt
-  ends_by s last stop (finished gives is) = finished (gives_by s _ gives) is
+  ends_by s last stop (finished w gives is) = finished (rw whole w) (gives_by s _ gives) is
+  ends_by s last stop (no_unit w gives is) = no_unit (rw whole w) (gives_by s _ gives) is
   ends_by s last stop (empty_before_end text u lt) = empty_before_end text (unit_by s 0 text u) lt
   ends_by s last stop (empty_at_end text u is) = empty_at_end text (unit_by s 0 text u) is
+  ends_by s last stop (over_before_end over may lt) =
+      over_before_end (rw whole over) (λ fault. rw limit (may fault)) lt
+  ends_by s last stop (over_at_end over may is) = over_at_end (rw whole over) (λ fault. rw limit (may fault)) is
 
   before_by : (s : ℕ) (before : Option ℕ) → UnitBefore rules start a input s before
       → UnitBefore rules start b input s before
@@ -109,25 +114,26 @@ module _ (rules : List Rule) (start : ℕ) (a b : PegSettings) (input : Input) (
     told = r.told;
   }
 
-  states_by_three : (reply : Reply) → RunStates rules start a input reply → RunStates rules start b input reply
+  states_by_four : (reply : Reply) → RunStates rules start a input reply → RunStates rules start b input reply
   unfolding plain_by
-  states_by_three reply (replied_told same r) = replied_told same (told_by same r)
-  states_by_three reply (unexplained plain r told tells may) =
+  states_by_four reply (replied_told same r) = replied_told same (told_by same r)
+  states_by_four reply (unexplained plain r told tells may) =
       unexplained plain (plain_by plain r) told tells (lack_by r.point r.stop may)
-  states_by_three reply (cut_short point out told whole before tells r begins) =
+  states_by_four reply (cut_short point out told whole before tells r begins) =
       cut_short point out told whole (units_by point out before) tells (plain_by whole r) begins
 
 -- so does what a run over memory gives
-pub planned_by_three : (rules : List Rule) (start : ℕ) (a b : PegSettings) → b.limit ≡ a.limit
-    → b.options.raw ≡ a.options.raw → b.explain ≡ a.explain → {input out err : List ℕ} {code : ℕ}
+pub planned_by_four : (rules : List Rule) (start : ℕ) (a b : PegSettings) → b.limit ≡ a.limit
+    → b.options.raw ≡ a.options.raw → b.options.whole ≡ a.options.whole → b.explain ≡ a.explain
+    → {input out err : List ℕ} {code : ℕ}
     → IsPlannedRun (RunStates rules start a) input out err code
     → IsPlannedRun (RunStates rules start b) input out err code
-planned_by_three rules start a b limit raw explain {input} p = record {
+planned_by_four rules start a b limit raw whole explain {input} p = record {
   notes = p.notes;
   stated = p.stated;
   states = (
     p.states.0,
-    states_by_three rules start a b (bounded input) limit raw explain p.stated p.states.1,
+    states_by_four rules start a b (bounded input) limit raw whole explain p.stated p.states.1,
   );
   out_failed = p.out_failed;
   err_failed = p.err_failed;
@@ -140,6 +146,7 @@ pub runner_stays : (old : Runner) (peg : Grammar) (within : (1 ≤ old.limit) ×
       peg = peg;
       limit = old.limit;
       raw = old.raw;
+      whole = old.whole;
       explain = old.explain;
       in_range = within;
     }) old

@@ -32,14 +32,17 @@ name_by false name = None
 -- C asks for these options of the peg tool
 pub record PegMeant (asked : CSettings) (options : PegOptions) : Type 0 where
   pub raw : options.raw ≡ asked.raw
+  pub whole : options.whole ≡ false
 
 -- C asks for these options of the ABNF tool
 pub record AbnfMeant (asked : CSettings) (options : AbnfOptions) : Type 0 where
   pub letters : alphabet_by asked.letters ≡ Some options.letters
   pub viable : options.viable ≡ asked.viable
   pub nul : options.nul ≡ asked.nul
+  pub keeps : options.keeps ≡ false
   pub printed : options.printed ≡ Answers
   pub numbered : options.numbered ≡ false
+  pub quiet : options.quiet ≡ false
 
 -- C asks for these settings, by a struct of the size that this version knows. AreMeant says which options it asks for.
 pub record IsMeant {O : Type 0} (AreMeant : CSettings → O → Type 0) (asked : CSettings) (name : List ℕ)

@@ -78,7 +78,10 @@ impl COptions for PegOptions {
     ghost are_meant = { PegMeant };
 
     fn meant(asked: &CSettings, _letters: Alphabet) -> PegOptions {
-        PegOptions { raw: asked.raw }
+        PegOptions {
+            raw: asked.raw,
+            whole: false,
+        }
     }
 }
 
@@ -90,8 +93,10 @@ impl COptions for AbnfOptions {
             letters,
             viable: asked.viable,
             nul: asked.nul,
+            keeps: false,
             printed: Printed::Answers,
             numbered: false,
+            quiet: false,
         }
     }
 }

@@ -12,6 +12,8 @@ pub struct Runner {
     pub limit: usize,
     /// Whether actions are printed verbatim.
     pub raw: bool,
+    /// Whether an input is one unit.
+    pub whole: bool,
     /// Whether it is explained where a run stops.
     pub explain: bool,
     ghost in_range: { (1 ≤ limit) × (limit ≤ 16777216) },

@@ -19,6 +19,7 @@ pub(crate) fn runner_by(peg: PegRunner, settings: &PegSettings<'_>) -> Runner
         peg,
         limit: settings.limit,
         raw: settings.options.raw,
+        whole: settings.options.whole,
         explain: settings.explain,
     }
 }
@@ -33,7 +34,10 @@ pub(crate) fn run_input(alloc: Global, runner: &mut Runner, input: &[u8]) -> Out
         limit: runner.limit,
         start: None,
         explain: runner.explain,
-        options: PegOptions { raw: runner.raw },
+        options: PegOptions {
+            raw: runner.raw,
+            whole: runner.whole,
+        },
     };
     run_opened(alloc, &mut runner.peg, &settings, input)
 }

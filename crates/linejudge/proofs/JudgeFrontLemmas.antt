@@ -10,31 +10,34 @@ use Rattle.toolrun.specs.Agrees.{Agrees}
 use Rattle.toolrun.specs.Input.{Input}
 use Rattle.toolrun.proofs.AgreesLemmas.{rest_is}
 use Rattle.toolrun.proofs.ExplainedIfLemmas.{if_not_asked}
-use Rattle.linejudge.specs.InputLines.{Lines, StandsAt, behind, printed_line, one_more, with_end}
+use Rattle.linejudge.specs.InputLines.{GoesBy, Lines, StandsAt, behind, kept_line, kept_size, printed_line, one_more}
+use Rattle.linejudge.specs.InputLines.{with_end}
 use Rattle.linejudge.specs.LineRefusals.{Refusals, is_told, one_told}
 use Rattle.linejudge.specs.LineSteps.{AddsLines}
 use Rattle.linejudge.specs.declared.answers.Answer.{Answer}
 use Rattle.linejudge.specs.declared.line.LineForm.{LineForm}
 use Rattle.linejudge.specs.declared.reached.At.{At}
+use Rattle.linejudge.proofs.KeptLineLemmas.{kept_is}
 use Rattle.linejudge.proofs.NextLineLemmas.{first_found}
 
 -- a line that was found in bytes stands where these stand
 pub found_stands : (form : LineForm) (input : Input) (start len n s : ℕ) (front rest : List ℕ)
     → drop start input.bytes ≡ front ++ rest → s ≡ start + len → len ≤ length front
     → IsFirstByte (is_byte form.end) (drop len front) (Some n) → n ≤ form.limit
-    → StandsAt form input s (take n (drop len front)) (n + 1)
+    → StandsAt form input s (take (kept_size form n) (drop len front)) (n + 1)
 found_stands form input start len n s front rest is here within (before, found) short =
     let xs : List ℕ = drop len front in
     let line : List ℕ = take n xs in
     let split = first_found form.end n xs before found in
     let there : drop s input.bytes ≡ xs ++ rest =
     rw here (sym (drop-drop len start input.bytes) ∙ ap (drop len) is ∙ drop-append-le len front rest within) in
-    subst (λ (k : ℕ). StandsAt form input s line (k + 1)) split.2 (with_end line (record {
+    let kept = kept_is form n xs line (drop (suc n) xs) split.0 split.2 in
+    rw kept (subst (λ (k : ℕ). StandsAt form input s (kept_line form line) (k + 1)) split.2 (with_end line (record {
       after = drop (suc n) xs ++ rest;
       cut = there ∙ ap (λ t. t ++ rest) split.0 ∙ append_assoc line (form.end ∷ drop (suc n) xs) rest;
       one = split.1;
       within = omega (arith, split.2, short);
-    }))
+    })))
 
 module _ (Told : List ℕ → Answer → Type 0) (asked : Bool) (Refusal : List ℕ → ℕ → List ℕ → Type 0) (form : LineForm)
     (input : Input) where
@@ -42,7 +45,7 @@ module _ (Told : List ℕ → Answer → Type 0) (asked : Bool) (Refusal : List 
   goes_nowhere at = record { lines = λ text l. rw append-nil l; refusals = λ told r. r }
 
   pub goes_one_on : asked ≡ false → (old at : At) (added line : List ℕ) (n : ℕ) (said : Answer)
-      → AddsLines Told asked Refusal form input old at added → StandsAt form input at.place line n → Told line said
+      → AddsLines Told asked Refusal form input old at added → GoesBy form input at line n → Told line said
       → AddsLines Told asked Refusal form input old (behind at n said)
       (added ++ printed_line form (at.count + 1) line said)
   goes_one_on not old at added line n said goes stands says = record {

@@ -1,4 +1,5 @@
 pub mod JudgeFrontLemmas
+pub mod KeptLineLemmas
 pub mod LineRunLemmas
 pub mod LineStepLemmas
 pub mod LinesLemmas

@@ -1,6 +1,6 @@
 -- The answer to what is held is a step of the run.
 -- Serves: run_lines
-use Rattle.std.proofs.Common.{◌≡◌, ℕ, ◌+◌, Bool, Option, List, [], take, drop, refl, ◌∙◌, arith}
+use Rattle.std.proofs.Common.{◌≡◌, ℕ, ◌+◌, Bool, false, Option, List, [], take, drop, refl, ◌∙◌, arith}
 use Rattle.std.proofs.Common.{inl, inr, subst}
 use Rattle.std.specs.Prelude.{Result, Ok, Err, IfOk, OnErr}
 use Rattle.std.proofs.lemmas.List.{take_all}
@@ -12,7 +12,7 @@ use Rattle.toolrun.specs.Input.{Input}
 use Rattle.toolrun.specs.declared.stop.Stop.TheVariants.{Quiet, LongLine}
 use Rattle.toolrun.specs.declared.stop.Stop.TheVariants as stop
 use Rattle.linejudge.specs.InputLines.{IsNext, StandsAt, with_end, without_end, status_after, broken, overlong}
-use Rattle.linejudge.specs.InputLines.{printed_last, finished}
+use Rattle.linejudge.specs.InputLines.{GoesBy, LinesEnd, is_over, kept_line, kept_size, printed_last}
 use Rattle.linejudge.specs.LineSteps.{Answered, IsStep, StepsBehind, of_end, of_line}
 use Rattle.linejudge.specs.declared.answers.Answer.{Answer}
 use Rattle.linejudge.specs.declared.line.Line.TheVariants as line
@@ -20,6 +20,7 @@ use Rattle.linejudge.specs.declared.line.LineForm.{LineForm}
 use Rattle.linejudge.specs.declared.line_loop.Step.{Step}
 use Rattle.linejudge.specs.declared.line_loop.Step.TheVariants.{Stops}
 use Rattle.linejudge.specs.declared.reached.At.{At}
+use Rattle.linejudge.proofs.KeptLineLemmas.{kept_is}
 
 module _ (Told : List ℕ → Answer → Type 0) (asked : Bool) (Refusal : List ℕ → ℕ → List ℕ → Type 0) (form : LineForm)
     (input : Input) (at : At) (old new : Option (List ℕ)) (told more : List ℕ) where
@@ -31,7 +32,7 @@ module _ (Told : List ℕ → Answer → Type 0) (asked : Bool) (Refusal : List 
 
   -- a line that is answered
   line_is : (line : List ℕ) (n : ℕ) (text : List ℕ) (answered : Result Answer Memory) (r : Result Step WriteFault)
-      → StandsAt form input at.place line n → IfOk answered (IsAnswered line text) → OnErr answered (more ≡ told)
+      → GoesBy form input at line n → IfOk answered (IsAnswered line text) → OnErr answered (more ≡ told)
       → StepsBehind n old new text answered r → IsStep Told asked Refusal form input at old new told more r
   line_is line n text (Ok said) (Ok step) stands is fails (writes, same) =
       let shown = is.prints in rw same (line, stands, is.is_told, is.adds, rw shown at writes)
@@ -41,38 +42,42 @@ module _ (Told : List ℕ → Answer → Type 0) (asked : Bool) (Refusal : List 
 
   -- a line and its end
   pub whole_is : (n : ℕ) (held text : List ℕ) (answered : Result Answer Memory) (r : Result Step WriteFault)
-      → held ≡ take n rest → IsNext form input at.place (line.Whole n) → IfOk answered (IsAnswered held text)
-      → OnErr answered (more ≡ told) → StepsBehind (n + 1) old new text answered r
-      → IsStep Told asked Refusal form input at old new told more r
-  whole_is n held text answered r is next answers fails steps =
-      let stands : StandsAt form input at.place (take n rest) (n + 1) =
-      subst (λ (k : ℕ). StandsAt form input at.place (take n rest) (k + 1)) next.1 (with_end (take n rest) next.0) in
-      line_is (take n rest) (n + 1) text answered r stands (rw is at answers) fails steps
+      → is_over form at ≡ false → held ≡ take (kept_size form n) rest → IsNext form input at.place (line.Whole n)
+      → IfOk answered (IsAnswered held text) → OnErr answered (more ≡ told)
+      → StepsBehind (n + 1) old new text answered r → IsStep Told asked Refusal form input at old new told more r
+  whole_is n held text answered r goes is next answers fails steps =
+      let judged : List ℕ = kept_line form (take n rest) in
+      let stands : StandsAt form input at.place judged (n + 1) =
+      subst (λ (k : ℕ). StandsAt form input at.place judged (k + 1)) next.1 (with_end (take n rest) next.0) in
+      let all : held ≡ judged = is ∙ kept_is form n rest (take n rest) next.0.after next.0.cut next.1 in
+      line_is judged (n + 1) text answered r (record { goes = goes; stands = stands }) (rw all at answers) fails steps
 
   -- a last line without an end
   pub last_is : (n : ℕ) (held text : List ℕ) (answered : Result Answer Memory) (r : Result Step WriteFault)
-      → held ≡ take n rest → IsNext form input at.place (line.Last n) → IfOk answered (IsAnswered held text)
+      → is_over form at ≡ false → held ≡ take n rest → IsNext form input at.place (line.Last n)
+      → IfOk answered (IsAnswered held text)
       → OnErr answered (more ≡ told) → StepsBehind n old new text answered r
       → IsStep Told asked Refusal form input at old new told more r
-  last_is n held text answered r is next answers fails steps =
+  last_is n held text answered r goes is next answers fails steps =
       let all : held ≡ rest = is ∙ take_all n rest (let len = next.1 in omega (arith, len)) in
       let stands : StandsAt form input at.place rest n =
       subst (λ (k : ℕ). StandsAt form input at.place rest k) next.1 (without_end next.0) in
-      line_is rest n text answered r stands (rw all at answers) fails steps
+      line_is rest n text answered r (record { goes = goes; stands = stands }) (rw all at answers) fails steps
 
 module _ (Told : List ℕ → Answer → Type 0) (asked : Bool) (Refusal : List ℕ → ℕ → List ℕ → Type 0) (form : LineForm)
     (input : Input) (at : At) (old new : Option (List ℕ)) (told : List ℕ) where
   -- no line
-  pub long_is : IsNext form input at.place line.Overlong
+  pub long_is : is_over form at ≡ false → IsNext form input at.place line.Overlong
       → IsStep Told asked Refusal form input at old old told told (Ok (Stops (LongLine (at.count + 1) form.limit)))
-  long_is next = (refl, inr ([], overlong next, Appends-same old))
+  long_is goes next = (refl, inr ([], overlong goes next, Appends-same old))
 
-  pub end_is : (r : Result Step WriteFault) → IsNext form input at.place line.End
+  pub end_is : (r : Result Step WriteFault) → LinesEnd form input at (printed_last form.printed at)
+      (Quiet (status_after at.refused))
       → Writes old new (printed_last form.printed at) r → IfOk r (λ s. s ≡ Stops (Quiet (status_after at.refused)))
       → IsStep Told asked Refusal form input at old new told told r
-  end_is (Ok step) next writes same = rw same (refl, inr (printed_last form.printed at, finished next, writes))
-  end_is (Err fault) next part same = (printed_last form.printed at, of_end _ _ (finished next) refl, part)
+  end_is (Ok step) ends writes same = rw same (refl, inr (printed_last form.printed at, ends, writes))
+  end_is (Err fault) ends part same = (printed_last form.printed at, of_end _ _ ends refl, part)
 
-  pub broken_is : IsNext form input at.place line.Broken
+  pub broken_is : is_over form at ≡ false → IsNext form input at.place line.Broken
       → IsStep Told asked Refusal form input at old old told told (Ok (Stops stop.Broken))
-  broken_is next = (refl, inr ([], broken next, Appends-same old))
+  broken_is goes next = (refl, inr ([], broken goes next, Appends-same old))

@@ -13,9 +13,10 @@ use Rattle.toolrun.specs.Status.{code_of}
 use Rattle.toolrun.specs.Stop.{message_of, status_of}
 use Rattle.toolrun.specs.declared.stop.Stop.{Stop}
 use Rattle.toolrun.specs.declared.stop.Stop.TheVariants.{Quiet, LongLine, Broken}
-use Rattle.linejudge.specs.InputLines.{HasNoEnd, printed_line, printed_last, refused_by, status_after, behind}
+use Rattle.linejudge.specs.InputLines.{HasNoEnd, IsEndAt, kept_line, printed_line, printed_last, refused_by}
+use Rattle.linejudge.specs.InputLines.{status_after}
 use Rattle.linejudge.specs.InputLines.{place_taken, taken_at, with_end, without_end, Lines, one_more, LinesEnd, broken}
-use Rattle.linejudge.specs.InputLines.{overlong, finished}
+use Rattle.linejudge.specs.InputLines.{behind, overlong, finished, is_over, rejected}
 use Rattle.linejudge.specs.declared.answers.Answer.{Answer}
 use Rattle.linejudge.specs.declared.answers.Answer.TheVariants.{Yes, No, NoAfter}
 use Rattle.linejudge.specs.declared.line.LineForm.{LineForm}
@@ -43,6 +44,13 @@ pub refused_by-one : (said : Answer) → refused_by said ≤ 1
 refused_by-one Yes = omega arith
 refused_by-one No = omega arith
 refused_by-one (NoAfter n) = omega arith
+
+-- at the end of the input a run ends so, whether it was over before or not
+pub ends_quietly : (form : LineForm) (input : Input) (at : At) (b : Bool) → is_over form at ≡ b
+    → IsEndAt form input at.place → LinesEnd form input at (printed_last form.printed at)
+    (Quiet (status_after at.refused))
+ends_quietly form input at true over is = rejected over
+ends_quietly form input at false goes is = finished goes is
 
 module _ (Told : List ℕ → Answer → Type 0) (form : LineForm) (input : Input) where
   abbrev rest : ℕ → List ℕ
@@ -99,52 +107,63 @@ module _ (Told : List ℕ → Answer → Type 0) (form : LineForm) (input : Inpu
     goes_at_end at text lines empty fine =
         let last = printed_last form.printed at in
         goes_from at.place at.place text last (omega arith)
-        (goes_to_stop at text last (Quiet (status_after at.refused)) lines (finished (empty, fine)))
+        (goes_to_stop at text last (Quiet (status_after at.refused)) lines
+        (ends_quietly form input at (is_over form at) refl (empty, fine)))
 
     -- after the last line it does
-    goes_behind_last : (at : At) (text : List ℕ) → Lines Told form input at text → HasNoEnd form.end (rest at.place)
-        → 0 < length (rest at.place) → length (rest at.place) ≤ form.limit → input.fault ≡ false → Goes at.place text
-    goes_behind_last at text lines free some le fine =
+    goes_behind_last : (at : At) (text : List ℕ) → Lines Told form input at text → is_over form at ≡ false
+        → HasNoEnd form.end (rest at.place) → 0 < length (rest at.place) → length (rest at.place) ≤ form.limit
+        → input.fault ≡ false → Goes at.place text
+    goes_behind_last at text lines goes free some le fine =
         let d = decided (rest at.place) in
         let n : ℕ = length (rest at.place) in
         let l = length-drop at.place input.bytes in
         let more = printed_line form (at.count + 1) (rest at.place) d.0 in
         goes_from at.place (at.place + n) text more (omega arith)
         (goes_at_end (behind at n d.0) (text ++ more)
-        (one_more at text (rest at.place) n d.0 lines (without_end (free, some, le, fine)) d.1)
+        (one_more at text (rest at.place) n d.0 lines
+        (record { goes = goes; stands = without_end (free, some, le, fine) }) d.1)
         (drop_all (at.place + n) input.bytes (omega (arith, l))) fine)
 
-    goes_ended : (at : At) (text : List ℕ) → Lines Told form input at text → HasNoEnd form.end (rest at.place)
-        → length (rest at.place) ≤ form.limit → (fault : Bool) → input.fault ≡ fault →
+    goes_ended : (at : At) (text : List ℕ) → Lines Told form input at text → is_over form at ≡ false
+        → HasNoEnd form.end (rest at.place) → length (rest at.place) ≤ form.limit → (fault : Bool)
+        → input.fault ≡ fault →
         (bytes : List ℕ) → rest at.place ≡ bytes → Goes at.place text
-    goes_ended at text lines free le true is bytes same = goes_from at.place at.place text [] (omega arith)
-        (goes_to_stop at text [] Broken lines (broken (free, le, is)))
-    goes_ended at text lines free le false is [] same = goes_at_end at text lines same is
-    goes_ended at text lines free le false is (b ∷ bytes) same =
-        goes_behind_last at text lines free (let l = ap length same in omega (arith, l)) le is
+    goes_ended at text lines goes free le true is bytes same = goes_from at.place at.place text [] (omega arith)
+        (goes_to_stop at text [] Broken lines (broken goes (free, le, is)))
+    goes_ended at text lines goes free le false is [] same = goes_at_end at text lines same is
+    goes_ended at text lines goes free le false is (b ∷ bytes) same =
+        goes_behind_last at text lines goes free (let l = ap length same in omega (arith, l)) le is
 
-    lines_go : (fuel : ℕ) (at : At) (text : List ℕ) → Lines Told form input at text → length (rest at.place) < fuel
-        → Goes at.place text
-    lines_go zero at text lines room = absurd (omega (arith, room))
-    lines_go (suc fuel) at text lines room = elim (split_line form.end (rest at.place)) [
+    lines_go : (fuel : ℕ) (b : Bool) (at : At) (text : List ℕ) → Lines Told form input at text → is_over form at ≡ b
+        → length (rest at.place) < fuel → Goes at.place text
+    lines_go zero b at text lines is room = absurd (omega (arith, room))
+    lines_go (suc fuel) true at text lines over room =
+        let last = printed_last form.printed at in
+        goes_from at.place at.place text last (omega arith)
+        (goes_to_stop at text last (Quiet (status_after at.refused)) lines (rejected over))
+    lines_go (suc fuel) false at text lines goes room = elim (split_line form.end (rest at.place)) [
       | inl (line, after, cut, one) ↦ elim (cases_lt form.limit (length line)) [
         | inl over ↦
             let l = ap length cut in
             goes_from at.place at.place text [] (omega arith)
-            (goes_to_stop at text [] (LongLine (at.count + 1) form.limit) lines (overlong (
+            (goes_to_stop at text [] (LongLine (at.count + 1) form.limit) lines (overlong goes (
               rw (cut, take-append-le (suc form.limit) line (form.end ∷ after) (omega arith))
                   (All-take (λ b. b ≢ form.end) (suc form.limit) line one),
               omega (arith, l, length-append line (form.end ∷ after)),
             )))
         | inr le ↦
-            let d = decided line in
+            let judged = kept_line form line in
+            let d = decided judged in
             let n : ℕ = length line + 1 in
             let l = ap length cut in
-            let more = printed_line form (at.count + 1) line d.0 in
+            let more = printed_line form (at.count + 1) judged d.0 in
             goes_from at.place (at.place + n) text more (omega arith)
-            (lines_go fuel (behind at n d.0) (text ++ more)
-            (one_more at text line n d.0 lines
-            (with_end line (record { after = after; cut = cut; one = one; within = omega arith })) d.1)
+            (lines_go fuel (is_over form (behind at n d.0)) (behind at n d.0) (text ++ more)
+            (one_more at text judged n d.0 lines (record {
+              goes = goes;
+              stands = with_end line (record { after = after; cut = cut; one = one; within = omega arith });
+            }) d.1) refl
             (omega (
               arith,
               room,
@@ -157,13 +176,14 @@ module _ (Told : List ℕ → Answer → Type 0) (form : LineForm) (input : Inpu
       | inr free ↦ elim (cases_lt form.limit (length (rest at.place))) [
         | inl over ↦ goes_from at.place at.place text [] (omega arith)
             (goes_to_stop at text [] (LongLine (at.count + 1) form.limit) lines
-            (overlong (All-take (λ b. b ≢ form.end) (suc form.limit) (rest at.place) free, over)))
-        | inr le ↦ goes_ended at text lines free (omega arith) input.fault refl (rest at.place) refl
+            (overlong goes (All-take (λ b. b ≢ form.end) (suc form.limit) (rest at.place) free, over)))
+        | inr le ↦ goes_ended at text lines goes free (omega arith) input.fault refl (rest at.place) refl
       ]
     ]
 
     pub lines_go_on : (at : At) (text : List ℕ) → Lines Told form input at text → Goes at.place text
-    lines_go_on at text lines = lines_go (suc (length (rest at.place))) at text lines (omega arith)
+    lines_go_on at text lines =
+        lines_go (suc (length (rest at.place))) (is_over form at) at text lines refl (omega arith)
 
     -- after more lines no fewer bytes are taken
     pub goes_further : (s : ℕ) (at : At) (text : List ℕ) → s ≤ at.place → Lines Told form input at text → Goes s text

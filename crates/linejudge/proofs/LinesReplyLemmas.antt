@@ -1,7 +1,7 @@
 -- The lines of an input, the explanations of rejected ones, and how a run of them ends are one, and so is its reply.
 -- Serves: one_reply_of_abnf, one_statement_of_abnf
 use Rattle.std.proofs.Common.{◌≡◌, ◌≢◌, ℕ, suc, ◌+◌, ◌<◌, ◌≤◌, Bool, List, [], ◌∷◌, ◌++◌, length, take, drop, get_or}
-use Rattle.std.proofs.Common.{refl}
+use Rattle.std.proofs.Common.{false, refl}
 use Rattle.std.proofs.Common.{sym, ◌∙◌, ap, subst, arith, inl, inr, length-append, length-take}
 use Rattle.std.proofs.Math.Seq.{get_or-append_seam}
 use Rattle.std.proofs.lemmas.Bool.{cases_lt}
@@ -18,7 +18,7 @@ use Rattle.toolrun.specs.Stop.{message_of, status_of}
 use Rattle.toolrun.specs.declared.stop.Stop.{Stop}
 use Rattle.linejudge.specs.InputLines.{HasNoEnd, printed_line, behind, place_taken, IsLine, IsLastAt, StandsAt}
 use Rattle.linejudge.specs.InputLines.{with_end, without_end, Lines, none, one_more, LinesEnd, broken, overlong}
-use Rattle.linejudge.specs.InputLines.{finished}
+use Rattle.linejudge.specs.InputLines.{GoesBy, finished, is_over, kept_line, rejected}
 use Rattle.linejudge.specs.LineRefusals.{LinesReply, Refusals, count_untold, is_told, none_told, one_told, stop_lines}
 use Rattle.linejudge.specs.declared.answers.Answer.{Answer}
 use Rattle.linejudge.specs.declared.line.LineForm.{LineForm}
@@ -73,26 +73,29 @@ module _ (form : LineForm) (input : Input) where
       → OneStands a b n m
   one_stands s a b n m (with_end line is) (with_end other has) =
       let same : line ≡ other = one_line s line other is has in
-      record { lines = same; sizes = ap (λ (l : List ℕ). length l + 1) same }
+      record { lines = ap (kept_line form) same; sizes = ap (λ (l : List ℕ). length l + 1) same }
   one_stands s a b n m (with_end line is) (without_end last) = absurd (not_both s line is last)
   one_stands s a b n m (without_end last) (with_end line is) = absurd (not_both s line is last)
   one_stands s a b n m (without_end last) (without_end other) = record { lines = refl; sizes = refl }
 
-  -- no run ends where a line stands
-  no_end : (at : At) (line last : List ℕ) (n : ℕ) (why : Stop) → StandsAt form input at.place line n
-      → LinesEnd form input at last why → ⊥
-  no_end at line last n why (with_end it is) (broken (free, short, fault)) =
+  -- no run ends where it goes on by a line
+  no_end : (at : At) (line last : List ℕ) (n : ℕ) (why : Stop) → is_over form at ≡ false
+      → StandsAt form input at.place line n → LinesEnd form input at last why → ⊥
+  no_end at line last n why on (with_end it is) (rejected over) = absurd (cc)
+  no_end at line last n why on (with_end it is) (broken goes (free, short, fault)) =
       has_end form.end (drop at.place input.bytes) it is.after is.cut free
-  no_end at line last n why (with_end it is) (overlong (free, long)) =
+  no_end at line last n why on (with_end it is) (overlong goes (free, long)) =
       has_end_within form.end form.limit (drop at.place input.bytes) it is.after is.cut is.within free
-  no_end at line last n why (with_end it is) (finished (empty, fine)) =
+  no_end at line last n why on (with_end it is) (finished goes (empty, fine)) =
       let l = ap length is.cut in
       let m = ap length empty in
       omega (arith, l, m, length-append it (form.end ∷ is.after))
-  no_end at line last n why (without_end (free, some, short, fine)) (broken (free', short', fault)) = absurd (cc)
-  no_end at line last n why (without_end (free, some, short, fine)) (overlong (free', long)) =
+  no_end at line last n why on (without_end last_is) (rejected over) = absurd (cc)
+  no_end at line last n why on (without_end (free, some, short, fine)) (broken goes (free', short', fault)) =
+      absurd (cc)
+  no_end at line last n why on (without_end (free, some, short, fine)) (overlong goes (free', long)) =
       absurd (omega (arith, short, long))
-  no_end at line last n why (without_end (free, some, short, fine)) (finished (empty, fine')) =
+  no_end at line last n why on (without_end (free, some, short, fine)) (finished goes (empty, fine')) =
       absurd (let l = ap length empty in omega (arith, l, some))
 
   -- two ends are the same
@@ -102,22 +105,29 @@ module _ (form : LineForm) (input : Input) where
 
   one_end : (at : At) (last other : List ℕ) (why end : Stop) → LinesEnd form input at last why
       → LinesEnd form input at other end → OneEnd last other why end
-  one_end at last other why end (broken (free, short, fault)) (broken (free', short', fault')) =
+  one_end at last other why end (broken g (free, short, fault)) (broken h (free', short', fault')) =
       record { lasts = refl; stops = refl }
-  one_end at last other why end (broken (free, short, fault)) (overlong (free', long)) =
+  one_end at last other why end (broken g (free, short, fault)) (overlong h (free', long)) =
       absurd (omega (arith, short, long))
-  one_end at last other why end (broken (free, short, fault)) (finished (empty, fine)) = absurd (cc)
-  one_end at last other why end (overlong (free, long)) (broken (free', short, fault)) =
+  one_end at last other why end (broken g (free, short, fault)) (finished h (empty, fine)) = absurd (cc)
+  one_end at last other why end (overlong g (free, long)) (broken h (free', short, fault)) =
       absurd (omega (arith, short, long))
-  one_end at last other why end (overlong (free, long)) (overlong (free', long')) =
+  one_end at last other why end (overlong g (free, long)) (overlong h (free', long')) =
       record { lasts = refl; stops = refl }
-  one_end at last other why end (overlong (free, long)) (finished (empty, fine)) =
+  one_end at last other why end (overlong g (free, long)) (finished h (empty, fine)) =
       absurd (let l = ap length empty in omega (arith, l, long))
-  one_end at last other why end (finished (empty, fine)) (broken (free', short, fault)) = absurd (cc)
-  one_end at last other why end (finished (empty, fine)) (overlong (free, long)) =
+  one_end at last other why end (finished g (empty, fine)) (broken h (free', short, fault)) = absurd (cc)
+  one_end at last other why end (finished g (empty, fine)) (overlong h (free, long)) =
       absurd (let l = ap length empty in omega (arith, l, long))
-  one_end at last other why end (finished (empty, fine)) (finished (empty', fine')) =
+  one_end at last other why end (finished g (empty, fine)) (finished h (empty', fine')) =
       record { lasts = refl; stops = refl }
+  one_end at last other why end (broken g is) (rejected over) = absurd (cc)
+  one_end at last other why end (rejected over) (broken g is) = absurd (cc)
+  one_end at last other why end (overlong g is) (rejected over) = absurd (cc)
+  one_end at last other why end (rejected over) (overlong g is) = absurd (cc)
+  one_end at last other why end (finished g is) (rejected over) = absurd (cc)
+  one_end at last other why end (rejected over) (finished g is) = absurd (cc)
+  one_end at last other why end (rejected over) (rejected again) = record { lasts = refl; stops = refl }
 
 module _ (Told : List ℕ → Answer → Type 0) (one_answer : (line : List ℕ) (a b : Answer) → Told line a → Told line b
     → a ≡ b) (form : LineForm) (input : Input) where
@@ -157,7 +167,7 @@ module _ (Told : List ℕ → Answer → Type 0) (one_answer : (line : List ℕ)
   same_place at text (one_more before front line n said u is says) other more
       (one_more prior begun next m told v has tells) e =
       same_next before prior front begun line next n m said told
-      (same_place before front u prior begun v (omega (arith, e))) is has says tells
+      (same_place before front u prior begun v (omega (arith, e))) is.stands has.stands says tells
 
   -- after so many lines there is a further one
   record GoesOn (count : ℕ) : Type 0 where
@@ -167,7 +177,7 @@ module _ (Told : List ℕ → Answer → Type 0) (one_answer : (line : List ℕ)
     here : at.count ≡ count
     line : List ℕ
     size : ℕ
-    is : StandsAt form input at.place line size
+    is : GoesBy form input at line size
 
   goes_on : (count : ℕ) (at : At) (text : List ℕ) → LinesTo at text → count < at.count → GoesOn count
   goes_on count at text none lt = absurd (omega (arith, lt))
@@ -190,8 +200,9 @@ module _ (Told : List ℕ → Answer → Type 0) (one_answer : (line : List ℕ)
   no_earlier_end at other text more last why lines ends further lt =
       let g = goes_on at.count other more further lt in
       let same = same_place at text lines g.at g.text g.lines (sym g.here) in
-      no_end form input at g.line last g.size why
-      (subst (λ (v : At). StandsAt form input v.place g.line g.size) (sym same.places) g.is) ends
+      let by : GoesBy form input at g.line g.size =
+      subst (λ (v : At). GoesBy form input v g.line g.size) (sym same.places) g.is in
+      no_end form input at g.line last g.size why by.goes by.stands ends
 
   abbrev HasReply : Reply → Type 0
   HasReply reply = Replies (Lines Told form input) (LinesEnd form input) (place_taken form.limit input) reply
@@ -274,7 +285,7 @@ module _ (Told : List ℕ → Answer → Type 0) (one_answer : (line : List ℕ)
     same_told at text (one_told before front line n said why u is says tells) other more
         (one_told prior begun next m told lines v has tell explains) e =
         tells_next before prior front begun line next n m said told why lines
-        (same_told before front u prior begun v (omega (arith, e))) is has says tell tells explains
+        (same_told before front u prior begun v (omega (arith, e))) is.stands has.stands says tell tells explains
 
     -- one reply
     pub one_lines_reply : (a b : Reply) → LinesReply Told asked Refusal form input a

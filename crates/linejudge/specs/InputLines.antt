@@ -1,6 +1,6 @@
 -- The lines of an input, the answers to them, and how a run of them ends. A byte ends a line: LF, or any other.
-use Rattle.std.specs.Prelude.{◌≡◌, ◌≢◌, ℕ, suc, ◌+◌, ◌-◌, ◌<◌, ◌≤◌, ◌==◌, ⊤, min, Bool, true, false, not, List, []}
-use Rattle.std.specs.Prelude.{◌∷◌, ◌++◌, length, take, drop, codes, decimal, if◌then◌else◌}
+use Rattle.std.specs.Prelude.{◌≡◌, ◌≢◌, ℕ, suc, ◌+◌, ◌-◌, ◌<◌, ◌≤◌, ◌==◌, nat_lt, ⊤, min, Bool, true, false, not, ◌&&◌}
+use Rattle.std.specs.Prelude.{List, [], ◌∷◌, ◌++◌, length, take, drop, codes, decimal, if◌then◌else◌}
 use Rattle.std.specs.List.{All}
 use Rattle.feed.specs.declared.held.Held.{Held}
 use Rattle.feed.specs.declared.held.Held.TheVariants as held
@@ -47,18 +47,30 @@ abbrev pub number_text : Bool → ℕ → List ℕ
 number_text true number = decimal number ++ codes ":"
 number_text false number = []
 
--- what is printed after the number: the answer, or the line and its end
-abbrev pub shown_text : Printed → ℕ → List ℕ → Answer → List ℕ
-shown_text printed.Answers end line said = answer_text said
-shown_text printed.Derived end line said = line ++ end ∷ []
-shown_text printed.Refused end line said = line ++ end ∷ []
-shown_text printed.Count end line said = []
-shown_text printed.Nothing end line said = []
+-- what is judged of a line that has an end: the line alone, or with its end
+abbrev pub kept_line : LineForm → List ℕ → List ℕ
+kept_line form line = if form.keeps then line ++ form.end ∷ [] else line
 
--- what is printed for a line of that number with that answer
+-- how many bytes that are
+abbrev pub kept_size : LineForm → ℕ → ℕ
+kept_size form n = if form.keeps then n + 1 else n
+
+-- what was judged, and the end after it, if the end is no part of it
+abbrev pub ended_line : LineForm → List ℕ → List ℕ
+ended_line form line = if form.keeps then line else line ++ form.end ∷ []
+
+-- what is printed after the number: the answer, or the line and its end
+abbrev pub shown_text : LineForm → Printed → List ℕ → Answer → List ℕ
+shown_text form printed.Answers line said = answer_text said
+shown_text form printed.Derived line said = ended_line form line
+shown_text form printed.Refused line said = ended_line form line
+shown_text form printed.Count line said = []
+shown_text form printed.Nothing line said = []
+
+-- what is printed for a line of that number with that answer, by what was judged of it
 abbrev pub printed_line : LineForm → ℕ → List ℕ → Answer → List ℕ
 printed_line form number line said = if is_line_printed form.printed said
-    then number_text form.numbered number ++ shown_text form.printed form.end line said else []
+    then number_text form.numbered number ++ shown_text form form.printed line said else []
 
 -- how many lines an answer rejects
 abbrev pub refused_by : Answer → ℕ
@@ -81,6 +93,10 @@ behind at n said = record {
   count = at.count + 1;
   refused = at.refused + refused_by said;
 }
+
+-- whether a run is over there: it stops after a rejected line
+abbrev pub is_over : LineForm → At → Bool
+is_over form at = nat_lt 0 at.refused && form.stops
 
 -- how many lines were derived, and how many rejected
 abbrev pub count_text : At → List ℕ
@@ -114,9 +130,9 @@ module _ (form : LineForm) (input : Input) where
   IsLastAt s = HasNoEnd form.end (drop s input.bytes) × (0 < length (drop s input.bytes))
       × (length (drop s input.bytes) ≤ form.limit) × (input.fault ≡ false)
 
-  -- at s stands a line, which takes so many bytes: with its end, or the last one
+  -- This is judged of the line at s, which takes so many bytes: with its end, or the last one.
   pub data StandsAt (s : ℕ) : List ℕ → ℕ → Type 0 where
-    with_end : (line : List ℕ) → IsLine s line → StandsAt s line (length line + 1)
+    with_end : (line : List ℕ) → IsLine s line → StandsAt s (kept_line form line) (length line + 1)
     without_end : IsLastAt s → StandsAt s (drop s input.bytes) (length (drop s input.bytes))
 
   -- no line ends within so many bytes and one more
@@ -159,18 +175,26 @@ line_without held.Full len = Overlong
 line_without held.End len = if len == 0 then End else Last len
 line_without held.Fault len = Broken
 
+-- the run goes on at a position, and this is judged of the line there, which takes so many bytes
+pub record GoesBy (form : LineForm) (input : Input) (at : At) (line : List ℕ) (n : ℕ) : Type 0 where
+  pub goes : is_over form at ≡ false
+  pub stands : StandsAt form input at.place line n
+
 -- Told says which answer is that of a line.
 module _ (Told : List ℕ → Answer → Type 0) (form : LineForm) (input : Input) where
   -- the lines up to a place, and what is printed for them
   pub data Lines : At → List ℕ → Type 0 where
     none : Lines at_front []
     one_more : (at : At) (before line : List ℕ) (n : ℕ) (said : Answer) → Lines at before
-        → StandsAt form input at.place line n → Told line said
+        → GoesBy form input at line n → Told line said
         → Lines (behind at n said) (before ++ printed_line form (at.count + 1) line said)
 
 -- how a run ends there, and what is printed then
 pub data LinesEnd (form : LineForm) (input : Input) (at : At) : List ℕ → Stop → Type 0 where
-  broken : IsBrokenAt form input at.place → LinesEnd form input at [] stop.Broken
-  overlong : IsOverlongAt form input at.place → LinesEnd form input at [] (stop.LongLine (at.count + 1) form.limit)
-  finished : IsEndAt form input at.place
+  broken : is_over form at ≡ false → IsBrokenAt form input at.place → LinesEnd form input at [] stop.Broken
+  overlong : is_over form at ≡ false → IsOverlongAt form input at.place
+      → LinesEnd form input at [] (stop.LongLine (at.count + 1) form.limit)
+  finished : is_over form at ≡ false → IsEndAt form input at.place
+      → LinesEnd form input at (printed_last form.printed at) (stop.Quiet (status_after at.refused))
+  rejected : is_over form at ≡ true
       → LinesEnd form input at (printed_last form.printed at) (stop.Quiet (status_after at.refused))

@@ -9,7 +9,7 @@ use Rattle.toolrun.specs.RunSteps as steps
 use Rattle.toolrun.specs.declared.stop.Stop.{Stop}
 use Rattle.toolrun.specs.declared.stop.Stop.TheVariants.{Quiet, NoMatch, LongUnit, LongLine, Broken, NoMemory, Refused}
 use Rattle.toolrun.specs.declared.stop.Stop.TheVariants.{Unreadable}
-use Rattle.linejudge.specs.InputLines.{LinesEnd, Lines, StandsAt, at_front, behind, place_taken, says_yes}
+use Rattle.linejudge.specs.InputLines.{GoesBy, LinesEnd, Lines, at_front, behind, place_taken, says_yes}
 use Rattle.linejudge.specs.declared.answers.Answer.{Answer}
 use Rattle.linejudge.specs.declared.line.LineForm.{LineForm}
 use Rattle.linejudge.specs.declared.reached.At.{At}
@@ -61,7 +61,7 @@ module _ (Told : List ℕ → Answer → Type 0) (asked : Bool) (Refusal : List 
     pub data Refusals : At → List ℕ → Type 0 where
       none_told : Refusals at_front []
       one_told : (at : At) (before line : List ℕ) (n : ℕ) (said : Answer) (text : List ℕ) → Refusals at before
-          → StandsAt form input at.place line n → Told line said → TellsLine at line said text
+          → GoesBy form input at line n → Told line said → TellsLine at line said text
           → Refusals (behind at n said) (before ++ text)
 
     -- and how many more are rejected

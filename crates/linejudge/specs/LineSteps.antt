@@ -10,7 +10,7 @@ use Rattle.toolrun.specs.declared.ending.Ending.{Ending}
 use Rattle.toolrun.specs.declared.ending.Ending.TheVariants.{Plain, Explained, Unexplained}
 use Rattle.toolrun.specs.declared.stop.Stop.{Stop}
 use Rattle.toolrun.specs.declared.stop.Stop.TheVariants.{NoMemory}
-use Rattle.linejudge.specs.InputLines.{Lines, LinesEnd, StandsAt, printed_line}
+use Rattle.linejudge.specs.InputLines.{GoesBy, Lines, LinesEnd, printed_line}
 use Rattle.linejudge.specs.LineRefusals.{IsLong, Refusals, TellsLine, stop_lines}
 use Rattle.linejudge.specs.declared.answers.Answer.{Answer}
 use Rattle.linejudge.specs.declared.line.LineForm.{LineForm}
@@ -59,7 +59,7 @@ module _ (Told : List ℕ → Answer → Type 0) (asked : Bool) (Refusal : List 
   module _ (form : LineForm) (input : Input) where
     -- what is printed for a line, or at the end of the input, and the explanations after it
     pub data StepText (at : At) (told more : List ℕ) : List ℕ → Type 0 where
-      of_line : (line : List ℕ) (n : ℕ) (said : Answer) → StandsAt form input at.place line n → Told line said
+      of_line : (line : List ℕ) (n : ℕ) (said : Answer) → GoesBy form input at line n → Told line said
           → Adds (TellsLine Told asked Refusal at line said) told more
           → StepText at told more (printed_line form (at.count + 1) line said)
       of_end : (text : List ℕ) (why : Stop) → LinesEnd form input at text why → more ≡ told
@@ -67,7 +67,7 @@ module _ (Told : List ℕ → Answer → Type 0) (asked : Bool) (Refusal : List 
 
     -- a line was answered, or the run ends here, or an allocation failed and nothing was written
     abbrev pub IsStep : At → Option (List ℕ) → Option (List ℕ) → List ℕ → List ℕ → Result Step WriteFault → Type 0
-    IsStep at old new told more (Ok (Answers said n)) = (line : List ℕ) × StandsAt form input at.place line n
+    IsStep at old new told more (Ok (Answers said n)) = (line : List ℕ) × GoesBy form input at line n
         × Told line said × Adds (TellsLine Told asked Refusal at line said) told more
         × Appends old new (printed_line form (at.count + 1) line said)
     IsStep at old new told more (Ok (Stops why)) = (more ≡ told)

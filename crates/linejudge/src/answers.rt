@@ -128,7 +128,7 @@ fn tell_line<W, J: Judge<W>>(
 /// A line of an input.
 #[derive(Clone, Copy)]
 struct FoundLine<'a> {
-    /// Its bytes, without its end.
+    /// The bytes that are judged: without its end, or with it.
     bytes: &'a [u8],
     /// The position before it.
     at: At,

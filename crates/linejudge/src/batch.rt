@@ -1,7 +1,8 @@
 //! Lines that lie in one piece, judged together.
-ghost use Rattle.std.specs.Prelude.{◌≡◌, ◌≤◌, ◌+◌, ℕ, List, ◌++◌, drop, length};
+ghost use Rattle.std.specs.Prelude.{◌≡◌, ◌≤◌, ◌+◌, ℕ, List, ◌++◌, drop, false, length, IsTrue};
 ghost use Rattle.feed.specs.Feed.{input_limit};
 ghost use Rattle.toolrun.specs.Input.{Input};
+ghost use Rattle.linejudge.specs.InputLines.{is_over, kept_size};
 ghost use Rattle.linejudge.specs.LineSteps.{AddsLines};
 
 use crate::answers::Judge;
@@ -13,9 +14,19 @@ use memchr::memchr;
 /// No line of an answer is longer: a number of 20 digits, a colon, `no`, a blank, a number and LF.
 const MAX_ANSWER: usize = 45;
 
+/// Returns whether a run goes on at a position; with `is_plain` it does.
+#[inline(always)]
+fn goes_on(is_plain: bool, form: LineForm, at: At) -> bool
+    requires { IsTrue is_plain → form.stops ≡ false }
+    ensures { IsTrue result → is_over form at ≡ false }
+{
+    is_plain || !form.is_over(at)
+}
+
 /// Judges the whole lines at the front of some bytes in turn, from a position on, and returns the position after them.
 /// `text` is replaced by what is printed for them. It stops before a line that is too long or has no end there, where
-/// an allocation fails, and where the text has some `BATCH` bytes. No line is judged if rejected lines are explained.
+/// an allocation fails, where the run is over, and where the text has some `BATCH` bytes. No line is judged if rejected
+/// lines are explained.
 pub(crate) fn judge_front<W, J: Judge<W>>(
     judge: &J,
     work: &mut W,
@@ -24,7 +35,7 @@ pub(crate) fn judge_front<W, J: Judge<W>>(
     at: At,
     text: &mut Vec<u8>,
 ) -> At
-    requires served { form.limit ≤ J.served judge.now }
+    requires served { kept_size form form.limit ≤ J.served judge.now }
     requires work { J.works_in judge.now work.old }
     requires within { at.place + length front.now ≤ input_limit }
     requires counted { at.count ≤ at.place }
@@ -44,7 +55,7 @@ pub(crate) fn judge_front<W, J: Judge<W>>(
     let is_plain = has_plain_answers(form);
     let mut next = at;
     let mut len = 0;
-    while text.len() <= BATCH - MAX_ANSWER {
+    while text.len() <= BATCH - MAX_ANSWER && goes_on(is_plain, form, next) {
         let rest = &front[len..];
         let Some(n) = memchr(form.end, rest) else {
             return next;
@@ -52,7 +63,7 @@ pub(crate) fn judge_front<W, J: Judge<W>>(
         if n > form.limit {
             return next;
         }
-        let line = &rest[..n];
+        let line = &rest[..form.kept_size(n)];
         let Ok(said) = judge.judge(work, line) else {
             return next;
         };

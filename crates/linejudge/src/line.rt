@@ -1,11 +1,13 @@
 //! The next line at the front of what a feed holds.
-ghost use Rattle.std.specs.Prelude.{◌≡◌, ℕ, List, ◌+◌, ◌≤◌, ◌++◌, length};
+ghost use Rattle.std.specs.Prelude.{◌≡◌, ℕ, List, ◌+◌, ◌≤◌, ◌<◌, ◌^◌, ◌++◌, length};
 ghost use Rattle.feed.specs.Feed.{Grows, IsTrueOfReader, SameFeed, SameLoan, bytes_of, capacity_of, flow_of};
 ghost use Rattle.toolrun.specs.Agrees.{Agrees};
 ghost use Rattle.toolrun.specs.Input.{Input};
-ghost use Rattle.linejudge.specs.InputLines.{HasNoEnd, IsNext, IsShort, LiesWithin, line_without, taken_at};
+ghost use Rattle.linejudge.specs.InputLines.{HasNoEnd, IsNext, IsShort, LiesWithin, is_over, kept_size};
+ghost use Rattle.linejudge.specs.InputLines.{line_without, taken_at};
 
 use crate::printed::Printed;
+use crate::reached::At;
 use feed::{Feed, Held, Source};
 
 /// How an input is cut into lines, and what is printed for them.
@@ -15,10 +17,35 @@ pub struct LineForm {
     pub limit: usize,
     /// The byte that ends a line.
     pub end: u8,
+    /// Whether the end of a line belongs to what is judged.
+    pub keeps: bool,
     /// The output for each line.
     pub printed: Printed,
     /// Whether the number of a line and a colon stand before what is printed for it.
     pub numbered: bool,
+    /// Whether the run ends after the first rejected line.
+    pub stops: bool,
+}
+
+impl LineForm {
+    /// Returns how many bytes are judged of a line that has an end, and `n` bytes before it.
+    #[inline(always)]
+    pub(crate) fn kept_size(self, n: usize) -> usize
+        requires { n + 1 < 2 ^ 64 }
+        ensures size { result ≡ kept_size self n }
+        ensures most { result ≤ n + 1 }
+        ensures within { (limit : ℕ) → n ≤ limit → result ≤ kept_size self limit }
+    {
+        if self.keeps { n + 1 } else { n }
+    }
+
+    /// Returns whether a run ends at a position, after a rejected line.
+    #[inline(always)]
+    pub(crate) fn is_over(self, at: At) -> bool
+        ensures { result ≡ is_over self at }
+    {
+        0 < at.refused && self.stops
+    }
 }
 
 /// The line at the front of the rest of an input, or why there is none.

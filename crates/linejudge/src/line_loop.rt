@@ -10,8 +10,8 @@ ghost use Rattle.toolrun.specs.RunEnd.{more_refused};
 ghost use Rattle.toolrun.specs.RunSteps.{HasToldRun};
 ghost use Rattle.toolrun.specs.Stopped.{Fulfils};
 ghost use Rattle.toolrun.specs.Stream.{passed};
-ghost use Rattle.linejudge.specs.InputLines.{LinesEnd, Lines, at_front, printed_last, place_taken, status_after};
-ghost use Rattle.linejudge.specs.InputLines.{taken_at};
+ghost use Rattle.linejudge.specs.InputLines.{LinesEnd, Lines, at_front, kept_size, printed_last, place_taken};
+ghost use Rattle.linejudge.specs.InputLines.{status_after, taken_at};
 ghost use Rattle.linejudge.specs.LineRefusals.{IsLong, LinesStates, MayLack, Tells, WhyStopped, count_untold};
 ghost use Rattle.linejudge.specs.LineRefusals.{stop_lines};
 ghost use Rattle.linejudge.specs.LineSteps.{FitsIn, IsStep, IsToldEnding, StepsBehind};
@@ -54,7 +54,7 @@ fn step_of<O: Sink>(
     }
 }
 
-/// Writes what is printed at the end of the input, and returns how the run ends there.
+/// Writes what is printed at the end of a run, and returns how it ends there.
 fn end_step<O: Sink>(form: LineForm, at: At, out: &mut O) -> Result<Step, WriteFault>
     requires { O.failed out.old ≡ false }
     ensures bytes { Writes (O.contents out.old) (O.contents out.new) (printed_last form.printed at) result }
@@ -77,7 +77,7 @@ fn next_step<W, J: Judge<W>, R: Source, O: Sink>(
     out: &mut O,
 ) -> Result<Step, WriteFault>
     requires small { form.limit ≤ 16777216 }
-    requires served { form.limit ≤ J.served judge.now }
+    requires served { kept_size form form.limit ≤ J.served judge.now }
     requires work { J.works_in judge.now work.old }
     requires capacity { capacity_of feed.old ≡ form.limit + 1 }
     requires counted { reached.old.at.count ≤ reached.old.at.place }
@@ -97,9 +97,14 @@ fn next_step<W, J: Judge<W>, R: Source, O: Sink>(
     ensures fits { FitsIn (length (bytes_of feed.new)) result }
     ensures flag { Flags (O.failed out.old) (O.failed out.new) result }
 {
+    if form.is_over(reached.at) {
+        // a run that stops has taken as much as the greatest line takes there
+        feed.fill();
+        return end_step(form, reached.at, out);
+    }
     match next_line(feed, form) {
         Line::Whole(n) => {
-            let answered = answer_held(judge, work, form, feed, n, reached);
+            let answered = answer_held(judge, work, form, feed, form.kept_size(n), reached);
             step_of(answered, reached.text.as_slice(), n + 1, out)
         }
         Line::Last(n) => {
@@ -163,7 +168,7 @@ fn answer_lines<W, J: Judge<W>, R: Source, O: Sink>(
     out: &mut O,
 ) -> Result<Ending, WriteFault>
     requires small { form.limit ≤ 16777216 }
-    requires served { form.limit ≤ J.served judge.now }
+    requires served { kept_size form form.limit ≤ J.served judge.now }
     requires work { J.works_in judge.now work.old }
     requires capacity { capacity_of feed.old ≡ form.limit + 1 }
     requires empty { bytes_of feed.old ≡ [] }
@@ -215,18 +220,20 @@ fn answer_lines<W, J: Judge<W>, R: Source, O: Sink>(
 }
 
 /// Judges the lines that a reader gives, and writes the output that `form.printed` asks for. The reader may neither
-/// have failed nor have given its end before. The judge must serve lines of `form.limit` bytes, and be able to work in
-/// that memory.
+/// have failed nor have given its end before. The judge must serve lines of `form.limit` bytes, with `form.keeps` of
+/// one more, and be able to work in that memory.
 ///
 /// - An answer is `yes`, `no`, or `no` and a number. Lines that are printed keep their ends. Counts of lines are
 ///   printed at the end of the input.
 /// - If lines are numbered, a line's number from 1 and a colon stand before its answer, or before the line.
 /// - A line ends before a byte `form.end`, and a last piece without one is a line if it is not empty. All other bytes
-///   belong to their line, a CR too.
+///   belong to their line, a CR too. With `form.keeps` its end is judged with it, and a last piece without one is
+///   judged as it stands. Then lines are printed as they were judged.
 /// - The first line of more than `form.limit` bytes ends the run: `LongLine` with its number from 1 and the limit. So
 ///   it is with more than `form.limit` bytes of which none is `form.end`.
 /// - After a fault of the reader a line is judged only if its end was given; then `Broken`.
-/// - After the last line the run ends with `Done` if all answers are yes, else with `NoMatch`.
+/// - After the last line the run ends with `Done` if all answers are yes, else with `NoMatch`. With `form.stops` it
+///   ends after the first rejected line, as if that were the last one.
 /// - If the judge explains rejected lines, the ending has the explanations of the first `MAX_TOLD` of them, and how
 ///   many more there are. For a line that is too long it has the greatest length that `-l` allows.
 /// - `NoMemory` if an allocation fails. The output for the lines before stands whole, and so do the explanations of
@@ -241,7 +248,7 @@ pub fn run_lines<W, J: Judge<W>, R: Source, O: Sink>(
     out: &mut O,
 ) -> Result<Ending, WriteFault>
     requires small { form.limit ≤ 16777216 }
-    requires served { form.limit ≤ J.served judge.now }
+    requires served { kept_size form form.limit ≤ J.served judge.now }
     requires work { J.works_in judge.now work.old }
     requires reader_is_fresh { R.failed reader.old ≡ false }
     requires reader_is_open { R.ended reader.old ≡ false }

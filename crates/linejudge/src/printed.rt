@@ -1,7 +1,7 @@
 //! The output for the lines of an input, and at its end.
-ghost use Rattle.std.specs.Prelude.{◌≡◌, ◌++◌, ◌∷◌, ℕ, List, [], IsTrue, OnOk, codes, decimal, false};
+ghost use Rattle.std.specs.Prelude.{◌≡◌, ◌++◌, ℕ, List, IsTrue, OnOk, codes, decimal, false};
 ghost use Rattle.ruletable.specs.Writing.{Flags, Writes};
-ghost use Rattle.linejudge.specs.InputLines.{answer_text, count_text, is_line_printed, printed_last};
+ghost use Rattle.linejudge.specs.InputLines.{answer_text, count_text, ended_line, is_line_printed, printed_last};
 ghost use Rattle.linejudge.specs.InputLines.{number_text, printed_line, shown_text};
 ghost use Rattle.linejudge.specs.declared.answers.Answer.{Answer};
 
@@ -63,12 +63,14 @@ fn push_answer(said: Answer, text: &mut Vec<u8>) -> Result<(), Memory>
     }
 }
 
-/// Adds a line and its end. `Memory` if an allocation fails.
-fn push_bytes(line: &[u8], end: u8, text: &mut Vec<u8>) -> Result<(), Memory>
-    ensures { OnOk result (text.new.items ≡ text.old.items ++ (line.now ++ end ∷ [])) }
+/// Adds what was judged of a line, and the line's end, if the end is no part of it. `Memory` if an allocation fails.
+fn push_bytes(form: LineForm, line: &[u8], text: &mut Vec<u8>) -> Result<(), Memory>
+    ensures { OnOk result (text.new.items ≡ text.old.items ++ ended_line form line.now) }
 {
     text.extend_from_slice(line)?;
-    text.push(end)?;
+    if !form.keeps {
+        text.push(form.end)?;
+    }
     Ok(())
 }
 
@@ -85,31 +87,26 @@ fn push_head(numbered: bool, number: usize, text: &mut Vec<u8>) -> Result<(), Me
 
 /// Adds what is printed after the number: the answer, or the line and its end. `Memory` if an allocation fails.
 #[inline(always)]
-fn push_shown(
-    printed: Printed,
-    end: u8,
-    line: &[u8],
-    said: Answer,
-    text: &mut Vec<u8>,
-) -> Result<(), Memory>
-    ensures { OnOk result (text.new.items ≡ text.old.items ++ shown_text printed end line.now said) }
+fn push_shown(form: LineForm, line: &[u8], said: Answer, text: &mut Vec<u8>) -> Result<(), Memory>
+    ensures { OnOk result (text.new.items ≡ text.old.items ++ shown_text form form.printed line.now said) }
 {
-    match printed {
+    match form.printed {
         Printed::Answers => push_answer(said, text),
-        Printed::Derived => push_bytes(line, end, text),
-        Printed::Refused => push_bytes(line, end, text),
+        Printed::Derived => push_bytes(form, line, text),
+        Printed::Refused => push_bytes(form, line, text),
         Printed::Count => Ok(()),
         Printed::Nothing => Ok(()),
     }
 }
 
-/// Returns whether the answer to a line is all that is printed for it.
+/// Returns whether the answer to a line is all that is printed for it, and a run goes on after each answer.
 pub(crate) fn has_plain_answers(form: LineForm) -> bool
-    ensures { IsTrue result → (number : ℕ) (line : List ℕ) (said : Answer) →
+    ensures plain { IsTrue result → (number : ℕ) (line : List ℕ) (said : Answer) →
         printed_line form number line said ≡ answer_text said }
+    ensures goes { IsTrue result → form.stops ≡ false }
 {
     match form.printed {
-        Printed::Answers => !form.numbered,
+        Printed::Answers => !form.numbered && !form.stops,
         Printed::Derived | Printed::Refused | Printed::Count | Printed::Nothing => false,
     }
 }
@@ -148,7 +145,7 @@ pub(crate) fn push_line(
         return Ok(());
     }
     push_head(form.numbered, number, text)?;
-    push_shown(form.printed, form.end, line, said, text)
+    push_shown(form, line, said, text)
 }
 
 /// Writes how many lines before a position were derived, and how many rejected.

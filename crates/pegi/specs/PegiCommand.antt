@@ -11,9 +11,13 @@ use Rattle.pegrun.specs.declared.options.PegOptions.{PegOptions}
 abbrev pub raw_rule : Rule
 raw_rule = flag_rule (codes "raw") (code "r")
 
--- `pegi [-m MODE] [-l N] [-s RULE] [-r] [-x] GRAMMAR`
+-- `-1`
+abbrev pub whole_rule : Rule
+whole_rule = flag_rule (codes "whole") (code "1")
+
+-- `pegi [-m MODE] [-l N] [-s RULE] [-r] [-1] [-x] GRAMMAR [FILE]`
 abbrev pub pegi_app : Names → App
-pegi_app names = with_rule (tool_app names (codes "pegi")) raw_rule
+pegi_app names = with_rule (with_rule (tool_app names (codes "pegi")) raw_rule) whole_rule
 
 -- this is the command of the program
 abbrev pub IsPegiApp : App → Type 0
@@ -22,7 +26,9 @@ IsPegiApp app = (names : Names) × AreModes names × (app ≡ pegi_app names)
 -- these options are read of what is found
 pub record ReadsPegi (f : Found) (options : PegOptions) : Type 0 where
   pub raw : IsFlagOf (one_text f (codes "raw")) options.raw
+  pub whole : IsFlagOf (one_text f (codes "whole")) options.whole
 
 -- the matches ask for these options
 pub record AsksPegi (rows : List Row) (options : PegOptions) : Type 0 where
   pub raw : options.raw ≡ is_flagged (one_of (codes "raw") rows)
+  pub whole : options.whole ≡ is_flagged (one_of (codes "whole") rows)

@@ -26,6 +26,7 @@ Grammar:
 
 Input and output:
   -l, --limit <N>  Look at no more than N bytes in a unit, from 1 to 16777216 [default: 65536]
+  -1, --whole      Take the input as one unit, up to its end
   -r, --raw        Print actions verbatim
   -x, --explain    Explain messages in more lines
 
@@ -44,7 +45,7 @@ Exit status:
 Example:
   pegi username.peg letter.txt";
 
-/// The program `pegi [-m MODE] [-l N] [-s RULE] [-r] [-x] GRAMMAR [FILE]`.
+/// The program `pegi [-m MODE] [-l N] [-s RULE] [-r] [-1] [-x] GRAMMAR [FILE]`.
 pub(crate) struct Pegi;
 
 impl Program for Pegi {
@@ -60,12 +61,14 @@ impl Program for Pegi {
 
     fn command<'a>(alloc: Global) -> Result<Command<'a>, AllocError> {
         let command = tool_command(alloc, "pegi", HELP)?;
-        add_flag(command, alloc, "raw", 'r')
+        let command = add_flag(command, alloc, "raw", 'r')?;
+        add_flag(command, alloc, "whole", '1')
     }
 
     fn options(matches: &ArgMatches<'_>) -> PegOptions {
         PegOptions {
             raw: matches.get_flag("raw"),
+            whole: matches.get_flag("whole"),
         }
     }
 

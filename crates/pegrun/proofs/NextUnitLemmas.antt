@@ -7,17 +7,23 @@ use Rattle.std.specs.Prelude.{Result, Ok, Err}
 use Rattle.std.proofs.lemmas.Grind.{common_steps}
 use Rattle.std.proofs.lemmas.List.{take_all}
 use Rattle.ruletable.specs.declared.sink.WriteFault.{WriteFault}
+use Rattle.ruletable.proofs.AppendsLemmas.{Appends-same}
+use Rattle.feed.specs.Feed.{IsHeld, bytes_of, capacity_of, flow_of}
+use Rattle.feed.specs.declared.feed.Feed.{Feed}
 use Rattle.feed.specs.declared.held.Flow.{Flow}
 use Rattle.feed.specs.declared.held.Flow.TheVariants.{Ended, Broken}
+use Rattle.feed.specs.declared.held.Held.{Held}
+use Rattle.feed.specs.declared.held.Held.TheVariants as held
 use Rattle.pegread.specs.PegViews.{rules_of}
 use Rattle.gramcheck.specs.Grammar.{Grammar, IsSoundGrammar}
 use Rattle.gramcheck.proofs.StartRuleLemmas.{rises_of_start}
 use Rattle.toolrun.specs.Agrees.{Agrees}
-use Rattle.pegrun.specs.Attempts.{IsAttempt, IsStep, IsStepOn, StaysWithin, step_after, stop_at}
+use Rattle.pegrun.specs.Attempts.{IsAttempt, IsStep, IsStepOn, StaysWithin, failed_at, step_after, step_held, stop_at}
 use Rattle.toolrun.specs.Input.{Input}
-use Rattle.pegrun.specs.Units.{taken_at}
+use Rattle.pegrun.specs.Units.{Ends, MayRun, is_after_whole, over_at_end, over_before_end, taken_at}
 use Rattle.pegrun.specs.PegSettings.{PegSettings}
 use Rattle.toolrun.specs.declared.status.Status.TheVariants.{Done}
+use Rattle.toolrun.specs.declared.stop.Stop.{Stop}
 use Rattle.toolrun.specs.declared.stop.Stop.TheVariants as stop
 use Rattle.pegrun.specs.declared.attempt.Attempt.{Attempt}
 use Rattle.pegrun.specs.declared.attempt.Attempt.TheVariants.{Printed, Failed, TooLong, NoMemory}
@@ -30,36 +36,41 @@ use Rattle.pegrun.proofs.StepLemmas.{step_broken, step_is}
 same_stop : (s m n : ℕ) → (s == m) ≡ (s == n) → stop_at s m ≡ stop_at s n
 same_stop s m n e = ap (λ b. if b then stop.Quiet Done else stop.NoMatch s) e
 
-same_step : (limit s m n : ℕ) (r : Result Attempt WriteFault) → (s == m) ≡ (s == n)
-    → step_after limit s m r ≡ step_after limit s n r
-same_step limit s m n (Ok (Printed zero)) e = rw (same_stop s m n e) refl
-same_step limit s m n (Ok (Printed (suc k))) e = refl
-same_step limit s m n (Ok Failed) e = rw (same_stop s m n e) refl
-same_step limit s m n (Ok TooLong) e = refl
-same_step limit s m n (Ok NoMemory) e = refl
-same_step limit s m n (Err fault) e = refl
+same_failed : (settings : PegSettings) (s m n : ℕ) → (s == m) ≡ (s == n) → failed_at settings s m
+    ≡ failed_at settings s n
+same_failed settings s m n e =
+    ap (λ (it : Stop). if settings.options.whole then stop.NoMatch s else it) (same_stop s m n e)
+
+same_step : (settings : PegSettings) (s m n : ℕ) (r : Result Attempt WriteFault) → (s == m) ≡ (s == n)
+    → step_after settings s m r ≡ step_after settings s n r
+same_step settings s m n (Ok (Printed zero)) e = rw (same_stop s m n e) refl
+same_step settings s m n (Ok (Printed (suc k))) e = refl
+same_step settings s m n (Ok Failed) e = rw (same_failed settings s m n e) refl
+same_step settings s m n (Ok TooLong) e = refl
+same_step settings s m n (Ok NoMemory) e = refl
+same_step settings s m n (Err fault) e = refl
 
 not-equal : (s m : ℕ) → s < m → (s == m) ≡ false
 not-equal s m h = grind (arith, common_steps)
 
 -- a unit lies in what is held
-fits_of : (g : Grammar) (items : List ℕ) (more raw : Bool) (limit s : ℕ) (old new : Option (List ℕ))
+fits_of : (g : Grammar) (items : List ℕ) (more raw : Bool) (settings : PegSettings) (s : ℕ) (old new : Option (List ℕ))
     (r : Result Attempt WriteFault) → IsAttempt g items more raw old new r →
-    StaysWithin (s + length items) s (step_after limit s (s + length items) r)
-fits_of g items more raw limit s old new (Ok (Printed zero)) a = tt
-fits_of g items more raw limit s old new (Ok (Printed (suc n))) (events, looked, d, enough, wrote) =
+    StaysWithin (s + length items) s (step_after settings s (s + length items) r)
+fits_of g items more raw settings s old new (Ok (Printed zero)) a = tt
+fits_of g items more raw settings s old new (Ok (Printed (suc n))) (events, looked, d, enough, wrote) =
     let r = rises_of_start (rules_of g.rules) g.start items (suc n) looked events d in (omega arith, omega (arith, r.1))
-fits_of g items more raw limit s old new (Ok Failed) a = tt
-fits_of g items more raw limit s old new (Ok TooLong) a = tt
-fits_of g items more raw limit s old new (Ok NoMemory) a = tt
-fits_of g items more raw limit s old new (Err fault) a = tt
+fits_of g items more raw settings s old new (Ok Failed) a = tt
+fits_of g items more raw settings s old new (Ok TooLong) a = tt
+fits_of g items more raw settings s old new (Ok NoMemory) a = tt
+fits_of g items more raw settings s old new (Err fault) a = tt
 
 pub step_on_fits : (g : Grammar) (held items : List ℕ) (more : Bool) (settings : PegSettings) (s : ℕ)
     (old new : Option (List ℕ)) (r : Result Step WriteFault) → items ≡ held →
     IsStepOn g held more settings s old new r → StaysWithin (s + length items) s r
 step_on_fits g held items more settings s old new r is (attempted, a, e) =
     rw is (subst (λ v. StaysWithin (s + length held) s v) (sym e)
-    (fits_of g held more settings.options.raw settings.limit s old new attempted a))
+    (fits_of g held more settings.options.raw settings s old new attempted a))
 
 module _ (settings : PegSettings) (start : ℕ) (before items : List ℕ) (flow : Flow) (input : Input)
     (here : length before ≡ start)
@@ -77,11 +88,11 @@ module _ (settings : PegSettings) (start : ℕ) (before items : List ℕ) (flow 
         let l = ap length (rest_is before items here agrees) in
         omega (arith, l, full, length-append items agrees.more)
 
-    full_step : (g : Grammar) → IsSoundGrammar g → (old new : Option (List ℕ)) (r : Result Step WriteFault)
-        → IsStepOn g items true settings start old new r →
+    full_step : (g : Grammar) → IsSoundGrammar g → is_after_whole settings start ≡ false → (old new : Option (List ℕ))
+        (r : Result Step WriteFault) → IsStepOn g items true settings start old new r →
         IsStep (rules_of g.rules) g.start settings input start old new r
         × (length (before ++ items) ≡ taken_at settings input start)
-    full_step g sound old new r (attempted, a, e) =
+    full_step g sound goes old new r (attempted, a, e) =
         let more : true ≡ nat_lt settings.limit (length rest) = let l = rest_long in grind (arith, common_steps, l) in
         let there : IsAttempt g (take (suc settings.limit) rest)
         (nat_lt settings.limit (length rest)) settings.options.raw old
@@ -89,12 +100,12 @@ module _ (settings : PegSettings) (start : ℕ) (before items : List ℕ) (flow 
         subst (λ (b : Bool). IsAttempt g (take (suc settings.limit) rest) b settings.options.raw old new attempted) more
         (subst (λ (w : List ℕ). IsAttempt g w true settings.options.raw old new attempted)
         (sym (window_is before items here agrees (suc settings.limit) full)) a) in
-        let same = same_step settings.limit start (start + length items) (length input.bytes) attempted
+        let same = same_step settings start (start + length items) (length input.bytes) attempted
         (not-equal start (start + length items) (omega (arith, full))
         ∙ sym (not-equal start (length input.bytes)
         (let l = bytes_len before items here agrees in omega (arith, l, full)))) in (
           subst (λ v. IsStep (rules_of g.rules) g.start settings input start old new v) (sym (e ∙ same))
-              (step_is g settings input start start_inside sound (λ _. rest_long) old new attempted there),
+              (step_is g settings input start start_inside sound goes (λ _. rest_long) old new attempted there),
           taken_full before items here agrees settings.limit (omega (arith, full)),
         )
 
@@ -110,11 +121,11 @@ module _ (settings : PegSettings) (start : ℕ) (before items : List ℕ) (flow 
     taken_to_end = taken_end before items here agrees settings.limit none (omega (arith, short))
 
   end_step : flow ≡ Ended → length items ≤ settings.limit → (g : Grammar) → IsSoundGrammar g
-      → (old new : Option (List ℕ)) (r : Result Step WriteFault) →
+      → is_after_whole settings start ≡ false → (old new : Option (List ℕ)) (r : Result Step WriteFault) →
       IsStepOn g items false settings start old new r →
       IsStep (rules_of g.rules) g.start settings input start old new r
       × (length (before ++ items) ≡ taken_at settings input start)
-  end_step ended short g sound old new r (attempted, a, e) =
+  end_step ended short g sound goes old new r (attempted, a, e) =
       let last = agrees.ended ended in
       let l = short_rest last.0 short in
       let more : false ≡ nat_lt settings.limit (length rest) = grind (arith, common_steps, l) in
@@ -125,11 +136,11 @@ module _ (settings : PegSettings) (start : ℕ) (before items : List ℕ) (flow 
       new attempted =
       subst (λ (b : Bool). IsAttempt g (take (suc settings.limit) rest) b settings.options.raw old new attempted) more
       (subst (λ (w : List ℕ). IsAttempt g w false settings.options.raw old new attempted) window a) in
-      let same = same_step settings.limit start (start + length items) (length input.bytes) attempted
+      let same = same_step settings start (start + length items) (length input.bytes) attempted
       (ap (λ n. start == n) (sym (end_len last.0 short))) in (
         subst (λ v. IsStep (rules_of g.rules) g.start settings input start old new v) (sym (e ∙ same))
-            (step_is g settings input start start_inside sound (λ f. absurd (let o = last.1 in cc)) old new attempted
-            there),
+            (step_is g settings input start start_inside sound goes (λ f. absurd (let o = last.1 in cc)) old new
+            attempted there),
         taken_to_end last.0 short,
       )
 
@@ -143,19 +154,77 @@ module _ (settings : PegSettings) (start : ℕ) (before items : List ℕ) (flow 
         taken_to_end last.0 short,
       )
 
+  -- where no unit is tried, a run ends by what is held
+  module _ (over : is_after_whole settings start ≡ true) (g : Grammar) (old : Option (List ℕ)) where
+    over_there : (b : Bool) → (start == length input.bytes) ≡ b → MayRun settings input start
+        → Ends (rules_of g.rules) g.start settings input start [] (if b then stop.Quiet Done else stop.NoMatch start)
+    over_there true e may = over_at_end over may (grind (arith, common_steps, e))
+    over_there false e may =
+        let inside = start_inside in
+        let h : start < length input.bytes = grind (arith, common_steps, e, inside) in
+        over_before_end over may h
+
+    stops_over : (n : ℕ) → (start == n) ≡ (start == length input.bytes) → MayRun settings input start
+        → IsStep (rules_of g.rules) g.start settings input start old old (Ok (Stops (stop_at start n)))
+    stops_over n e may =
+        inr ([], subst (λ (it : Stop). Ends (rules_of g.rules) g.start settings input start [] it)
+        (same_stop start (length input.bytes) n (sym e)) (over_there (start == length input.bytes) refl may),
+        Appends-same old)
+
+    full_over : length items ≡ suc settings.limit
+        → IsStep (rules_of g.rules) g.start settings input start old old
+        (Ok (Stops (stop_at start (start + length items))))
+        × (length (before ++ items) ≡ taken_at settings input start)
+    full_over full =
+        let l = bytes_len before items here agrees in (
+          stops_over (start + length items)
+              (not-equal start (start + length items) (omega (arith, full))
+              ∙ sym (not-equal start (length input.bytes) (omega (arith, l, full)))) (λ _. omega (arith, l, full)),
+          taken_full before items here agrees settings.limit (omega (arith, full)),
+        )
+
+    end_over : flow ≡ Ended → length items ≤ settings.limit
+        → IsStep (rules_of g.rules) g.start settings input start old old
+        (Ok (Stops (stop_at start (start + length items))))
+        × (length (before ++ items) ≡ taken_at settings input start)
+    end_over ended short =
+        let last = agrees.ended ended in (
+          stops_over (start + length items) (ap (λ n. start == n) (sym (end_len last.0 short)))
+              (λ f. absurd (let o = last.1 in cc)),
+          taken_to_end last.0 short,
+        )
+
+    pub over_step : {R : Type 0} (f : Feed R) (held : Held) → IsHeld f held → bytes_of f ≡ items → flow_of f ≡ flow
+        → capacity_of f ≡ settings.limit + 1
+        → IsStep (rules_of g.rules) g.start settings input start old old
+        (Ok (step_held held start (start + length items)))
+        × (length (before ++ items) ≡ taken_at settings input start)
+    over_step f held.Full is same flows room = full_over (let l = ap length same in omega (arith, l, is, room))
+    over_step f held.End is same flows room =
+        end_over (sym flows ∙ is.0) (let l = ap length same in let lt = is.1 in omega (arith, l, lt, room))
+    over_step f held.Fault is same flows room =
+        broken_step (sym flows ∙ is.0) (let l = ap length same in let lt = is.1 in omega (arith, l, lt, room)) g old _
+        refl
+
+-- no bytes are taken where no unit is tried
+pub over_fits : (held : Held) (s n len : ℕ) → StaysWithin len s (Ok (step_held held s n))
+over_fits held.Full s n len = tt
+over_fits held.End s n len = tt
+over_fits held.Fault s n len = tt
+
 -- what is held stays so as it is looked at
-module _ (g : Grammar) (sound : IsSoundGrammar g) (settings : PegSettings) (start : ℕ) (before held items : List ℕ)
-    (flow : Flow) (input : Input)
+module _ (g : Grammar) (sound : IsSoundGrammar g) (settings : PegSettings) (start : ℕ)
+    (goes : is_after_whole settings start ≡ false) (before held items : List ℕ) (flow : Flow) (input : Input)
     (here : length before ≡ start) (agrees : Agrees (before ++ items) flow input) (is : items ≡ held)
     (old new : Option (List ℕ)) (r : Result Step WriteFault) where
   pub full_window : length held ≡ suc settings.limit → IsStepOn g held true settings start old new r →
       IsStep (rules_of g.rules) g.start settings input start old new r
       × (length (before ++ items) ≡ taken_at settings input start)
-  full_window full on = rw is (full_step settings start before held flow input here (rw is at agrees) full g sound old
-      new r on)
+  full_window full on = rw is (full_step settings start before held flow input here (rw is at agrees) full g sound goes
+      old new r on)
 
   pub last_window : flow ≡ Ended → length held ≤ settings.limit → IsStepOn g held false settings start old new r →
       IsStep (rules_of g.rules) g.start settings input start old new r
       × (length (before ++ items) ≡ taken_at settings input start)
   last_window ended short on = rw is (end_step settings start before held flow input here (rw is at agrees) ended short
-      g sound old new r on)
+      g sound goes old new r on)

@@ -1,7 +1,7 @@
 -- The units of an input and how a run on it ends are determined, and so is its reply.
 -- Serves: one_reply
-use Rattle.std.proofs.Common.{◌≡◌, ℕ, ◌+◌, ◌<◌, ◌≤◌, true, List, [], ◌++◌, length, refl, sym, ◌∙◌, ap, subst, arith}
-use Rattle.std.proofs.Common.{Option, Some, take}
+use Rattle.std.proofs.Common.{◌≡◌, ℕ, ◌+◌, ◌<◌, ◌≤◌, true, false, List, [], ◌++◌, length, refl, sym, ◌∙◌, ap, subst}
+use Rattle.std.proofs.Common.{Option, Some, take, arith}
 use Rattle.pegread.specs.Pattern.{Rule}
 use Rattle.gramcheck.specs.Outcome.{Outcome, Fails, Takes, RuleGives}
 use Rattle.gramcheck.proofs.StartRuleLemmas.{same_of_start}
@@ -13,7 +13,8 @@ use Rattle.toolrun.specs.Reply.{Reply, explained_reply}
 use Rattle.toolrun.specs.Status.{code_of}
 use Rattle.toolrun.specs.Stop.{message_of, status_of}
 use Rattle.pegrun.specs.Units.{taken_at, rest_from, MayRun, GivesAt, IsUnit, Units, none, one_more, Ends, broken}
-use Rattle.pegrun.specs.Units.{overlong, no_match, finished, empty_before_end, empty_at_end}
+use Rattle.pegrun.specs.Units.{overlong, no_match, finished, no_unit, empty_before_end, empty_at_end, is_after_whole}
+use Rattle.pegrun.specs.Units.{over_before_end, over_at_end}
 use Rattle.pegrun.specs.PegSettings.{PegSettings}
 use Rattle.toolrun.specs.declared.stop.Stop.{Stop}
 use Rattle.toolrun.specs.declared.stop.Stop.TheVariants.{Quiet, NoMatch, LongUnit, LongLine, Broken, NoMemory, Refused}
@@ -197,17 +198,24 @@ module _ (rules : List Rule) (start : ℕ) (settings : PegSettings) (input : Inp
   few_bytes : (s : ℕ) → input.fault ≡ true → length input.bytes < s + settings.limit + 1 → MayRun settings input s → ⊥
   few_bytes s fault few may = let m = may fault in omega (arith, m, few)
 
+  -- where no unit is tried, none is
+  not_over : (s : ℕ) → is_after_whole settings s ≡ false → is_after_whole settings s ≡ true → ⊥
+  not_over s goes over = cc (goes, over)
+
   -- no run ends where a unit of some bytes stands
   no_end : (s s' : ℕ) (last : List ℕ) (stop : Stop) → Reaches s s' → EndsAt s last stop → ⊥
   no_end s s' last stop r (broken fault few) = few_bytes s fault few r.unit.gives.may_run
-  no_end s s' last stop r (overlong o looked may d over) = not_long s looked o (Takes r.bytes r.unit.events) d over
+  no_end s s' last stop r (overlong o looked goes may d over) = not_long s looked o (Takes r.bytes r.unit.events) d over
       r.unit.gives
   no_end s s' last stop r (no_match d inside) = not_both s r.bytes r.text d r.unit
-  no_end s s' last stop r (finished d all) = not_both s r.bytes r.text d r.unit
+  no_end s s' last stop r (finished w d all) = not_both s r.bytes r.text d r.unit
+  no_end s s' last stop r (no_unit w d all) = not_both s r.bytes r.text d r.unit
   no_end s s' last stop r (empty_before_end text u inside) = let h = one_unit s 0 r.bytes last r.text u r.unit in
       omega (arith, h.bytes, r.some)
   no_end s s' last stop r (empty_at_end text u all) = let h = one_unit s 0 r.bytes last r.text u r.unit in
       omega (arith, h.bytes, r.some)
+  no_end s s' last stop r (over_before_end is may lt) = not_over s r.unit.gives.goes is
+  no_end s s' last stop r (over_at_end is may all) = not_over s r.unit.gives.goes is
 
   -- two ends are the same
   record OneEnd (last other : List ℕ) (stop end : Stop) : Type 0 where
@@ -218,50 +226,121 @@ module _ (rules : List Rule) (start : ℕ) (settings : PegSettings) (input : Inp
   one_end : (s : ℕ) (last other : List ℕ) (stop end : Stop) → EndsAt s last stop → EndsAt s other end
       → OneEnd last other stop end
   one_end s last other stop end (broken f few) (broken f' few') = record { lasts = refl; stops = refl }
-  one_end s last other stop end (broken f few) (overlong o n may d over) = absurd (few_bytes s f few may)
-  one_end s last other stop end (broken f few) (no_match d lt) = absurd (few_bytes s f few d.may_run)
-  one_end s last other stop end (broken f few) (finished d all) = absurd (few_bytes s f few d.may_run)
-  one_end s last other stop end (broken f few) (empty_before_end text u lt) = absurd (few_bytes s f few u.gives.may_run)
-  one_end s last other stop end (broken f few) (empty_at_end text u all) = absurd (few_bytes s f few u.gives.may_run)
-  one_end s last other stop end (overlong o n may d over) (broken f few) = absurd (few_bytes s f few may)
-  one_end s last other stop end (overlong o n may d over) (overlong o' n' may' d' over') =
+  one_end s last other stop end (broken f few) (overlong o' n' goes' may' d' over') = absurd (few_bytes s f few may')
+  one_end s last other stop end (broken f few) (no_match d' lt') = absurd (few_bytes s f few d'.may_run)
+  one_end s last other stop end (broken f few) (finished w' d' all') = absurd (few_bytes s f few d'.may_run)
+  one_end s last other stop end (broken f few) (no_unit w' d' all') = absurd (few_bytes s f few d'.may_run)
+  one_end s last other stop end (broken f few) (empty_before_end text' u' lt') =
+      absurd (few_bytes s f few u'.gives.may_run)
+  one_end s last other stop end (broken f few) (empty_at_end text' u' all') =
+      absurd (few_bytes s f few u'.gives.may_run)
+  one_end s last other stop end (broken f few) (over_before_end is' may' lt') = absurd (few_bytes s f few may')
+  one_end s last other stop end (broken f few) (over_at_end is' may' all') = absurd (few_bytes s f few may')
+  one_end s last other stop end (overlong o n goes may d over) (broken f' few') = absurd (few_bytes s f' few' may)
+  one_end s last other stop end (overlong o n goes may d over) (overlong o' n' goes' may' d' over') =
       record { lasts = refl; stops = refl }
-  one_end s last other stop end (overlong o n may d over) (no_match g lt) = absurd (not_long s n o Fails d over g)
-  one_end s last other stop end (overlong o n may d over) (finished g all) = absurd (not_long s n o Fails d over g)
-  one_end s last other stop end (overlong o n may d over) (empty_before_end text u lt) =
-      absurd (not_long s n o (Takes 0 u.events) d over u.gives)
-  one_end s last other stop end (overlong o n may d over) (empty_at_end text u all) =
-      absurd (not_long s n o (Takes 0 u.events) d over u.gives)
-  one_end s last other stop end (no_match d lt) (broken f few) = absurd (few_bytes s f few d.may_run)
-  one_end s last other stop end (no_match d lt) (overlong o n may g over) = absurd (not_long s n o Fails g over d)
-  one_end s last other stop end (no_match d lt) (no_match g lt') = record { lasts = refl; stops = refl }
-  one_end s last other stop end (no_match d lt) (finished g all) = absurd (omega (arith, lt, all))
-  one_end s last other stop end (no_match d lt) (empty_before_end text u lt') = absurd (not_both s 0 text d u)
-  one_end s last other stop end (no_match d lt) (empty_at_end text u all) = absurd (not_both s 0 text d u)
-  one_end s last other stop end (finished d all) (broken f few) = absurd (few_bytes s f few d.may_run)
-  one_end s last other stop end (finished d all) (overlong o n may g over) = absurd (not_long s n o Fails g over d)
-  one_end s last other stop end (finished d all) (no_match g lt) = absurd (omega (arith, lt, all))
-  one_end s last other stop end (finished d all) (finished g all') = record { lasts = refl; stops = refl }
-  one_end s last other stop end (finished d all) (empty_before_end text u lt) = absurd (not_both s 0 text d u)
-  one_end s last other stop end (finished d all) (empty_at_end text u all') = absurd (not_both s 0 text d u)
-  one_end s last other stop end (empty_before_end text u lt) (broken f few) = absurd (few_bytes s f few u.gives.may_run)
-  one_end s last other stop end (empty_before_end text u lt) (overlong o n may d over) =
-      absurd (not_long s n o (Takes 0 u.events) d over u.gives)
-  one_end s last other stop end (empty_before_end text u lt) (no_match d lt') = absurd (not_both s 0 text d u)
-  one_end s last other stop end (empty_before_end text u lt) (finished d all) = absurd (not_both s 0 text d u)
+  one_end s last other stop end (overlong o n goes may d over) (no_match d' lt') =
+      absurd (not_long s n o Fails d over d')
+  one_end s last other stop end (overlong o n goes may d over) (finished w' d' all') =
+      absurd (not_long s n o Fails d over d')
+  one_end s last other stop end (overlong o n goes may d over) (no_unit w' d' all') =
+      absurd (not_long s n o Fails d over d')
+  one_end s last other stop end (overlong o n goes may d over) (empty_before_end text' u' lt') =
+      absurd (not_long s n o (Takes 0 u'.events) d over u'.gives)
+  one_end s last other stop end (overlong o n goes may d over) (empty_at_end text' u' all') =
+      absurd (not_long s n o (Takes 0 u'.events) d over u'.gives)
+  one_end s last other stop end (overlong o n goes may d over) (over_before_end is' may' lt') =
+      absurd (not_over s goes is')
+  one_end s last other stop end (overlong o n goes may d over) (over_at_end is' may' all') =
+      absurd (not_over s goes is')
+  one_end s last other stop end (no_match d lt) (broken f' few') = absurd (few_bytes s f' few' d.may_run)
+  one_end s last other stop end (no_match d lt) (overlong o' n' goes' may' d' over') =
+      absurd (not_long s n' o' Fails d' over' d)
+  one_end s last other stop end (no_match d lt) (no_match d' lt') = record { lasts = refl; stops = refl }
+  one_end s last other stop end (no_match d lt) (finished w' d' all') = absurd (omega (arith, lt, all'))
+  one_end s last other stop end (no_match d lt) (no_unit w' d' all') = absurd (omega (arith, lt, all'))
+  one_end s last other stop end (no_match d lt) (empty_before_end text' u' lt') = absurd (not_both s 0 text' d u')
+  one_end s last other stop end (no_match d lt) (empty_at_end text' u' all') = absurd (not_both s 0 text' d u')
+  one_end s last other stop end (no_match d lt) (over_before_end is' may' lt') = absurd (not_over s d.goes is')
+  one_end s last other stop end (no_match d lt) (over_at_end is' may' all') = absurd (not_over s d.goes is')
+  one_end s last other stop end (finished w d all) (broken f' few') = absurd (few_bytes s f' few' d.may_run)
+  one_end s last other stop end (finished w d all) (overlong o' n' goes' may' d' over') =
+      absurd (not_long s n' o' Fails d' over' d)
+  one_end s last other stop end (finished w d all) (no_match d' lt') = absurd (omega (arith, all, lt'))
+  one_end s last other stop end (finished w d all) (finished w' d' all') = record { lasts = refl; stops = refl }
+  one_end s last other stop end (finished w d all) (no_unit w' d' all') = absurd (cc)
+  one_end s last other stop end (finished w d all) (empty_before_end text' u' lt') = absurd (not_both s 0 text' d u')
+  one_end s last other stop end (finished w d all) (empty_at_end text' u' all') = absurd (not_both s 0 text' d u')
+  one_end s last other stop end (finished w d all) (over_before_end is' may' lt') = absurd (not_over s d.goes is')
+  one_end s last other stop end (finished w d all) (over_at_end is' may' all') = absurd (not_over s d.goes is')
+  one_end s last other stop end (no_unit w d all) (broken f' few') = absurd (few_bytes s f' few' d.may_run)
+  one_end s last other stop end (no_unit w d all) (overlong o' n' goes' may' d' over') =
+      absurd (not_long s n' o' Fails d' over' d)
+  one_end s last other stop end (no_unit w d all) (no_match d' lt') = absurd (omega (arith, all, lt'))
+  one_end s last other stop end (no_unit w d all) (finished w' d' all') = absurd (cc)
+  one_end s last other stop end (no_unit w d all) (no_unit w' d' all') = record { lasts = refl; stops = refl }
+  one_end s last other stop end (no_unit w d all) (empty_before_end text' u' lt') = absurd (not_both s 0 text' d u')
+  one_end s last other stop end (no_unit w d all) (empty_at_end text' u' all') = absurd (not_both s 0 text' d u')
+  one_end s last other stop end (no_unit w d all) (over_before_end is' may' lt') = absurd (not_over s d.goes is')
+  one_end s last other stop end (no_unit w d all) (over_at_end is' may' all') = absurd (not_over s d.goes is')
+  one_end s last other stop end (empty_before_end text u lt) (broken f' few') =
+      absurd (few_bytes s f' few' u.gives.may_run)
+  one_end s last other stop end (empty_before_end text u lt) (overlong o' n' goes' may' d' over') =
+      absurd (not_long s n' o' (Takes 0 u.events) d' over' u.gives)
+  one_end s last other stop end (empty_before_end text u lt) (no_match d' lt') = absurd (not_both s 0 text d' u)
+  one_end s last other stop end (empty_before_end text u lt) (finished w' d' all') = absurd (not_both s 0 text d' u)
+  one_end s last other stop end (empty_before_end text u lt) (no_unit w' d' all') = absurd (not_both s 0 text d' u)
   one_end s last other stop end (empty_before_end text u lt) (empty_before_end text' u' lt') =
       record { lasts = (one_unit s 0 0 text text' u u').texts; stops = refl }
-  one_end s last other stop end (empty_before_end text u lt) (empty_at_end text' u' all) =
-      absurd (omega (arith, lt, all))
-  one_end s last other stop end (empty_at_end text u all) (broken f few) = absurd (few_bytes s f few u.gives.may_run)
-  one_end s last other stop end (empty_at_end text u all) (overlong o n may d over) =
-      absurd (not_long s n o (Takes 0 u.events) d over u.gives)
-  one_end s last other stop end (empty_at_end text u all) (no_match d lt) = absurd (not_both s 0 text d u)
-  one_end s last other stop end (empty_at_end text u all) (finished d all') = absurd (not_both s 0 text d u)
-  one_end s last other stop end (empty_at_end text u all) (empty_before_end text' u' lt) =
-      absurd (omega (arith, lt, all))
+  one_end s last other stop end (empty_before_end text u lt) (empty_at_end text' u' all') =
+      absurd (omega (arith, lt, all'))
+  one_end s last other stop end (empty_before_end text u lt) (over_before_end is' may' lt') =
+      absurd (not_over s u.gives.goes is')
+  one_end s last other stop end (empty_before_end text u lt) (over_at_end is' may' all') =
+      absurd (not_over s u.gives.goes is')
+  one_end s last other stop end (empty_at_end text u all) (broken f' few') =
+      absurd (few_bytes s f' few' u.gives.may_run)
+  one_end s last other stop end (empty_at_end text u all) (overlong o' n' goes' may' d' over') =
+      absurd (not_long s n' o' (Takes 0 u.events) d' over' u.gives)
+  one_end s last other stop end (empty_at_end text u all) (no_match d' lt') = absurd (not_both s 0 text d' u)
+  one_end s last other stop end (empty_at_end text u all) (finished w' d' all') = absurd (not_both s 0 text d' u)
+  one_end s last other stop end (empty_at_end text u all) (no_unit w' d' all') = absurd (not_both s 0 text d' u)
+  one_end s last other stop end (empty_at_end text u all) (empty_before_end text' u' lt') =
+      absurd (omega (arith, all, lt'))
   one_end s last other stop end (empty_at_end text u all) (empty_at_end text' u' all') =
       record { lasts = (one_unit s 0 0 text text' u u').texts; stops = refl }
+  one_end s last other stop end (empty_at_end text u all) (over_before_end is' may' lt') =
+      absurd (not_over s u.gives.goes is')
+  one_end s last other stop end (empty_at_end text u all) (over_at_end is' may' all') =
+      absurd (not_over s u.gives.goes is')
+  one_end s last other stop end (over_before_end is may lt) (broken f' few') = absurd (few_bytes s f' few' may)
+  one_end s last other stop end (over_before_end is may lt) (overlong o' n' goes' may' d' over') =
+      absurd (not_over s goes' is)
+  one_end s last other stop end (over_before_end is may lt) (no_match d' lt') = absurd (not_over s d'.goes is)
+  one_end s last other stop end (over_before_end is may lt) (finished w' d' all') = absurd (not_over s d'.goes is)
+  one_end s last other stop end (over_before_end is may lt) (no_unit w' d' all') = absurd (not_over s d'.goes is)
+  one_end s last other stop end (over_before_end is may lt) (empty_before_end text' u' lt') =
+      absurd (not_over s u'.gives.goes is)
+  one_end s last other stop end (over_before_end is may lt) (empty_at_end text' u' all') =
+      absurd (not_over s u'.gives.goes is)
+  one_end s last other stop end (over_before_end is may lt) (over_before_end is' may' lt') =
+      record { lasts = refl; stops = refl }
+  one_end s last other stop end (over_before_end is may lt) (over_at_end is' may' all') =
+      absurd (omega (arith, lt, all'))
+  one_end s last other stop end (over_at_end is may all) (broken f' few') = absurd (few_bytes s f' few' may)
+  one_end s last other stop end (over_at_end is may all) (overlong o' n' goes' may' d' over') =
+      absurd (not_over s goes' is)
+  one_end s last other stop end (over_at_end is may all) (no_match d' lt') = absurd (not_over s d'.goes is)
+  one_end s last other stop end (over_at_end is may all) (finished w' d' all') = absurd (not_over s d'.goes is)
+  one_end s last other stop end (over_at_end is may all) (no_unit w' d' all') = absurd (not_over s d'.goes is)
+  one_end s last other stop end (over_at_end is may all) (empty_before_end text' u' lt') =
+      absurd (not_over s u'.gives.goes is)
+  one_end s last other stop end (over_at_end is may all) (empty_at_end text' u' all') =
+      absurd (not_over s u'.gives.goes is)
+  one_end s last other stop end (over_at_end is may all) (over_before_end is' may' lt') =
+      absurd (omega (arith, all, lt'))
+  one_end s last other stop end (over_at_end is may all) (over_at_end is' may' all') =
+      record { lasts = refl; stops = refl }
 
   abbrev PlainReply : Reply → Type 0
   PlainReply reply = PlainReplies rules start settings input reply

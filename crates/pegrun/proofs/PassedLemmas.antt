@@ -92,7 +92,8 @@ drop_more s xs (f ∷ fs) ys h =
     subst (λ (n : ℕ). drop n xs ≡ ys) same (drop_more (s + 1) xs fs ys (drop_one s xs f (fs ++ ys) h))
 
 module _ (g : Grammar) (settings : PegSettings) (input : Input) (units : ByteUnits)
-    (are : AreByteUnits g settings.options.raw units) (room : 0 < settings.limit) where
+    (are : AreByteUnits g settings.options.raw units) (room : (0 < settings.limit) × (settings.options.whole ≡ false))
+  where
   abbrev UnitsTo : ℕ → List ℕ → Type 0
   UnitsTo s text = Units (rules_of g.rules) g.start settings input s text
 
@@ -107,10 +108,11 @@ module _ (g : Grammar) (settings : PegSettings) (input : Input) (units : ByteUni
       record {
         events = unit.0;
         gives = record {
+          goes = rw room.1 refl;
           may_run = may;
           looked = unit.1;
           gives = rw here unit.2;
-          within = omega (arith, unit.3, room);
+          within = omega (arith, unit.3, room.0);
         };
         prints = unit.4 ∙ ap (λ x. text_of settings.options.raw x unit.0) (sym here);
       }
@@ -237,7 +239,7 @@ moved_units rules start settings input s text it =
 module _ {R : Type 0} (remaining : R → Option (List ℕ)) (units : ByteUnits) (settings : PegSettings) (f0 f1 f2 : Feed R)
     (bytes : List ℕ) (some : 0 < length bytes) (first : IsBeginning bytes (bytes_of f0))
     (are_known : prefix_len (is_known units) bytes ≡ length bytes) (count : ℕ) (is_count : count ≡ length bytes)
-    (room : 0 < settings.limit) (capacity : capacity_of f0 ≡ settings.limit + 1)
+    (room : (0 < settings.limit) × (settings.options.whole ≡ false)) (capacity : capacity_of f0 ≡ settings.limit + 1)
     (skip_bytes : bytes_of f1 ≡ drop (count - 1) (bytes_of f0)) (skip_reader : reader_of f1 ≡ reader_of f0)
     (skip_flow : flow_of f1 ≡ flow_of f0) (skip_allowance : allowance_of f1 ≡ allowance_of f0)
     (skip_capacity : capacity_of f1 ≡ capacity_of f0) (grows : Grows remaining f1 f2) (why : Held)

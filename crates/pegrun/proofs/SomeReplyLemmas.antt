@@ -19,7 +19,8 @@ use Rattle.toolrun.specs.RunSteps.{Begins}
 use Rattle.toolrun.specs.Status.{code_of}
 use Rattle.toolrun.specs.Stop.{message_of, status_of}
 use Rattle.pegrun.specs.Units.{taken_at, MayRun, GivesAt, IsUnit, Units, none, one_more, Ends, broken, overlong}
-use Rattle.pegrun.specs.Units.{no_match, finished, empty_before_end, empty_at_end}
+use Rattle.pegrun.specs.Units.{no_match, finished, no_unit, empty_before_end, empty_at_end, is_after_whole}
+use Rattle.pegrun.specs.Units.{over_at_end, over_before_end}
 use Rattle.pegrun.specs.PegSettings.{PegSettings}
 use Rattle.toolrun.specs.declared.status.Status.TheVariants.{Done}
 use Rattle.toolrun.specs.declared.stop.Stop.{Stop}
@@ -111,10 +112,18 @@ module _ (g : Grammar) (settings : PegSettings) (input : Input) where
     | inr before ↦ goes_to_stop s text last (NoMatch s) units (empty_before_end last unit (omega arith))
   ]
 
+  goes_at_last : (w : Bool) → settings.options.whole ≡ w → (s : ℕ) (text : List ℕ) → UnitsTo s text
+      → s ≡ length input.bytes → GivesAt (rules_of g.rules) g.start settings input s Fails
+      → Goes g settings input s text
+  goes_at_last true w s text units at_end d =
+      goes_before s s text [] (omega arith) (goes_to_stop s text [] (NoMatch s) units (no_unit w d at_end))
+  goes_at_last false w s text units at_end d =
+      goes_before s s text [] (omega arith) (goes_to_stop s text [] (Quiet Done) units (finished w d at_end))
+
   goes_at_failure : (s : ℕ) (text : List ℕ) → UnitsTo s text → s ≤ length input.bytes
       → GivesAt (rules_of g.rules) g.start settings input s Fails → Goes g settings input s text
   goes_at_failure s text units inside d = elim (cases_eq s (length input.bytes)) [
-    | inl at_end ↦ goes_before s s text [] (omega arith) (goes_to_stop s text [] (Quiet Done) units (finished d at_end))
+    | inl at_end ↦ goes_at_last settings.options.whole refl s text units at_end d
     | inr before ↦ goes_before s s text [] (omega arith)
         (goes_to_stop s text [] (NoMatch s) units (no_match d (omega arith)))
   ]
@@ -124,6 +133,16 @@ module _ (g : Grammar) (settings : PegSettings) (input : Input) where
   may_run s false e = inl (λ f. absurd (cc))
   may_run s true e = elim (cases_lt (length input.bytes) (s + settings.limit + 1))
       [ inl short ↦ inr (sym e, short) | inr long ↦ inl (λ f. long) ]
+
+  -- where no unit is tried
+  goes_over : (s : ℕ) (text : List ℕ) → UnitsTo s text → s ≤ length input.bytes → is_after_whole settings s ≡ true
+      → MayRun settings input s → Goes g settings input s text
+  goes_over s text units inside over may = elim (cases_eq s (length input.bytes)) [
+    | inl at_end ↦ goes_before s s text [] (omega arith)
+        (goes_to_stop s text [] (Quiet Done) units (over_at_end over may at_end))
+    | inr before ↦ goes_before s s text [] (omega arith)
+        (goes_to_stop s text [] (NoMatch s) units (over_before_end over may (omega arith)))
+  ]
 
   -- whatever stands at a place within so many bytes of the end, some reply goes on from it
   abbrev GoesFrom : ℕ → Type 0
@@ -147,22 +166,29 @@ module _ (g : Grammar) (settings : PegSettings) (input : Input) where
 
   module _ (sound : IsSoundGrammar g) where
     goes_on : (fuel s : ℕ) (text : List ℕ) → GoesFrom fuel → UnitsTo s text → s ≤ length input.bytes
-        → length input.bytes < s + suc fuel →
-        MayRun settings input s → Goes g settings input s text
-    goes_on fuel s text later units inside room may =
+        → length input.bytes < s + suc fuel → is_after_whole settings s ≡ false
+        → MayRun settings input s → Goes g settings input s text
+    goes_on fuel s text later units inside room goes may =
         let some = has_of_start (rules_of g.rules) g.start (shapes_of g.nodes) g.bodies g.ranks sound (rest s) in
         elim (cases_lt settings.limit some.1) [
           | inl over ↦ goes_before s s text [] (omega arith)
-              (goes_to_stop s text [] (LongUnit s settings.limit) units (overlong some.0 some.1 may some.2 over))
+              (goes_to_stop s text [] (LongUnit s settings.limit) units (overlong some.0 some.1 goes may some.2 over))
           | inr le ↦ goes_within fuel s text later units inside room some.0
-              (record { may_run = may; looked = some.1; gives = some.2; within = le })
+              (record { goes = goes; may_run = may; looked = some.1; gives = some.2; within = le })
         ]
+
+    -- where the bytes of a unit are there
+    goes_by : (b : Bool) (fuel s : ℕ) (text : List ℕ) → GoesFrom fuel → UnitsTo s text → s ≤ length input.bytes
+        → length input.bytes < s + suc fuel → is_after_whole settings s ≡ b → MayRun settings input s
+        → Goes g settings input s text
+    goes_by true fuel s text later units inside room over may = goes_over s text units inside over may
+    goes_by false fuel s text later units inside room goes may = goes_on fuel s text later units inside room goes may
 
     goes_with_fuel : (fuel : ℕ) → GoesFrom fuel
     goes_with_fuel zero s text units inside room = absurd (omega arith)
     goes_with_fuel (suc fuel) s text units inside room = elim (may_run s input.fault refl) [
       | inr cut ↦ goes_before s s text [] (omega arith) (goes_to_stop s text [] Broken units (broken cut.0 cut.1))
-      | inl may ↦ goes_on fuel s text (goes_with_fuel fuel) units inside room may
+      | inl may ↦ goes_by (is_after_whole settings s) fuel s text (goes_with_fuel fuel) units inside room refl may
     ]
 
     pub units_go_on : (s : ℕ) (text : List ℕ) → UnitsTo s text → Goes g settings input s text

@@ -16,7 +16,7 @@ use Rattle.pegmatch.specs.Text.{text_of}
 use Rattle.pegrun.specs.Attempts.{IsAttempt, IsStep, StaysWithin, step_after}
 use Rattle.toolrun.specs.Input.{Input}
 use Rattle.pegrun.specs.Units.{MayRun, GivesAt, IsUnit, Ends, broken, overlong, no_match, finished, empty_before_end}
-use Rattle.pegrun.specs.Units.{empty_at_end}
+use Rattle.pegrun.specs.Units.{empty_at_end, is_after_whole, no_unit}
 use Rattle.pegrun.specs.PegSettings.{PegSettings}
 use Rattle.toolrun.specs.declared.status.Status.TheVariants.{Done}
 use Rattle.toolrun.specs.declared.stop.Stop.TheVariants.{Quiet, NoMatch, Broken}
@@ -39,7 +39,8 @@ module _ (g : Grammar) (settings : PegSettings) (input : Input) (s : ℕ) (insid
       (last : List ℕ) × Ends (rules_of g.rules) g.start settings input s last Broken × Appends old old last
   step_broken old fault short = let l = length-drop s input.bytes in ([], broken fault (omega arith), Appends-same old)
 
-  module _ (sound : IsSoundGrammar g) (may : input.fault ≡ true → settings.limit < length rest) where
+  module _ (sound : IsSoundGrammar g) (goes : is_after_whole settings s ≡ false)
+      (may : input.fault ≡ true → settings.limit < length rest) where
     may_run : MayRun settings input s
     may_run f = let l = length-drop s input.bytes in let lt = may f in omega arith
 
@@ -47,7 +48,13 @@ module _ (g : Grammar) (settings : PegSettings) (input : Input) (s : ℕ) (insid
         → GivesAt (rules_of g.rules) g.start settings input s o
     gives_at o looked d enough =
         let seen_here = window_seen g rest settings.limit o looked d enough in
-        record { may_run = may_run; looked = seen_here.looked; gives = seen_here.gives; within = seen_here.within }
+        record {
+          goes = goes;
+          may_run = may_run;
+          looked = seen_here.looked;
+          gives = seen_here.gives;
+          within = seen_here.within;
+        }
 
     is_unit : (k : ℕ) (events : List Event) (looked : ℕ) → StartGives g window (Takes k events) looked
         → WasEnough window more looked →
@@ -58,11 +65,14 @@ module _ (g : Grammar) (settings : PegSettings) (input : Input) (s : ℕ) (insid
       prints = seen_text g rest settings.limit settings.options.raw k events looked d;
     }
 
-    fails_here : (b : Bool) → (s == length input.bytes) ≡ b → GivesAt (rules_of g.rules) g.start settings input s
-        Fails →
-        Ends (rules_of g.rules) g.start settings input s [] (if b then Quiet Done else NoMatch s)
-    fails_here true e d = finished d (grind (arith, common_steps, e))
-    fails_here false e d = let h : s < length input.bytes = grind (arith, common_steps, e) in no_match d h
+    fails_here : (w b : Bool) → settings.options.whole ≡ w → (s == length input.bytes) ≡ b
+        → GivesAt (rules_of g.rules) g.start settings input s Fails
+        → Ends (rules_of g.rules) g.start settings input s []
+        (if w then NoMatch s else (if b then Quiet Done else NoMatch s))
+    fails_here true true w e d = no_unit w d (grind (arith, common_steps, e))
+    fails_here true false w e d = let h : s < length input.bytes = grind (arith, common_steps, e) in no_match d h
+    fails_here false true w e d = finished w d (grind (arith, common_steps, e))
+    fails_here false false w e d = let h : s < length input.bytes = grind (arith, common_steps, e) in no_match d h
 
     empty_here : (b : Bool) (text : List ℕ) → (s == length input.bytes) ≡ b → IsUnit (rules_of g.rules) g.start settings
         input s 0 text →
@@ -74,24 +84,28 @@ module _ (g : Grammar) (settings : PegSettings) (input : Input) (s : ℕ) (insid
     pub step_is : (old new : Option (List ℕ)) (r : Result Attempt WriteFault)
         → IsAttempt g window more settings.options.raw old
         new r →
-        IsStep (rules_of g.rules) g.start settings input s old new (step_after settings.limit s (length input.bytes) r)
+        IsStep (rules_of g.rules) g.start settings input s old new (step_after settings s (length input.bytes) r)
     step_is old new (Ok (Printed zero)) (events, looked, d, enough, wrote) =
         inr (_, empty_here (s == length input.bytes) _ refl (is_unit zero events looked d enough), wrote)
     step_is old new (Ok (Printed (suc n))) (events, looked, d, enough, wrote) =
         (_, is_unit (suc n) events looked d enough, wrote, omega arith)
     step_is old new (Ok Failed) (looked, d, enough, kept) =
-        inr ([], fails_here (s == length input.bytes) refl (gives_at Fails looked d enough), Appends-none old new kept)
+        inr (
+          [],
+          fails_here settings.options.whole (s == length input.bytes) refl refl (gives_at Fails looked d enough),
+          Appends-none old new kept,
+        )
     step_is old new (Ok TooLong) (is, d, kept) =
         let full : settings.limit < length rest = grind (arith, common_steps, is) in
         let long = seen_long g rest settings.limit sound d.0 full d.1 in
-        inr ([], overlong long.0 long.1 may_run long.2 long.3, Appends-none old new kept)
+        inr ([], overlong long.0 long.1 goes may_run long.2 long.3, Appends-none old new kept)
     step_is old new (Ok NoMemory) kept = inl (refl, kept)
     step_is old new (Err fault) (k, events, looked, d, enough, wrote) = (k, _, is_unit k events looked d enough, wrote)
 
   pub step_fits : (old new : Option (List ℕ)) (r : Result Attempt WriteFault)
       → IsAttempt g window more settings.options.raw old
       new r →
-      StaysWithin (length input.bytes) s (step_after settings.limit s (length input.bytes) r)
+      StaysWithin (length input.bytes) s (step_after settings s (length input.bytes) r)
   step_fits old new (Ok (Printed zero)) a = tt
   step_fits old new (Ok (Printed (suc n))) (events, looked, d, enough, wrote) =
       let r = rises_of_start (rules_of g.rules) g.start window (suc n) looked events d in

@@ -4,6 +4,8 @@ use Rattle.std.specs.Prelude.{Ok, Err, Some, None, if◌then◌else◌}
 use Rattle.std.specs.Io.KnownBytes.{Appends, Keeps}
 use Rattle.ruletable.specs.Writing.{AppendsPart, Flags}
 use Rattle.ruletable.specs.declared.sink.WriteFault.{WriteFault}
+use Rattle.feed.specs.declared.held.Held.{Held}
+use Rattle.feed.specs.declared.held.Held.TheVariants as held
 use Rattle.pegread.specs.Pattern.{Rule}
 use Rattle.gramcheck.specs.Grammar.{Grammar}
 use Rattle.gramcheck.specs.Outcome.{Outcome, Fails, Takes, Event}
@@ -50,21 +52,30 @@ FrontFlags old new (Some attempted) = Flags old new attempted
 abbrev pub stop_at : ℕ → ℕ → Stop
 stop_at place len = if place == len then stop.Quiet Done else stop.NoMatch place
 
--- what follows at a place where this came of the start rule, which may look at so many bytes
-abbrev pub step_after : ℕ → ℕ → ℕ → Result Attempt WriteFault → Result Step WriteFault
-step_after limit place len (Ok (Printed zero)) = Ok (Stops (stop_at place len))
-step_after limit place len (Ok (Printed (suc n))) = Ok (Goes (suc n))
-step_after limit place len (Ok Failed) = Ok (Stops (stop_at place len))
-step_after limit place len (Ok TooLong) = Ok (Stops (stop.LongUnit place limit))
-step_after limit place len (Ok NoMemory) = Ok (Stops stop.NoMemory)
-step_after limit place len (Err fault) = Err fault
+-- how a run ends at a place where the start rule fails: with `whole` the input must be a unit
+abbrev pub failed_at : PegSettings → ℕ → ℕ → Stop
+failed_at settings place len = if settings.options.whole then stop.NoMatch place else stop_at place len
+
+-- what follows at a place where this came of the start rule
+abbrev pub step_after : PegSettings → ℕ → ℕ → Result Attempt WriteFault → Result Step WriteFault
+step_after settings place len (Ok (Printed zero)) = Ok (Stops (stop_at place len))
+step_after settings place len (Ok (Printed (suc n))) = Ok (Goes (suc n))
+step_after settings place len (Ok Failed) = Ok (Stops (failed_at settings place len))
+step_after settings place len (Ok TooLong) = Ok (Stops (stop.LongUnit place settings.limit))
+step_after settings place len (Ok NoMemory) = Ok (Stops stop.NoMemory)
+step_after settings place len (Err fault) = Err fault
+
+-- how a run ends at a place where no unit is tried, if it is held so
+abbrev pub step_held : Held → ℕ → ℕ → Step
+step_held held.Fault place len = Stops stop.Broken
+step_held _ place len = Stops (stop_at place len)
 
 -- what follows at a place from which these bytes are held
 abbrev pub IsStepOn : Grammar → List ℕ → Bool → PegSettings → ℕ → Option (List ℕ) → Option (List ℕ)
     → Result Step WriteFault → Type 0
 IsStepOn g items more settings s old new result = (attempted : Result Attempt WriteFault)
     × IsAttempt g items more settings.options.raw old new attempted ×
-    (result ≡ step_after settings.limit s (s + length items) attempted)
+    (result ≡ step_after settings s (s + length items) attempted)
 
 -- A unit of some bytes was printed, or the run ends here and the text of its last unit was printed, or an allocation
 -- failed and nothing was.

@@ -7,6 +7,8 @@ use toolrun::Settings;
 pub struct PegOptions {
     /// Whether actions are printed verbatim: not trimmed, no LF added. `yytext` and `yyleng` are still replaced.
     pub raw: bool,
+    /// Whether the input is one unit, which must take all of it.
+    pub whole: bool,
 }
 
 /// The settings of a run of the peg tool.

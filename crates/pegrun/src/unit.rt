@@ -2,16 +2,16 @@
 ghost use Rattle.std.specs.Prelude.{◌≡◌, ℕ, List, ◌≤◌, ◌<◌, ◌+◌, ◌++◌, length, true, false};
 ghost use Rattle.ruletable.specs.Writing.{Flags};
 ghost use Rattle.feed.specs.Feed.{Grows, IsTrueOfReader, SameFeed, SameLoan, allowance_of, bytes_of, capacity_of};
-ghost use Rattle.feed.specs.Feed.{flow_of, input_limit};
+ghost use Rattle.feed.specs.Feed.{IsHeld, flow_of, input_limit};
 ghost use Rattle.gramcheck.specs.Grammar.{IsSoundGrammar};
 ghost use Rattle.pegread.specs.PegViews.{rules_of};
 ghost use Rattle.toolrun.specs.Agrees.{Agrees};
 ghost use Rattle.pegrun.specs.Attempts.{FrontFlags, IsAttempt, IsFrontAttempt, IsStep, IsStepOn, StaysWithin};
-ghost use Rattle.pegrun.specs.Attempts.{step_after, stop_at};
+ghost use Rattle.pegrun.specs.Attempts.{failed_at, step_after, step_held, stop_at};
 ghost use Rattle.pegrun.specs.ByteUnits.{AreByteUnits};
 ghost use Rattle.pegrun.specs.MatchCalls.{calls_of};
 ghost use Rattle.toolrun.specs.Input.{Input};
-ghost use Rattle.pegrun.specs.Units.{taken_at};
+ghost use Rattle.pegrun.specs.Units.{is_after_whole as over_at, taken_at};
 
 use crate::attempt::{Attempt, CountedMatcher};
 use crate::options::PegSettings;
@@ -39,20 +39,33 @@ fn stop_where(place: usize, len: usize) -> Stop
     }
 }
 
-/// Returns the next step at a position, by the result of the start rule, which may look at `limit` bytes.
+/// Returns how a run ends at a position where the start rule fails.
+fn stop_failed(settings: &PegSettings<'_>, place: usize, len: usize) -> Stop
+    ensures { result ≡ failed_at settings.now place len }
+{
+    if settings.options.whole {
+        return Stop::NoMatch(place);
+    }
+    stop_where(place, len)
+}
+
+/// Returns the next step at a position, by the result of the start rule.
 fn step_of(
     attempted: Result<Attempt, WriteFault>,
-    limit: usize,
+    settings: &PegSettings<'_>,
     place: usize,
     len: usize,
 ) -> Result<Step, WriteFault>
-    ensures { result ≡ step_after limit place len attempted }
+    ensures { result ≡ step_after settings.now place len attempted }
 {
     match attempted {
         Ok(Attempt::Printed(0)) => Ok(Step::Stops(stop_where(place, len))),
         Ok(Attempt::Printed(n)) => Ok(Step::Takes(n)),
-        Ok(Attempt::Failed) => Ok(Step::Stops(stop_where(place, len))),
-        Ok(Attempt::TooLong) => Ok(Step::Stops(Stop::LongUnit { place, limit })),
+        Ok(Attempt::Failed) => Ok(Step::Stops(stop_failed(settings, place, len))),
+        Ok(Attempt::TooLong) => {
+            let limit = settings.limit;
+            Ok(Step::Stops(Stop::LongUnit { place, limit }))
+        }
         Ok(Attempt::NoMemory) => Ok(Step::Stops(Stop::NoMemory)),
         Err(fault) => Err(fault),
     }
@@ -168,10 +181,38 @@ fn unit_at<M: Matcher, R: Source, O: Sink>(
 {
     let end = start + feed.len();
     let attempted = attempt_unit(matcher, peg, feed, more, settings.options.raw, out);
-    step_of(attempted, settings.limit, start, end)
+    step_of(attempted, settings, start, end)
 }
 
-/// Reads until `limit` + 1 bytes are held, the input ends or a read fails, and runs one unit.
+/// Returns whether no unit is tried at a position: with `whole` the first unit of some bytes is the only one.
+#[inline(always)]
+fn is_over(settings: &PegSettings<'_>, start: usize) -> bool
+    ensures { result ≡ over_at settings.now start }
+{
+    settings.options.whole && 0 < start
+}
+
+/// Reads until `limit` + 1 bytes are held, the input ends or a read fails, and returns how a run ends there, after its
+/// only unit.
+fn step_over<R: Source>(feed: &mut Feed<'_, R>, start: usize) -> Step
+    requires within { start + length (bytes_of feed.old) + allowance_of feed.old ≡ input_limit }
+    requires told { IsTrueOfReader R.remaining R.failed R.ended feed.old }
+    ensures loan { SameLoan feed.old feed.new }
+    ensures told { IsTrueOfReader R.remaining R.failed R.ended feed.new }
+    ensures grows { Grows R.remaining feed.old feed.new }
+    ensures step { (held : _) × IsHeld feed.new held × (result ≡ step_held held start (start
+        + length (bytes_of feed.new))) }
+{
+    let held = feed.fill();
+    let end = start + feed.len();
+    match held {
+        Held::Full | Held::End => Step::Stops(stop_where(start, end)),
+        Held::Fault => Step::Stops(Stop::Broken),
+    }
+}
+
+/// Reads until `limit` + 1 bytes are held, the input ends or a read fails, and runs one unit. With `whole` none is run
+/// after the first.
 #[inline(always)]
 pub fn next_unit<M: Matcher, R: Source, O: Sink>(
     matcher: &mut CountedMatcher<M>,
@@ -200,6 +241,9 @@ pub fn next_unit<M: Matcher, R: Source, O: Sink>(
     ensures units { AreByteUnits peg.now settings.now.options.raw matcher.old.units
         → AreByteUnits peg.now settings.now.options.raw matcher.new.units }
 {
+    if is_over(settings, start) {
+        return Ok(step_over(feed, start));
+    }
     match feed.fill() {
         Held::Full => unit_at(matcher, peg, feed, true, settings, start, out),
         Held::End => unit_at(matcher, peg, feed, false, settings, start, out),

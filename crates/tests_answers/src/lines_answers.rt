@@ -107,8 +107,10 @@ fn check_lines<R: Abort + AllocGlobal>(
     let form = LineForm {
         limit: 4,
         end,
+        keeps: false,
         printed: Printed::Answers,
         numbered: false,
+        stops: false,
     };
     let ended = run_lines(rt.alloc(), &judge, &mut work, form, &mut reader, &mut out);
     let ends_so = match ended {
@@ -170,8 +172,10 @@ fn explains_sixteen_lines(rt: HostRuntime) {
     let form = LineForm {
         limit: 4,
         end: b'\n',
+        keeps: false,
         printed: Printed::Answers,
         numbered: false,
+        stops: false,
     };
     match run_lines(rt.alloc(), &judge, &mut 0u8, form, &mut reader, &mut out) {
         Ok(Ending::Explained { told, stop, why }) => {

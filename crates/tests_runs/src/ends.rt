@@ -67,15 +67,20 @@ pub enum Tool {
 }
 
 /// Actions are trimmed.
-pub const PEG: PegOptions = PegOptions { raw: false };
+pub const PEG: PegOptions = PegOptions {
+    raw: false,
+    whole: false,
+};
 
 /// Lines are made of bytes, end with LF, and are answered by `yes` or `no` alone.
 pub const ABNF: AbnfOptions = AbnfOptions {
     letters: Alphabet::Bytes,
     viable: false,
     nul: false,
+    keeps: false,
     printed: Printed::Answers,
     numbered: false,
+    quiet: false,
 };
 
 /// The settings of a run that tests change.

@@ -9,8 +9,8 @@ use Rattle.toolrun.specs.declared.settings.Mode.TheVariants.{Run}
 use Rattle.abnfrun.specs.AbnfSettings.{AbnfSettings}
 
 -- A run of the grammar on the line alone answers so, behind what it tells of the grammar. The line does not hold the
--- byte that ends lines, and the settings ask for a run whose messages are not explained.
+-- byte that ends lines, and the settings ask for a run whose messages are not explained, of lines without their ends.
 abbrev pub AnswersAlone : List ℕ → AbnfSettings → List ℕ → Answer → Type 0
 AnswersAlone text settings line said = settings.mode ≡ Run → settings.explain ≡ false
-    → HasNoEnd (form_of settings).end line
+    → settings.options.keeps ≡ false → HasNoEnd (form_of settings).end line
     → (told : List ℕ) × AbnfStates text settings (line_alone settings line) told (answer_alone settings line said [])

@@ -18,7 +18,14 @@ IsCommentAnswer line (NoAfter n) = ⊥
 
 -- lines of at most 65,536 bytes, each with an LF behind it
 abbrev pub comment_form : LineForm
-comment_form = record { limit = 65536; end = code "\n"; printed = Answers; numbered = false }
+comment_form = record {
+  limit = 65536;
+  end = code "\n";
+  keeps = false;
+  printed = Answers;
+  numbered = false;
+  stops = false;
+}
 
 -- what is told of a line that is no comment
 abbrev pub LacksSign : List ℕ → ℕ → List ℕ → Type 0

@@ -65,8 +65,10 @@ pub fn answer_comments<R: Source, O: Sink>(
     let form = LineForm {
         limit: 65_536,
         end: b'\n',
+        keeps: false,
         printed: Printed::Answers,
         numbered: false,
+        stops: false,
     };
     run_lines(alloc, &Comments { alloc }, &mut (), form, reader, out)
 }

@@ -1,17 +1,19 @@
 -- What stands at the front is answered, or ends the run.
-use Rattle.std.proofs.Common.{◌≡◌, ◌∙◌, ℕ, ◌<◌, ◌≤◌, Option, List, arith, refl}
+use Rattle.std.proofs.Common.{◌≡◌, ◌∙◌, ℕ, ◌<◌, ◌≤◌, Option, List, arith, refl, sym}
 use Rattle.std.specs.Prelude.{Result, Ok, Err, IfOk}
 use Rattle.ruletable.specs.declared.memory.Memory.{Memory}
 use Rattle.ruletable.specs.declared.sink.WriteFault.{WriteFault}
 use Rattle.feed.specs.Feed.{Grows, SameFeed, bytes_of}
 use Rattle.feed.specs.declared.feed.Feed.{Feed}
+use Rattle.linejudge.specs.InputLines.{finished, kept_size, rejected}
 use Rattle.linejudge.specs.LineSteps.{FitsIn, StepsBehind}
 use Rattle.linejudge.specs.declared.answers.Answer.{Answer}
 use Rattle.linejudge.specs.declared.line_loop.Step.{Step}
 use Rattle.linejudge.specs.declared.line_loop.Step.TheVariants.{Stops}
 use Rattle.toolrun.specs.declared.stop.Stop.{Stop}
 use Rattle.linejudge.proofs.LineStepLemmas.{whole_is, last_is, long_is, end_is, broken_is}
-use Rattle.linejudge.proofs.NextLineLemmas.{held_front}
+use Rattle.linejudge.proofs.KeptLineLemmas.{kept_most}
+use Rattle.linejudge.proofs.NextLineLemmas.{held_front, held_within}
 use Rattle.linejudge.proofs.line_loop.next_step.Goals as goal
 
 -- a feed that has grown, and then keeps its bytes and its reader
@@ -38,6 +40,27 @@ fits-end : (len : ℕ) (why : Stop) (r : Result Step WriteFault) → IfOk r (λ 
 fits-end len why (Ok step) same = rw same tt
 fits-end len why (Err fault) same = tt
 
+pub returns-then-is_over : goal.returns-then-is_over
+returns-then-is_over g c = record {
+  work = c.requires.work;
+  at = refl;
+  loan = c.fill.ensures.loan;
+  told = c.fill.ensures.told;
+  grows = c.fill.ensures.grows;
+  follows = λ before input here a.
+      let feed = c.fill.new.self in (
+        end_is (g.J.Judge.told c.args.judge.now) (g.J.Judge.explains c.args.judge.now)
+            (g.J.Judge.refusal c.args.judge.now) c.args.form input c.args.reached.now.at
+            (g.O.Sink.contents c.args.out.now) (g.O.Sink.contents c.end_step.new.out) c.args.reached.now.told.items
+            c.end_step.result (rejected (sym c.is_over.ensures ∙ c.if-is_over.true)) c.end_step.ensures.bytes
+            c.end_step.ensures.step,
+        rw here at (held_within feed c.args.form before input
+            (c.fill.ensures.grows.capacity ∙ c.requires.capacity) c.fill.ensures.within a),
+      );
+  fits = fits-end _ _ c.end_step.result c.end_step.ensures.step;
+  flag = c.end_step.ensures.flag;
+}
+
 pub returns-in-Whole : goal.returns-in-Whole
 returns-in-Whole g c =
     let on = c.answer_held-answered in
@@ -53,13 +76,16 @@ returns-in-Whole g c =
           let b = rw (same.bytes, same.flow) at a in
           let next = rw here at (c.in-Whole.ensures.follows before input
           (c.next_line.ensures.grows.capacity ∙ c.requires.capacity) b) in
-          let front = held_front before (bytes_of c.next_line.new.feed) b.more input.bytes c.in-Whole.n
-          c.args.reached.now.at.place b.bytes here (let fits = c.in-Whole.ensures.fits in omega (arith, fits)) in (
+          let size : ℕ = kept_size c.args.form c.in-Whole.n in
+          let front = held_front before (bytes_of c.next_line.new.feed) b.more input.bytes size
+          c.args.reached.now.at.place b.bytes here
+          (let fits = c.in-Whole.ensures.fits in omega (arith, fits, kept_most c.args.form c.in-Whole.n)) in (
             whole_is (g.J.Judge.told c.args.judge.now) (g.J.Judge.explains c.args.judge.now)
                 (g.J.Judge.refusal c.args.judge.now) c.args.form input c.args.reached.now.at
                 (g.O.Sink.contents c.args.out.now) (g.O.Sink.contents c.step_of.new.out)
                 c.args.reached.now.told.items on.new.reached.told.items c.in-Whole.n _ on.new.reached.text.items
-                on.result c.step_of.result front next.0 on.ensures.answered on.ensures.err
+                on.result c.step_of.result (sym c.is_over.ensures ∙ c.if-is_over.false) front next.0
+                (rw c.kept_size.ensures.size at on.ensures.answered) on.ensures.err
                 (rw c.as_slice.ensures.value at step),
             rw same.bytes next.1,
           );
@@ -90,7 +116,8 @@ returns-in-Last g c =
                 (g.J.Judge.refusal c.args.judge.now) c.args.form input c.args.reached.now.at
                 (g.O.Sink.contents c.args.out.now) (g.O.Sink.contents c.step_of-in-Last.new.out)
                 c.args.reached.now.told.items on.new.reached.told.items c.in-Last.n _ on.new.reached.text.items
-                on.result c.step_of-in-Last.result front next.0 on.ensures.answered on.ensures.err
+                on.result c.step_of-in-Last.result (sym c.is_over.ensures ∙ c.if-is_over.false) front next.0
+                on.ensures.answered on.ensures.err
                 (rw c.as_slice-in-Last.ensures.value at step),
             rw same.bytes next.1,
           );
@@ -112,7 +139,8 @@ returns-in-Overlong g c = record {
       (c.next_line.ensures.grows.capacity ∙ c.requires.capacity) a) in (
         long_is (g.J.Judge.told c.args.judge.now) (g.J.Judge.explains c.args.judge.now)
             (g.J.Judge.refusal c.args.judge.now) c.args.form input c.args.reached.now.at
-            (g.O.Sink.contents c.args.out.now) (g.O.Sink.contents c.args.out.now) c.args.reached.now.told.items next.0,
+            (g.O.Sink.contents c.args.out.now) (g.O.Sink.contents c.args.out.now) c.args.reached.now.told.items
+            (sym c.is_over.ensures ∙ c.if-is_over.false) next.0,
         next.1,
       );
   fits = tt;
@@ -131,12 +159,14 @@ returns-in-End g c = record {
       (c.next_line.ensures.grows.capacity ∙ c.requires.capacity) a) in (
         end_is (g.J.Judge.told c.args.judge.now) (g.J.Judge.explains c.args.judge.now)
             (g.J.Judge.refusal c.args.judge.now) c.args.form input c.args.reached.now.at
-            (g.O.Sink.contents c.args.out.now) (g.O.Sink.contents c.end_step.new.out) c.args.reached.now.told.items
-            c.end_step.result next.0 c.end_step.ensures.bytes c.end_step.ensures.step,
+            (g.O.Sink.contents c.args.out.now) (g.O.Sink.contents c.end_step-in-End.new.out)
+            c.args.reached.now.told.items
+            c.end_step-in-End.result (finished (sym c.is_over.ensures ∙ c.if-is_over.false) next.0)
+            c.end_step-in-End.ensures.bytes c.end_step-in-End.ensures.step,
         next.1,
       );
-  fits = fits-end _ _ c.end_step.result c.end_step.ensures.step;
-  flag = c.end_step.ensures.flag;
+  fits = fits-end _ _ c.end_step-in-End.result c.end_step-in-End.ensures.step;
+  flag = c.end_step-in-End.ensures.flag;
 }
 
 pub returns-in-Broken : goal.returns-in-Broken
@@ -151,7 +181,8 @@ returns-in-Broken g c = record {
       (c.next_line.ensures.grows.capacity ∙ c.requires.capacity) a) in (
         broken_is (g.J.Judge.told c.args.judge.now) (g.J.Judge.explains c.args.judge.now)
             (g.J.Judge.refusal c.args.judge.now) c.args.form input c.args.reached.now.at
-            (g.O.Sink.contents c.args.out.now) (g.O.Sink.contents c.args.out.now) c.args.reached.now.told.items next.0,
+            (g.O.Sink.contents c.args.out.now) (g.O.Sink.contents c.args.out.now) c.args.reached.now.told.items
+            (sym c.is_over.ensures ∙ c.if-is_over.false) next.0,
         next.1,
       );
   fits = tt;

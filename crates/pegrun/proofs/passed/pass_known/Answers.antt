@@ -21,7 +21,8 @@ returns-in_err-write-clause-passed g c =
     rw fault.1 (passed_to_write_fault g.R.Source.remaining c.args.units.now c.args.settings.now c.args.feed.now
     c.skip.new.self
     c.fill-why.new.self c.in-Some.bytes.items c.in-Some.ensures.some c.in-Some.ensures.first c.in-Some.ensures.known
-    c.len-count.result (search rules) (let l = c.if-settings-eq0.false in omega (arith, l)) c.requires.capacity
+    c.len-count.result (search rules)
+    (let l = c.if-settings-eq0.false in omega (arith, l), c.if-settings-2.false) c.requires.capacity
     c.skip.ensures.bytes
     c.skip.ensures.reader c.skip.ensures.flow c.skip.ensures.allowance c.skip.ensures.capacity
     c.fill-why.ensures.grows c.fill-why.result c.fill-why.ensures.held
@@ -34,7 +35,8 @@ pub returns-then-run-count-clause-passed : goal.returns-then-run-count-clause-pa
 returns-then-run-count-clause-passed g c =
     passed_to_fault g.R.Source.remaining c.args.units.now c.args.settings.now c.args.feed.now c.skip.new.self
     c.fill-why.new.self c.in-Some.bytes.items c.in-Some.ensures.some c.in-Some.ensures.first c.in-Some.ensures.known
-    c.len-count.result (search rules) (let l = c.if-settings-eq0.false in omega (arith, l)) c.requires.capacity
+    c.len-count.result (search rules)
+    (let l = c.if-settings-eq0.false in omega (arith, l), c.if-settings-2.false) c.requires.capacity
     c.skip.ensures.bytes
     c.skip.ensures.reader c.skip.ensures.flow c.skip.ensures.allowance c.skip.ensures.capacity
     c.fill-why.ensures.grows c.fill-why.result c.fill-why.ensures.held
@@ -47,7 +49,8 @@ pub returns-clause-passed : goal.returns-clause-passed
 returns-clause-passed g c =
     passed_all g.R.Source.remaining c.args.units.now c.args.settings.now c.args.feed.now c.skip.new.self
     c.fill-why.new.self c.in-Some.bytes.items c.in-Some.ensures.some c.in-Some.ensures.first c.in-Some.ensures.known
-    c.len-count.result (search rules) (let l = c.if-settings-eq0.false in omega (arith, l)) c.requires.capacity
+    c.len-count.result (search rules)
+    (let l = c.if-settings-eq0.false in omega (arith, l), c.if-settings-2.false) c.requires.capacity
     c.skip.ensures.bytes
     c.skip.ensures.reader c.skip.ensures.flow c.skip.ensures.allowance c.skip.ensures.capacity
     c.fill-why.ensures.grows c.fill-why.result c.fill-why.ensures.held

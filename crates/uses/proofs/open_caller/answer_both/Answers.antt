@@ -1,11 +1,11 @@
 -- The law of open grammars, for each line.
-use Rattle.std.proofs.Common.{◌≤◌, ℕ, List, [], Some, length, refl}
+use Rattle.std.proofs.Common.{◌≡◌, ◌≤◌, ℕ, false, List, [], Some, length, refl}
 use Rattle.abnfrun.specs.AbnfExplainedNotes.{ExplainsAbnfNote}
 use Rattle.abnfread.specs.AbnfViews.{rules_of}
 use Rattle.abnfrun.proofs.OpenAbnfLemmas.{open_states}
 use Rattle.abnfrun.specs.AbnfReply.{IsAnswerTo}
 use Rattle.abnfrun.specs.AbnfTextHints.{AreTextHints}
-use Rattle.abnfrun.specs.OpenAbnf.{IsOpened}
+use Rattle.abnfrun.specs.OpenAbnf.{IsOpened, judged_line}
 use Rattle.abnfrun.specs.OpenJudge.{OpenJudge}
 use Rattle.uses.specs.AnswersAlone.{AnswersAlone}
 use Rattle.linejudge.specs.declared.answers.Answer.{Answer}
@@ -20,15 +20,15 @@ module _ (text : List ℕ) (settings : AbnfSettings) (notes : List Said) (judge 
     (said : Answer)
     (answers : IsAnswerTo judge.letters judge.viable (rules_of judge.grammar.rules) judge.grammar.judged line said)
   where
-    line_is_within : length line ≤ judge.limit
-    line_is_within = rw is.ready.1.limit within
+    line_is_within : settings.options.keeps ≡ false → length (judged_line settings line) ≤ judge.limit
+    line_is_within without = rw (is.ready.1.limit, without) within
 
     answers_alone : AnswersAlone text settings line said
-    answers_alone = λ run plain one. (
+    answers_alone = λ run plain without one. (
       notes_text notes,
       open_states text line settings notes (notes_text notes) judge said [] run is
-          (hinted-plain settings (ExplainsAbnfNote text) (AreTextHints text settings) plain notes) one line_is_within
-          answers (rw plain refl),
+          (hinted-plain settings (ExplainsAbnfNote text) (AreTextHints text settings) plain notes) one
+          (line_is_within without) (rw without answers) (rw plain refl),
     )
 
 pub returns-clause-first : goal.returns-clause-first

@@ -1,5 +1,5 @@
--- The command is a simple one, and its words give a limit, a grammar and a flag.
-use Rattle.pegi.proofs.PegiWordsLemmas.{is_free, is_simple_app, is_whole, raw_is}
+-- The command is a simple one, and its words give a limit, a grammar and flags.
+use Rattle.pegi.proofs.PegiWordsLemmas.{flags_are, is_free, is_simple_app, is_whole}
 use Rattle.pegi.proofs.command.PegiProgram.follows.Goals as goal
 
 pub returns : goal.returns
@@ -7,5 +7,5 @@ returns c = record {
   simple = is_simple_app;
   free = is_free;
   whole = is_whole;
-  asked = λ m options by read. record { raw = raw_is m by options.raw read.raw };
+  asked = flags_are;
 }

@@ -1,7 +1,8 @@
--- The flag is read as it stands.
+-- Each flag is read as it stands.
 use Rattle.pegi.proofs.command.PegiProgram.options.Goals as goal
 
 pub returns : goal.returns
 returns c =
     let raw = c.get_flag.ensures in
-    record { raw = (raw.none, raw.value, raw.other) }
+    let whole = c.get_flag-2.ensures in
+    record { raw = (raw.none, raw.value, raw.other); whole = (whole.none, whole.value, whole.other) }
