@@ -26,7 +26,8 @@ BOTH = (b"error: the argument '-l' cannot be used with '-c'\n\nUsage: abnfx [OPT
 # Two texts that read, whose grammar has more than 1048576 bytes.
 LONG = [(f"{name}.txt", f'{name} = "x" ;'.encode() + b"c" * 600000) for name in ("a", "b")]
 NAMES = ("a", "B", "b", "c-1", "Date", "date")
-PARTS = ("a", "b", "DIGIT", "2*3date", '"x"', '"Y z"', "%x41-5A", "%d13.10", "*c-1", "[ b ]", "<the other text>")
+PARTS = ("a", "b", "DIGIT", "2*3date", '"x"', '"Y z"', "%x41-5A", "%d13.10", "*c-1", "[ b ]", "<the other text>",
+         "<a>", "2<DIGIT>", "(<Date>)", "<B>", '"<a>"')
 PROSE = (
     "Prose of a text.", "Where a = b, c it is so:", "2.  Rules", "a = ", "The date May 2001", "x = ( y", "; a comment",
     "/ c-1", "    / c-1", "| b", ") / a", "       Deeper prose, of two.", "a = b | c", "date =/ 1*\"x\" ]"
@@ -43,7 +44,7 @@ INFORMATION = (
 def rule(made, size):
     """Returns the lines of a rule at that margin."""
     if made.random() < 0.15:
-        body = ["<see the other text>"]
+        body = [made.choice(("<see the other text>", "<b>", "1*<date>"))]
     else:
         body = [made.choice(PARTS) for _ in range(made.choice((1, 1, 2, 3)))]
     sign = made.choice(("=", "=", "=", " =", "=/"))

@@ -180,31 +180,51 @@ def folded(tokens):
     return [it for it in found if it]
 
 
+# What is no name in brackets: a text in quotes, or a comment; or a name in brackets.
+BRACKETS = re.compile(rb'"[^"]*"|;.*|<([^>]*)>')
+
+
 class Rule:
     """A rule as a text gives it: the name of the text, its lines without the margin, and what it says."""
 
     def __init__(self, name, some, blanks):
         size = margin(some[0][1])
         self.text, self.first, self.last, self.blanks = name, some[0][0], some[-1][0], blanks
-        self.written = b"".join(line[min(size, margin(line)):] + b"\n" for _, line, _ in some)
+        self.rows = [(number, line[min(size, margin(line)):]) for number, line, _ in some]
+        self.say()
+        self.is_prose = not self.adds and all(it[:1] in b"</[]()" or REPEAT.fullmatch(it) for it in self.body)
+        self.comments = b""
+
+    def say(self):
+        self.written = b"".join(line + b"\n" for _, line in self.rows)
         tokens = tokens_of(self.written)
         self.name, self.key = tokens[0].decode(), tokens[0].lower()
         self.adds = tokens[2] == b"/"
         self.body = folded(tokens[2 + self.adds:])
-        self.is_prose = all(it[:1] in b"</[]()" or REPEAT.fullmatch(it) for it in self.body)
         # the names that it uses, each with its line: what stands behind a repeat, but the name of the rule itself
-        self.uses = [(number, REPEAT.sub(b"", it, count=1)) for number, line, _ in some for it in tokens_of(line)][1:]
+        self.uses = [(number, REPEAT.sub(b"", it, count=1)) for number, line in self.rows for it in tokens_of(line)][1:]
         self.uses = [(number, it) for number, it in self.uses if NAME.fullmatch(it)]
+
+    def lose_brackets(self, known):
+        """Takes the angle brackets from names that are known, but its own."""
+        def bare(it):
+            return it[1] if it[1] and it[1].lower() in known - {self.key} else it[0]
+
+        new = [(number, BRACKETS.sub(bare, line)) for number, line in self.rows]
+        self.comments = b"".join(b"; from: " + old[1] + b"\n" for old, it in zip(self.rows, new) if old != it)
+        self.rows = new
+        self.say()
 
     def place(self):
         return f"{self.text}:{self.first}"
 
     def is_same(self, other):
         """Tells whether the tokens are the same. Rules in brackets that say no more are not compared by this."""
-        return self.adds == other.adds and self.key == other.key and self.body == other.body
+        alike = self.adds == other.adds and self.is_prose == other.is_prose
+        return alike and self.key == other.key and self.body == other.body
 
     def yields_to(self, other):
-        return self.key == other.key and not self.adds and not other.adds and self.is_prose and not other.is_prose
+        return self.key == other.key and not other.adds and self.is_prose and not other.is_prose
 
 
 def in_text(why, some):
@@ -255,6 +275,9 @@ def joined(texts):
         more, said = given(name, text)
         rules, told = rules + more, told + said
     is_faulty = told != ""
+    known = {it.key for it in rules} | set(CORE)
+    for it in rules:
+        it.lose_brackets(known)
     becomes = fates(rules)
     listed = "".join(f"{it.place()}: '{it.name}' {fate}\n" for it, fate in zip(rules, becomes))
     stand = [it for it, fate in zip(rules, becomes) if fate == "stands"]
@@ -277,7 +300,7 @@ def joined(texts):
             grammar += b"\n" * before.blanks
         else:
             grammar += f"; {it.place()}\n".encode()
-        grammar, before = grammar + it.written, it
+        grammar, before = grammar + it.comments + it.written, it
     known = {it.key for it in stand} | set(CORE)
     for it in order:
         for number, name in it.uses:

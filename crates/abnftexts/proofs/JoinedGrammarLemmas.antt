@@ -5,11 +5,12 @@ use Rattle.std.proofs.Common.{◌∙◌, append_assoc, arith, Option, Some, None
 use Rattle.std.proofs.Math.Dec.{ltb}
 use Rattle.std.proofs.lemmas.Bool.{cases_Bool, ltb-true}
 use Rattle.std.proofs.lemmas.Option.{slice_get-get_or, slice_get-map, slice_get_past}
-use Rattle.std.specs.Prelude.{Result, Ok, Err, IfOk, slice_get}
+use Rattle.std.specs.Prelude.{Result, Ok, Err, IfOk, OnOk, slice_get}
 use Rattle.abnftexts.specs.GivenRules.{RuleGiven, fates_of, text_rule}
 use Rattle.abnftexts.specs.declared.join.fate.Fate.{Fate}
 use Rattle.abnftexts.specs.declared.join.given.GivenRule.{GivenRule}
-use Rattle.abnftexts.specs.JoinedGrammar.{GrammarJoined, has_stayed, ordered_rules, printed_behind, rule_printed}
+use Rattle.abnftexts.specs.JoinedGrammar.{GrammarJoined, fate_told, has_stayed, numbered_place, ordered_rules}
+use Rattle.abnftexts.specs.JoinedGrammar.{printed_behind, rule_printed}
 use Rattle.abnftexts.specs.JoinedGrammar.{rules_listed, standing}
 use Rattle.abnftexts.specs.JoinedViews.{IsGatheredJoined, IsStandingJoined}
 use Rattle.abnftexts.specs.RulesGathered.{RuleLines, lines_placed}
@@ -101,3 +102,12 @@ gathered-all places sp rules sr told listed fates joined are list stand_places s
 pub ok-more : {T E : Type 0} (P Q : T → Type 0) (r : Result T E) → ((x : T) → P x → Q x) → IfOk r P → IfOk r Q
 ok-more P Q (Ok x) more h = more x h
 ok-more P Q (Err e) more h = tt
+
+-- what becomes of a rule, where a word and the position of another one say it
+pub fate-told : {T E : Type 0} (r : Result T E) (places : List RuleLines) (fate : Fate) (n : ℕ)
+    (word old middle new : List ℕ) → fate_told places fate ≡ word ++ numbered_place places n → middle ≡ old ++ word
+    → OnOk r (new ≡ middle ++ numbered_place places n) → OnOk r (new ≡ old ++ fate_told places fate)
+fate-told (Ok x) places fate n word old middle new is mid h =
+    h ∙ ap (λ (z : List ℕ). z ++ numbered_place places n) mid ∙ append_assoc old word (numbered_place places n)
+    ∙ ap (λ (z : List ℕ). old ++ z) (sym is)
+fate-told (Err e) places fate n word old middle new is mid h = tt

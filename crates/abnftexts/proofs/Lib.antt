@@ -20,3 +20,6 @@ pub mod LinkedTextLemmas
 pub mod LinkedTokenLemmas
 pub mod MovedWordLemmas
 pub mod ListNamesLemmas
+pub mod NamedRulesLemmas
+pub mod OneNamingLemmas
+pub mod WrittenRulesLemmas

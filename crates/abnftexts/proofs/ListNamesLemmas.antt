@@ -14,7 +14,6 @@ use Rattle.diagnostics.specs.NumberLists.{numbers_for, positions_from}
 use Rattle.abnftexts.specs.GivenRules.{RuleGiven, first_wanted, text_rule, yields_to}
 use Rattle.abnftexts.specs.JoinedRules.{adding_numbers}
 use Rattle.abnftexts.specs.ListedRules.{has_some, is_listed_for}
-use Rattle.abnftexts.specs.OnlyProse.{only_prose}
 use Rattle.abnftexts.specs.declared.join.by_name.Listed.TheVariants.{Additions, Elements}
 use Rattle.abnftexts.specs.declared.join.given.GivenRule.{GivenRule}
 
@@ -125,38 +124,22 @@ moved-and true false false = refl
 moved-and false s u = refl
 
 -- the first definition of a name that has elements is what a rule of prose yields to
-pub wanted-listed : (rules : List GivenRule) (rule : RuleGiven) (numbers : List ℕ) → rule.adds ≡ false
-    → only_prose rule.body ≡ true
+pub wanted-listed : (rules : List GivenRule) (rule : RuleGiven) (numbers : List ℕ) → rule.is_prose ≡ true
     → numbers ≡ positions_from 0 (λ r. is_listed_for Elements rule.name (text_rule r)) rules
     → unwrap_or (slice_get numbers 0) (length rules) ≡ first_wanted rule (map text_rule rules)
-wanted-listed rules rule numbers defines prose is =
+wanted-listed rules rule numbers prose is =
     first-listed (is_listed_for Elements) rules rule.name numbers is
     ∙ prefix-agrees (λ r. not (is_listed_for Elements rule.name r)) (λ r. not (yields_to rule r)) agree
     (map text_rule rules)
   where
     agree : (r : RuleGiven) → not (is_listed_for Elements rule.name r) ≡ not (yields_to rule r)
-    agree r = rw (defines, prose)
-        (ap not (moved-and (not r.adds) (same_name Fold rule.name r.name) (not (only_prose r.body))))
+    agree r = rw prose (ap not (moved-and (not r.adds) (same_name Fold rule.name r.name) (not r.is_prose)))
 
--- what adds, and what has elements, yields to nothing
-pub none_wanted-adds : (rules : List GivenRule) (rule : RuleGiven) → rule.adds ≡ true
+-- what is no prose yields to nothing
+pub none_wanted : (rules : List GivenRule) (rule : RuleGiven) → rule.is_prose ≡ false
     → length rules ≡ first_wanted rule (map text_rule rules)
-none_wanted-adds rules rule adds =
-    let none = none-passes (yields_to rule) (λ r. rw adds refl) (map text_rule rules) in
-    omega (arith, none, length-map rules text_rule)
-
-no-prose : (a b s u : Bool) → (a && (b && (s && (false && u)))) ≡ false
-no-prose true true true u = refl
-no-prose true true false u = refl
-no-prose true false s u = refl
-no-prose false b s u = refl
-
-pub none_wanted-elements : (rules : List GivenRule) (rule : RuleGiven) → only_prose rule.body ≡ false
-    → length rules ≡ first_wanted rule (map text_rule rules)
-none_wanted-elements rules rule has =
-    let none = none-passes (yields_to rule) (λ r. rw has
-    (no-prose (not rule.adds) (not r.adds) (same_name Fold rule.name r.name) (not (only_prose r.body))))
-    (map text_rule rules) in
+none_wanted rules rule has =
+    let none = none-passes (yields_to rule) (λ r. rw has refl) (map text_rule rules) in
     omega (arith, none, length-map rules text_rule)
 
 -- the numbers of what adds to a rule

@@ -1,10 +1,7 @@
 -- Each rule that texts give has lines of its own, which alone spell it.
 -- Serves: join_texts, joined_reading
-use Rattle.std.proofs.Common.{◌≡◌, ℕ, zero, suc, true, Option, Some, None, List, [], ◌∷◌, ◌++◌, take, drop, refl}
-use Rattle.std.proofs.Common.{sym, ap, ◌∙◌, inl, inr, subst}
-use Rattle.std.proofs.lemmas.Bool.{cases_Bool}
+use Rattle.std.proofs.Common.{◌≡◌, ℕ, true, List, [], ◌∷◌, ◌++◌, take, drop, refl, sym, ap, ◌∙◌, subst}
 use Rattle.std.proofs.lemmas.List.{drop-drop}
-use Rattle.std.specs.List.{filter_map, slice_get, cons_option}
 use Rattle.abnfread.specs.AbnfReading.{Reads}
 use Rattle.abnfread.specs.Element.{Definition}
 use Rattle.abnfblocks.specs.FoundRules.{AreFound, IsFoundOf, IsLongestCut, none_left, no_rule as no_rule_there, a_rule}
@@ -15,27 +12,30 @@ use Rattle.abnfblocks.specs.TextLines.{NumberedLine, behind_mark}
 use Rattle.abnfblocks.specs.declared.found.Found.{Found}
 use Rattle.abnfblocks.specs.declared.found.Found.TheVariants as found
 use Rattle.abnftexts.specs.GivenRules.{RuleGiven}
-use Rattle.abnftexts.specs.JoinedGrammar.{has_stayed, standing}
 use Rattle.abnftexts.specs.RulesGathered.{NamedText, RuleLines, RulesGathered}
 use Rattle.abnftexts.specs.TextRules.{GivesFound, GivesText, GiveTexts, SpellRule}
 use Rattle.abnftexts.specs.TextRules.{next_rule, next_text, no_rule, no_texts, none_found}
-use Rattle.abnftexts.specs.declared.join.fate.Fate.{Fate}
 use Rattle.abnftexts.proofs.ClearLinesLemmas.{IsClear, kept-clear}
 use Rattle.abnftexts.proofs.EachLemmas.{Each, each_none, each_next, each-drop}
 use Rattle.abnftexts.proofs.OwnLinesLemmas.{OwnLines, cut-lines, first-margin, own-lines}
 use Rattle.abnftexts.proofs.RuleTextLemmas.{rule-one, rule-text, text-spells}
 
--- rules with their lines
+-- a rule with its lines, as texts give it: they are written without the margin
+pub record IsPlaced (place : RuleLines) (given : RuleGiven) : Type 0 where
+  pub own : OwnLines place.margin place.lines
+  pub none : place.comments ≡ []
+  pub text : place.text ≡ lines_text place.margin place.lines
+  pub spells : SpellRule place.text given
+
 pub data ArePlaced : List RuleLines → List RuleGiven → Type 0 where
   none_placed : ArePlaced [] []
   next_placed : {place : RuleLines} {given : RuleGiven} {places : List RuleLines} {rules : List RuleGiven}
-      → OwnLines place.margin place.lines → SpellRule place.margin place.lines given → ArePlaced places rules
-      → ArePlaced (place ∷ places) (given ∷ rules)
+      → IsPlaced place given → ArePlaced places rules → ArePlaced (place ∷ places) (given ∷ rules)
 
 placed-both : {ps qs : List RuleLines} {rs ss : List RuleGiven} → ArePlaced ps rs → ArePlaced qs ss
     → ArePlaced (ps ++ qs) (rs ++ ss)
 placed-both none_placed k = k
-placed-both (next_placed own spells h) k = next_placed own spells (placed-both h k)
+placed-both (next_placed is h) k = next_placed is (placed-both h k)
 
 abbrev Placed : RulesGathered → Type 0
 Placed g = ArePlaced g.places g.rules
@@ -92,7 +92,8 @@ found-alone {kept} {i = i} clear (a_rule {line} {lines} opens is more) e =
 found-placed : {name : List ℕ} {kept : List NumberedLine} {all : List Found} {g : RulesGathered}
     → GivesFound name kept all g → Each (IsReadAlone kept) all → Placed g
 found-placed none_found e = none_placed
-found-placed (next_rule spells h) (each_next r e) = next_placed r.own spells (found-placed h e)
+found-placed (next_rule spells h) (each_next r e) =
+    next_placed (record { own = r.own; none = refl; text = refl; spells = spells }) (found-placed h e)
 found-placed (no_rule h) (each_next r e) = found-placed h e
 
 text-placed : (text : NamedText) {g : RulesGathered} → GivesText text g → Placed g
@@ -102,35 +103,3 @@ text-placed text x =
 pub texts-placed : {texts : List NamedText} {g : RulesGathered} → GiveTexts texts g → ArePlaced g.places g.rules
 texts-placed no_texts = none_placed
 texts-placed (next_text {text} x h) = placed-both (text-placed text x) (texts-placed h)
-
-pub placed-standing : (fates : List Fate) {places : List RuleLines} {rules : List RuleGiven} → ArePlaced places rules
-    → ArePlaced (standing fates places) (standing fates rules)
-placed-standing [] none_placed = none_placed
-placed-standing [] (next_placed own spells h) = none_placed
-placed-standing (fate ∷ fates) none_placed = none_placed
-placed-standing (fate ∷ fates) (next_placed own spells h) = elim (cases_Bool (has_stayed fate)) [
-  | inl e ↦ rw e (next_placed own spells (placed-standing fates h))
-  | inr e ↦ rw e (placed-standing fates h)
-]
-
--- the rule with a number, and its lines
-data PlacedAt : Option RuleLines → Option RuleGiven → Type 0 where
-  none_there_at : PlacedAt None None
-  some_at : {place : RuleLines} {given : RuleGiven} → OwnLines place.margin place.lines
-      → SpellRule place.margin place.lines given → PlacedAt (Some place) (Some given)
-
-placed-at : (n : ℕ) {places : List RuleLines} {rules : List RuleGiven} → ArePlaced places rules
-    → PlacedAt (slice_get places n) (slice_get rules n)
-placed-at n none_placed = none_there_at
-placed-at zero (next_placed own spells h) = some_at own spells
-placed-at (suc n) (next_placed own spells h) = placed-at n h
-
-placed-cons : {p : Option RuleLines} {r : Option RuleGiven} {places : List RuleLines} {rules : List RuleGiven}
-    → PlacedAt p r → ArePlaced places rules → ArePlaced (cons_option p places) (cons_option r rules)
-placed-cons none_there_at h = h
-placed-cons (some_at own spells) h = next_placed own spells h
-
-pub placed-ordered : (order : List ℕ) {places : List RuleLines} {rules : List RuleGiven} → ArePlaced places rules
-    → ArePlaced (filter_map (slice_get places) order) (filter_map (slice_get rules) order)
-placed-ordered [] h = none_placed
-placed-ordered (n ∷ order) h = placed-cons (placed-at n h) (placed-ordered order h)

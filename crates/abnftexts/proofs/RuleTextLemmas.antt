@@ -35,13 +35,13 @@ pub record RuleText (m : ℕ) (lines : List NumberedLine) : Type 0 where
   pub line : EndsLine (lines_text m lines)
   pub later : Later (indented (Some 0) first) tail
 
-record LetterFirst (t : List ℕ) : Type 0 where
-  first : ℕ
-  tail : List ℕ
-  is_letter : t ≡ first ∷ tail
-  letter : is_ascii_alphabetic first ≡ true
+pub record LetterFirst (t : List ℕ) : Type 0 where
+  pub first : ℕ
+  pub tail : List ℕ
+  pub is_letter : t ≡ first ∷ tail
+  pub letter : is_ascii_alphabetic first ≡ true
 
-letter-first : (t : List ℕ) → begins_letter t ≡ true → LetterFirst t
+pub letter-first : (t : List ℕ) → begins_letter t ≡ true → LetterFirst t
 letter-first [] e = cc
 letter-first (b ∷ t) e = record { first = b; tail = t; is_letter = refl; letter = e }
 

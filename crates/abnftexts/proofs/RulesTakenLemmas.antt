@@ -7,7 +7,7 @@ use Rattle.std.proofs.lemmas.List.{at_drop_all, drop-map, take-map}
 use Rattle.ruletable.specs.declared.fault.ReadFault.{ReadFault}
 use Rattle.abnfblocks.specs.TextLines.{NumberedLine, numbered}
 use Rattle.abnfblocks.specs.declared.rfctext.text_line.TextLine.{TextLine}
-use Rattle.abnfblocks.specs.RuleCuts.{blanks_first, margin_at}
+use Rattle.abnfblocks.specs.RuleCuts.{blanks_first, lines_text, margin_at}
 use Rattle.abnfblocks.specs.declared.found.Found.{Found}
 use Rattle.abnfblocks.specs.declared.found.Found.TheVariants as found
 use Rattle.abnftexts.specs.RulesGathered.{RuleLines, RulesGathered, NamedText, both_given, named_text}
@@ -57,25 +57,36 @@ more-taken One Other Both g h end join one other =
     other.2 ∙ ap (λ (x : RulesGathered). both_given x other.0) one.2 ∙ both-assoc g one.0 other.0 in
     (both_given one.0 other.0, join one.0 other.0 one.1 other.1, e)
 
-abbrev place_with : List ℕ → ℕ → List NumberedLine → ℕ → RuleLines
-place_with name margin lines blanks = record { name = name; margin = margin; lines = lines; blanks = blanks }
+abbrev place_with : List ℕ → ℕ → List NumberedLine → ℕ → List ℕ → List ℕ → RuleLines
+place_with name margin lines blanks comments text = record {
+  name = name;
+  margin = margin;
+  lines = lines;
+  blanks = blanks;
+  comments = comments;
+  text = text;
+}
 
-place-same : (name : List ℕ) (m n : ℕ) (xs ys : List NumberedLine) (k l : ℕ) → m ≡ n → xs ≡ ys → k ≡ l
-    → place_with name m xs k ≡ place_with name n ys l
-place-same name m n xs ys k l e f g = rw (e, f, g) refl
+place-same : (name : List ℕ) (m n : ℕ) (xs ys : List NumberedLine) (k l : ℕ) (comments text : List ℕ) → m ≡ n
+    → xs ≡ ys → k ≡ l → comments ≡ [] → text ≡ lines_text n ys
+    → place_with name m xs k comments text ≡ place_with name n ys l [] (lines_text n ys)
+place-same name m n xs ys k l comments text e f g h t = rw (e, f, g, h, t) refl
 
 pub place-made : (name : List ℕ) (rest own behind : List TextLine) (count margin blanks : ℕ) (lines : List TextLine)
-    → own ≡ take count rest → behind ≡ drop count rest → margin ≡ margin_at (map numbered own) → lines ≡ own
-    → blanks ≡ blanks_first (map numbered behind) → place_with name margin (map numbered lines) blanks
-    ≡ place_in name (map numbered rest) count
-place-made name rest own behind count margin blanks lines front back cut same empty =
+    (comments text : List ℕ) → own ≡ take count rest → behind ≡ drop count rest
+    → margin ≡ margin_at (map numbered own) → lines ≡ own → blanks ≡ blanks_first (map numbered behind)
+    → comments ≡ [] → text ≡ lines_text margin (map numbered own)
+    → place_with name margin (map numbered lines) blanks comments text ≡ place_in name (map numbered rest) count
+place-made name rest own behind count margin blanks lines comments text front back cut same empty none all =
     let own_is : map numbered own ≡ take count (map numbered rest) =
     ap (λ (xs : List TextLine). map numbered xs) front ∙ sym (take-map numbered count rest) in
     let behind_is : map numbered behind ≡ drop count (map numbered rest) =
     ap (λ (xs : List TextLine). map numbered xs) back ∙ sym (drop-map numbered count rest) in
-    place-same name _ _ _ _ _ _ (cut ∙ ap (λ (xs : List NumberedLine). margin_at xs) own_is)
-    (ap (λ (xs : List TextLine). map numbered xs) same ∙ own_is)
-    (empty ∙ ap (λ (xs : List NumberedLine). blanks_first xs) behind_is)
+    let margin_is = cut ∙ ap (λ (xs : List NumberedLine). margin_at xs) own_is in
+    place-same name _ _ _ _ _ _ comments text margin_is (ap (λ (xs : List TextLine). map numbered xs) same ∙ own_is)
+    (empty ∙ ap (λ (xs : List NumberedLine). blanks_first xs) behind_is) none
+    (all ∙ ap (λ (xs : List NumberedLine). lines_text margin xs) own_is
+    ∙ ap (λ (m : ℕ). lines_text m (take count (map numbered rest))) margin_is)
 
 each-at : {X : Type 0} (P : X → Type 0) (xs : List X) (i : ℕ) (d : X) → Each P xs → i < length xs → P (get_or xs i d)
 each-at P [] i d h lt = absurd (omega (arith, lt))
@@ -93,7 +104,7 @@ module _ (name : List ℕ) (kept : List NumberedLine) (all : List Found) (i : �
       one-behind all i d lt ∙ ap (λ (x : Found). x ∷ others) is in
       let own : ReadAlone (take count (drop first kept)) =
       subst (λ (x : Found). IsReadAlone kept x) is (each-at (IsReadAlone kept) all i d alone lt) in
-      let spells : SpellRule (margin_at (take count (drop first kept))) (take count (drop first kept))
+      let spells : SpellRule (lines_text (margin_at (take count (drop first kept))) (take count (drop first kept)))
       (given_by own.definition) = record { definition = own.definition; reads = own.reads; is = refl } in
       let one : RulesGathered = one_rule (place_in name (drop first kept) count) (given_by own.definition) in
       let taken : TakesRule name (drop first kept) count g h =

@@ -2,7 +2,7 @@
 -- Serves: joined_reading
 use Rattle.std.proofs.Common.{◌≡◌, ◌≢◌, ℕ, zero, suc, ◌+◌, ◌/◌, ◌%◌, ◌≤◌, ◌==◌, ◌||◌, nat_lt, Bool, true, false, cond}
 use Rattle.std.proofs.Common.{Option, Some, None, List, [], ◌∷◌, ◌++◌, length, map, refl, sym, ap, ◌∙◌, arith, inl, inr}
-use Rattle.std.proofs.Common.{subst, append-nil, decimal, replicate}
+use Rattle.std.proofs.Common.{subst, append-nil, append_assoc, decimal, replicate}
 use Rattle.std.proofs.lemmas.Bool.{cases_Bool}
 use Rattle.std.proofs.lemmas.Bool.Decides.{nat_tests}
 use Rattle.std.proofs.lemmas.List.{map-append}
@@ -16,23 +16,24 @@ use Rattle.abnfread.specs.AbnfReading.{IsFaultOf, Reads}
 use Rattle.abnfread.specs.AbnfSlices.{Run, none, more, White, blank, comment, is_inside}
 use Rattle.abnfread.specs.Element.{Definition}
 use Rattle.abnfread.proofs.AbnfFaultLemmas.{long-fault, no-fault, one-reading}
-use Rattle.abnfblocks.specs.RuleCuts.{lines_text}
 use Rattle.abnftexts.specs.GivenRules.{RuleGiven, fates_of}
 use Rattle.abnftexts.specs.JoinedRules.{joined_order}
 use Rattle.abnftexts.specs.JoinedGrammar.{AreTextsJoined, GrammarJoined, comment_before, first_number, gap_before}
 use Rattle.abnftexts.specs.JoinedGrammar.{goes_behind_it, printed_behind, rule_printed, standing_rules}
 use Rattle.abnftexts.specs.LinkedTexts.{EndsLine, lf, behind_byte, SpellsAtMargin, moved_definition}
 use Rattle.abnftexts.specs.RulesGathered.{NamedText, RuleLines}
-use Rattle.abnftexts.specs.SpelledRules.{AreSpelled, no_rules, next_rule, joined_places, joined_rules, unplaced}
+use Rattle.abnftexts.specs.SpelledRules.{AreSpelled, no_rules, next_rule, joined_places, joined_rules}
+use Rattle.abnftexts.specs.SpelledRules.{as_written, unplaced}
 use Rattle.abnftexts.specs.TextPlaces.{place_shown}
 use Rattle.abnftexts.specs.TextRules.{given_by}
 use Rattle.abnftexts.proofs.ClearLinesLemmas.{AreInside}
 use Rattle.abnftexts.proofs.EachLemmas.{each_none, each_next, each-both}
 use Rattle.abnftexts.proofs.LinkedTextLemmas.{nothing-reads, spells-linked, spells-behind, spells-reads}
-use Rattle.abnftexts.proofs.OwnLinesLemmas.{OwnLines}
-use Rattle.abnftexts.proofs.PlacedRulesLemmas.{ArePlaced, none_placed, next_placed, placed-ordered, placed-standing}
 use Rattle.abnftexts.proofs.PlacedRulesLemmas.{texts-placed}
-use Rattle.abnftexts.proofs.RuleTextLemmas.{SameUnplaced, all-given, line-behind, moved-same, rule-text, text-spells}
+use Rattle.abnftexts.proofs.RuleTextLemmas.{SameUnplaced, all-given, line-behind, moved-same, text-spells}
+use Rattle.abnftexts.proofs.WrittenRulesLemmas.{AreComments, no_comments, a_comment, IsWritten, AreWritten}
+use Rattle.abnftexts.proofs.WrittenRulesLemmas.{none_written, next_written, named-written, written-ordered}
+use Rattle.abnftexts.proofs.WrittenRulesLemmas.{written-standing}
 
 inside-hex : (d : ℕ) → is_inside (hex_digit d) ≡ true
 inside-hex d = elim (cases_Bool (nat_lt d 10)) [
@@ -131,12 +132,31 @@ behind-gap (Some before) place h l = elim (cases_Bool (goes_behind_it before pla
   | inr e ↦ rw e (behind-comment place h l)
 ]
 
-row-spells : (before : Option RuleLines) (place : RuleLines) {ds : List Definition}
-    → OwnLines place.margin place.lines → Reads (lines_text place.margin place.lines) ds
-    → SpellsLike (rule_printed before place) ds
-row-spells before place own h =
-    let t = rule-text own in
-    behind-gap before place (text-spells t.whole t.letter h) t.line
+behind-comments : {comments text : List ℕ} {ds : List Definition} → AreComments comments → SpellsAtMargin text ds
+    → EndsLine text → SpellsLike (comments ++ text) ds
+behind-comments {ds = ds} no_comments h l = record { definitions = ds; spells = h; same = refl; line = l }
+behind-comments {text = text} (a_comment {rest = others} bytes inside further) h l =
+    let rest = behind-comments further h l in
+    let here : List ℕ = 59 ∷ (bytes ++ 10 ∷ []) in
+    let assoc = append_assoc here others text in
+    record {
+      definitions = map (moved_definition (length here)) rest.definitions;
+      spells = rw assoc (spells-behind (line-behind (59 ∷ bytes) lf) (comment-white bytes inside) rest.spells);
+      same = moved-same (length here) rest.definitions ∙ rest.same;
+      line = rw assoc (line-behind here rest.line);
+    }
+
+-- what is like something that is like the definitions
+like-like : {text : List ℕ} {ds es : List Definition} → SpellsLike text ds → SameUnplaced ds es → SpellsLike text es
+like-like x same = record { definitions = x.definitions; spells = x.spells; same = x.same ∙ same; line = x.line }
+
+row-spells : (before : Option RuleLines) (place : RuleLines) {given : RuleGiven} (is : IsWritten place given)
+    → SpellsLike (rule_printed before place) (is.spells.definition ∷ [])
+row-spells before place is =
+    let spells = is.spells in
+    let t = is.first in
+    let row = behind-comments is.comments (text-spells t.is_letter t.letter spells.reads) is.line in
+    like-like (behind-gap before place row.spells row.line) row.same
 
 linked-like : {a b : List ℕ} {first second : List Definition} → SpellsLike a first → SpellsLike b second
     → SpellsLike (a ++ b) (first ++ second)
@@ -154,45 +174,49 @@ linked-like {a} {b} {first} {second} x y = record {
 pub record RowsSpell (before : Option RuleLines) (places : List RuleLines) (rules : List RuleGiven) : Type 0 where
   pub alone : List Definition
   pub are : AreSpelled places rules alone
-  pub given : map given_by alone ≡ rules
+  pub given : map given_by alone ≡ map as_written rules
   pub like : SpellsLike (printed_behind before places) alone
 
 pub rows-spell : (before : Option RuleLines) (place : RuleLines) {places : List RuleLines} {rules : List RuleGiven}
-    → ArePlaced (place ∷ places) rules → RowsSpell before (place ∷ places) rules
-rows-spell before place (next_placed own spells none_placed) =
-    let like = row-spells before place own spells.reads in
+    → AreWritten (place ∷ places) rules → RowsSpell before (place ∷ places) rules
+rows-spell before place (next_written is none_written) =
+    let like = row-spells before place is in
+    let spells = is.spells in
     record {
       alone = spells.definition ∷ [];
       are = next_rule spells no_rules;
       given = ap (λ (r : RuleGiven). r ∷ []) (sym spells.is);
       like = (let e = append-nil (rule_printed before place) in rw e like);
     }
-rows-spell before place (next_placed {given} own spells (next_placed {place = next} theirs spelled h)) =
-    let rest = rows-spell (Some place) next (next_placed theirs spelled h) in
+rows-spell before place (next_written {given} is (next_written {place = next} theirs h)) =
+    let rest = rows-spell (Some place) next (next_written theirs h) in
+    let spells = is.spells in
     record {
       alone = spells.definition ∷ rest.alone;
       are = next_rule spells rest.are;
       given = ap (λ (r : RuleGiven). r ∷ map given_by rest.alone) (sym spells.is)
-          ∙ ap (λ (z : List RuleGiven). given ∷ z) rest.given;
-      like = linked-like (row-spells before place own spells.reads) rest.like;
+          ∙ ap (λ (z : List RuleGiven). as_written given ∷ z) rest.given;
+      like = linked-like (row-spells before place is) rest.like;
     }
 
--- the rules that are printed have lines of their own
-joined-placed : {texts : List NamedText} {j : GrammarJoined} (a : AreTextsJoined texts j)
-    → ArePlaced (joined_places a.gathered) (joined_rules a.gathered)
-joined-placed a =
+-- what is written for the rules that are printed
+joined-written : {texts : List NamedText} {j : GrammarJoined} (a : AreTextsJoined texts j)
+    → AreWritten (joined_places a.gathered) (joined_rules a.gathered)
+joined-written a =
     let g = a.gathered in
-    placed-ordered (joined_order (standing_rules g)) (placed-standing (fates_of g.rules) (texts-placed a.gives))
+    let names = a.names in
+    written-ordered (joined_order (standing_rules g)) (written-standing (fates_of g.rules)
+    (named-written (texts-placed a.gives) names.places names.rules))
 
 -- nothing is printed, or what is printed spells rules
 data PrintedSpells (places : List RuleLines) (rules : List RuleGiven) : Type 0 where
   nothing_printed : printed_behind None places ≡ [] → PrintedSpells places rules
   rows : RowsSpell None places rules → PrintedSpells places rules
 
-printed-spells : {places : List RuleLines} {rules : List RuleGiven} → ArePlaced places rules
+printed-spells : {places : List RuleLines} {rules : List RuleGiven} → AreWritten places rules
     → PrintedSpells places rules
-printed-spells none_placed = nothing_printed refl
-printed-spells (next_placed {place} own spells h) = rows (rows-spell None place (next_placed own spells h))
+printed-spells none_written = nothing_printed refl
+printed-spells (next_written {place} is h) = rows (rows-spell None place (next_written is h))
 
 some-reads : {places : List RuleLines} {rules : List RuleGiven} {text : List ℕ} → PrintedSpells places rules
     → text ≡ printed_behind None places → text ≢ [] → length text ≤ MAX_GRAMMAR
@@ -203,7 +227,7 @@ some-reads (rows r) e some le = let like = r.like in (like.definitions, rw e (sp
 text-alone : {places : List RuleLines} {rules : List RuleGiven} {text : List ℕ} {definitions : List Definition}
     → PrintedSpells places rules → text ≡ printed_behind None places → Reads text definitions
     → (alone : List Definition) × AreSpelled places rules alone × SameUnplaced definitions alone
-    × (map given_by definitions ≡ rules)
+    × (map given_by definitions ≡ map as_written rules)
 text-alone {definitions = definitions} (nothing_printed n) e h =
     absurd (nothing-reads (subst (λ (t : List ℕ). Reads t definitions) (e ∙ n) h))
 text-alone {places} {definitions = definitions} (rows r) e h =
@@ -218,13 +242,13 @@ text-alone {places} {definitions = definitions} (rows r) e h =
 pub joined-reads : {texts : List NamedText} {j : GrammarJoined} → AreTextsJoined texts j → j.grammar ≢ []
     → length j.grammar ≤ MAX_GRAMMAR → (definitions : List Definition) × Reads j.grammar definitions
 joined-reads a some le =
-    some-reads (printed-spells (joined-placed a)) (ap (λ (x : GrammarJoined). x.grammar) a.is) some le
+    some-reads (printed-spells (joined-written a)) (ap (λ (x : GrammarJoined). x.grammar) a.is) some le
 
 pub joined-alone : {texts : List NamedText} {j : GrammarJoined} {definitions : List Definition}
     (a : AreTextsJoined texts j) → Reads j.grammar definitions
     → (alone : List Definition) × AreSpelled (joined_places a.gathered) (joined_rules a.gathered) alone
-    × SameUnplaced definitions alone × (map given_by definitions ≡ joined_rules a.gathered)
-joined-alone a h = text-alone (printed-spells (joined-placed a)) (ap (λ (x : GrammarJoined). x.grammar) a.is) h
+    × SameUnplaced definitions alone × (map given_by definitions ≡ map as_written (joined_rules a.gathered))
+joined-alone a h = text-alone (printed-spells (joined-written a)) (ap (λ (x : GrammarJoined). x.grammar) a.is) h
 
 pub joined-long : {texts : List NamedText} {j : GrammarJoined} (fault : ReadFault) → AreTextsJoined texts j
     → j.grammar ≢ [] → IsFaultOf j.grammar fault → fault ≢ faults.Memory → fault ≡ faults.TooLong

@@ -17,7 +17,6 @@ use Rattle.abnftexts.specs.GivenRules.{RuleGiven}
 use Rattle.abnfblocks.specs.MaskedLines.{AreRead}
 use Rattle.abnfblocks.specs.TextLines.{NumberedLine}
 use Rattle.abnfblocks.specs.FoundRules.{AreFound}
-use Rattle.abnfblocks.specs.RuleCuts.{lines_text}
 use Rattle.abnfblocks.specs.declared.found.Found.{Found}
 use Rattle.abnftexts.specs.RulesGathered.{NamedText, RuleLines, RulesGathered, both_given, one_rule, told_alone}
 use Rattle.abnftexts.specs.TextPlaces.{not_abnf_told}
@@ -72,7 +71,7 @@ module _ (one : OneReading) where
 
   rule-uses : (place : RuleLines) (a b : List UsedName) → AreRuleUses place a → AreRuleUses place b → a ≡ b
   rule-uses place a b x y =
-      let text = lines_text place.margin place.lines in
+      let text = place.text in
       let signs : List (Tok AbnfKind) → List SignAt = λ ts. map (sign_at sign_of) ts in
       x.are
       ∙ ap (λ (ts : List (Tok AbnfKind)). flat_map (used_at place) (mentions_in Lf text None (signs ts)))

@@ -22,11 +22,10 @@ use Rattle.abnfread.specs.CoreRules.{core_names}
 use Rattle.abnfread.specs.Element.{Rule}
 use Rattle.abnfread.specs.declared.elem.Elem.{Elem}
 use Rattle.abnfexplain.specs.AbnfNoteLines.{AreAbnfPlaces}
-use Rattle.abnfblocks.specs.RuleCuts.{lines_text}
 use Rattle.diagnostics.specs.NumberLists.{numbers_for}
 use Rattle.abnftexts.specs.GivenRules.{RuleGiven, text_rule}
 use Rattle.abnftexts.specs.JoinedGrammar.{ordered_rules}
-use Rattle.abnftexts.specs.CodeUses.{AddsUses, ListKnown, ListsMore, name_used, unknown_told}
+use Rattle.abnftexts.specs.CodeUses.{AddsUses, ListKnown, ListsMore, is_known, name_used, unknown_told}
 use Rattle.abnftexts.specs.ListedRules.{ListNames, has_list, has_some, is_listed_for}
 use Rattle.abnftexts.specs.RulesGathered.{RuleLines}
 use Rattle.abnftexts.specs.UsedNames.{AreNameUses, UsedName, next_uses, no_rules, undefined_line, undefined_told}
@@ -132,6 +131,20 @@ name-listed old new name n folds same more = (
       (some-if (same_name old.names other name) n ∙ ap (λ (c : NameCase). same_name c other name) folds),
 )
 
+no-some : (b : Bool) → true ≡ not b → b ≡ false
+no-some true e = cc
+no-some false e = refl
+
+-- a name that is not listed is known if it is that of a core rule
+pub known-core : (names : table.Rules (Vec ℕ Global)) (name numbers : List ℕ) (is_empty found : Bool)
+    → numbers ≡ numbers_for names name → is_empty ≡ (length numbers == 0) → is_empty ≡ true
+    → found ≡ list_any (same_name Fold name) core_names → found ≡ is_known names name
+known-core names name numbers is_empty found listed e empty core =
+    let none : has_list names name ≡ false =
+    no-some (has_list names name) (sym empty ∙ e ∙ ap (λ (ns : List ℕ). length ns == 0) listed
+    ∙ none-listed (numbers_for names name)) in
+    rw none core
+
 or-moved : (g b c : Bool) → not ((g || b) || c) ≡ (not (g || c) && not b)
 or-moved true b c = refl
 or-moved false true true = refl
@@ -190,11 +203,11 @@ known-more rules uses n x old new lt e known more =
 
 -- the uses of a rule
 pub uses-added : (place : RuleLines) (text : List ℕ) (places : Places) (mentions : List MentionedAt)
-    (old new : List UsedName) → AreAbnfPlaces text places → text ≡ lines_text place.margin place.lines
+    (old new : List UsedName) → AreAbnfPlaces text places → text ≡ place.text
     → mentions ≡ map mentioned_at places.mentions.items
     → new ≡ old ++ flat_map (used_at place) mentions → AddsUses place old new
 uses-added place text places mentions old new are same all more =
-    let here : AreAbnfPlaces (lines_text place.margin place.lines) places =
+    let here : AreAbnfPlaces place.text places =
     subst (λ (t : List ℕ). AreAbnfPlaces t places) same are in (
       flat_map (used_at place) mentions,
       record {

@@ -3,13 +3,13 @@ use Prim.Native.Char.{code}
 use Rattle.std.specs.Prelude.{◌≡◌, ℕ, ◌+◌, ◌==◌, ◌&&◌, ◌||◌, bytes_eq, nat_lt, Bool, true, false, List, [], ◌∷◌}
 use Rattle.std.specs.Prelude.{◌++◌, length, map, replicate, Option, None, Some, codes, slice_get, if◌then◌else◌}
 use Rattle.std.specs.List.{enumerate_from, filter_map, flat_map, zip}
-use Rattle.abnfblocks.specs.RuleCuts.{lines_text}
 use Rattle.abnftexts.specs.GivenRules.{RuleGiven, fates_of}
 use Rattle.abnftexts.specs.JoinedRules.{clashes_of, joined_order}
 use Rattle.abnftexts.specs.declared.join.fate.Fate.{Fate}
 use Rattle.abnftexts.specs.declared.join.fate.Fate.TheVariants.{Stands, Again, Yields}
 use Rattle.abnftexts.specs.declared.join.order.Clash.{Clash}
 use Rattle.abnftexts.specs.RulesGathered.{NamedText, RuleLines, RulesGathered}
+use Rattle.abnftexts.specs.NamedRules.{AreNamed}
 use Rattle.abnftexts.specs.TextRules.{GiveTexts}
 use Rattle.abnftexts.specs.UsedNames.{AreNameUses, UsedName, undefined_told}
 use Rattle.abnftexts.specs.TextPlaces.{number_at, place_shown}
@@ -47,9 +47,9 @@ gap_before None place = comment_before place
 gap_before (Some before) place =
     if goes_behind_it before place then replicate before.blanks (code "\n") else comment_before place
 
--- the rule as it is printed: its lines without the margin
+-- the rule as it is printed: what is written for it
 abbrev pub rule_printed : Option RuleLines → RuleLines → List ℕ
-rule_printed before place = gap_before before place ++ lines_text place.margin place.lines
+rule_printed before place = gap_before before place ++ (place.comments ++ place.text)
 
 -- the rules with these numbers, in their order
 abbrev pub ordered_rules : List RuleLines → List ℕ → List RuleLines
@@ -135,10 +135,12 @@ abbrev pub gathered_joined : RulesGathered → List UsedName → GrammarJoined
 gathered_joined g uses = joined_of (standing_places g) (standing_rules g) uses g.told
     (rules_listed g.places g.rules (fates_of g.rules))
 
--- that of all texts
+-- that of all texts: what they give, where names lose angle brackets
 pub record AreTextsJoined (texts : List NamedText) (joined : GrammarJoined) : Type 0 where
+  pub given : RulesGathered
+  pub gives : GiveTexts texts given
   pub gathered : RulesGathered
-  pub gives : GiveTexts texts gathered
+  pub names : AreNamed given gathered
   pub uses : List UsedName
   pub are_uses : UsesPrinted (standing_places gathered) (standing_rules gathered) uses
   pub is : joined ≡ gathered_joined gathered uses

@@ -2,6 +2,7 @@ pub mod CodeUses
 pub mod JoinRun
 pub mod JoinedGrammar
 pub mod JoinedViews
+pub mod NamedRules
 pub mod RulesGathered
 pub mod SpelledRules
 pub mod TakenRules

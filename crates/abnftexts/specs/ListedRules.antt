@@ -5,7 +5,6 @@ use Rattle.ruletable.specs.Rules.{Rules, same_name}
 use Rattle.ruletable.specs.declared.table.NameCase.TheVariants.{Exact, Fold}
 use Rattle.diagnostics.specs.NumberLists.{numbers_for, positions_from}
 use Rattle.abnftexts.specs.GivenRules.{RuleGiven, text_rule}
-use Rattle.abnftexts.specs.OnlyProse.{only_prose}
 use Rattle.abnftexts.specs.RuleKeys.{rule_key}
 use Rattle.abnftexts.specs.declared.join.by_name.Listed.{Listed}
 use Rattle.abnftexts.specs.declared.join.by_name.Listed.TheVariants as kinds
@@ -15,7 +14,7 @@ use Rattle.abnftexts.specs.declared.join.given.GivenRule.{GivenRule}
 abbrev pub is_listed : Listed → RuleGiven → Bool
 is_listed kinds.Rules rule = true
 is_listed kinds.Definitions rule = not rule.adds
-is_listed kinds.Elements rule = not rule.adds && not (only_prose rule.body)
+is_listed kinds.Elements rule = not rule.adds && not rule.is_prose
 is_listed kinds.Additions rule = rule.adds
 
 -- whether it is listed for that name

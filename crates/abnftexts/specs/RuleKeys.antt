@@ -1,6 +1,6 @@
 -- What rules that are the same have in common. It serves private helpers alone.
 use Prim.Native.Char.{code}
-use Rattle.std.specs.Prelude.{ℕ, List, [], ◌∷◌, ◌++◌, decimal, if◌then◌else◌}
+use Rattle.std.specs.Prelude.{ℕ, Bool, List, [], ◌∷◌, ◌++◌, decimal, if◌then◌else◌}
 use Rattle.std.specs.List.{flat_map}
 use Rattle.std.specs.Option.{unwrap_or}
 use Rattle.std.specs.Str.{str_to_ascii_lowercase}
@@ -35,5 +35,9 @@ abbrev mutual
   members_key none = code ")" ∷ []
   members_key (more e es) = element_key e ++ members_key es
 
+-- what a rule's key begins with: whether it adds, and whether it is prose alone
+abbrev pub rule_mark : Bool → Bool → ℕ
+rule_mark adds is_prose = if adds then code "+" else if is_prose then code "<" else code "="
+
 abbrev pub rule_key : RuleGiven → List ℕ
-rule_key rule = folded_key (if rule.adds then code "+" else code "=") rule.name ++ element_key rule.body
+rule_key rule = folded_key (rule_mark rule.adds rule.is_prose) rule.name ++ element_key rule.body

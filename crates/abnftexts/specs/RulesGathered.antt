@@ -11,13 +11,15 @@ pub record NamedText : Type 0 where
   pub name : List ℕ
   pub bytes : List ℕ
 
--- where a rule stands: the name of its text, its lines, the margin that is cut from them, and how many blank lines
--- follow them
+-- where a rule stands: the name of its text, its lines, the margin that is cut from them, how many blank lines follow
+-- them, and what is written for them: comments, and the rule
 pub record RuleLines : Type 0 where
   pub name : List ℕ
   pub margin : ℕ
   pub lines : List NumberedLine
   pub blanks : ℕ
+  pub comments : List ℕ
+  pub text : List ℕ
 
 -- the rules of texts in order, the lines of each, and the reports on the error output
 pub record RulesGathered : Type 0 where
@@ -35,6 +37,8 @@ lines_placed place = record {
   margin = place.margin;
   lines = map numbered place.lines.items;
   blanks = place.blanks;
+  comments = place.comments.items;
+  text = place.text.items;
 }
 
 abbrev pub rules_gathered : Gathered → RulesGathered

@@ -1,10 +1,11 @@
 -- What the rules that are printed spell.
-use Rattle.std.specs.Prelude.{List, [], ◌∷◌, slice_get}
+use Rattle.std.specs.Prelude.{◌&&◌, not, List, [], ◌∷◌, slice_get}
 use Rattle.std.specs.List.{filter_map}
 use Rattle.abnfread.specs.Element.{Definition}
 use Rattle.abnftexts.specs.GivenRules.{RuleGiven}
 use Rattle.abnftexts.specs.JoinedRules.{joined_order}
 use Rattle.abnftexts.specs.JoinedGrammar.{ordered_rules, standing_places, standing_rules}
+use Rattle.abnftexts.specs.OnlyProse.{only_prose}
 use Rattle.abnftexts.specs.RulesGathered.{RuleLines, RulesGathered}
 use Rattle.abnftexts.specs.TextRules.{SpellRule}
 
@@ -17,11 +18,20 @@ joined_places g = ordered_rules (standing_places g) (joined_order (standing_rule
 
 -- a definition, wherever its name stands
 abbrev pub unplaced : Definition → RuleGiven
-unplaced d = record { adds = d.adds; name = d.name; body = d.body }
+unplaced d = record { adds = d.adds; name = d.name; body = d.body; is_prose = not d.adds && only_prose d.body }
 
--- The definitions that the lines of rules spell, each rule's read alone, one after another.
+-- the rule as its own elements say: whether it is prose alone is said of those that are written
+abbrev pub as_written : RuleGiven → RuleGiven
+as_written rule = record {
+  adds = rule.adds;
+  name = rule.name;
+  body = rule.body;
+  is_prose = not rule.adds && only_prose rule.body;
+}
+
+-- The definitions that the texts of rules spell, each rule's read alone, one after another.
 pub data AreSpelled : List RuleLines → List RuleGiven → List Definition → Type 0 where
   no_rules : AreSpelled [] [] []
   next_rule : {place : RuleLines} {given : RuleGiven} {places : List RuleLines} {rules : List RuleGiven}
-      {others : List Definition} (spells : SpellRule place.margin place.lines given) → AreSpelled places rules others
+      {others : List Definition} (spells : SpellRule place.text (as_written given)) → AreSpelled places rules others
       → AreSpelled (place ∷ places) (given ∷ rules) (spells.definition ∷ others)

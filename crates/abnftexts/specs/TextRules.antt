@@ -1,11 +1,12 @@
 -- Which rules texts give, each with its own lines; and the reports of lines that begin a rule and are no ABNF.
-use Rattle.std.specs.Prelude.{◌≡◌, ℕ, List, [], ◌∷◌, take, drop}
+use Rattle.std.specs.Prelude.{◌≡◌, ℕ, ◌&&◌, not, List, [], ◌∷◌, take, drop}
 use Rattle.ruletable.specs.declared.fault.ReadFault.{ReadFault}
 use Rattle.abnfread.specs.AbnfReading.{Reads}
 use Rattle.abnfread.specs.AbnfTable.{first_body}
 use Rattle.abnfread.specs.CoreRules.{core_list}
 use Rattle.abnfread.specs.Element.{Definition, body_of}
 use Rattle.abnftexts.specs.GivenRules.{RuleGiven}
+use Rattle.abnftexts.specs.OnlyProse.{only_prose}
 use Rattle.abnfblocks.specs.MaskedLines.{AreRead}
 use Rattle.abnfblocks.specs.TextLines.{NumberedLine, behind_mark}
 use Rattle.abnfblocks.specs.FoundRules.{AreFound}
@@ -19,21 +20,28 @@ use Rattle.abnftexts.specs.TextPlaces.{not_abnf_told}
 -- The rule that a definition is, wherever its name stands: what adds to a core rule (RFC 5234, appendix B.1) has that
 -- rule's alternatives before its own.
 abbrev pub given_by : Definition → RuleGiven
-given_by d = record { adds = d.adds; name = d.name; body = first_body (body_of core_list) d }
+given_by d = record {
+  adds = d.adds;
+  name = d.name;
+  body = first_body (body_of core_list) d;
+  is_prose = not d.adds && only_prose (first_body (body_of core_list) d);
+}
 
--- The lines alone spell one definition, which is the rule: they are read without the margin.
-pub record SpellRule (margin : ℕ) (lines : List NumberedLine) (given : RuleGiven) : Type 0 where
+-- The text spells one definition, which is the rule.
+pub record SpellRule (text : List ℕ) (given : RuleGiven) : Type 0 where
   pub definition : Definition
-  pub reads : Reads (lines_text margin lines) (definition ∷ [])
+  pub reads : Reads text (definition ∷ [])
   pub is : given ≡ given_by definition
 
--- where the rule stands that has so many of these lines
+-- where the rule stands that has so many of these lines; they are written without the margin
 abbrev pub place_in : List ℕ → List NumberedLine → ℕ → RuleLines
 place_in name rest count = record {
   name = name;
   margin = margin_at (take count rest);
   lines = take count rest;
   blanks = blanks_first (drop count rest);
+  comments = [];
+  text = lines_text (margin_at (take count rest)) (take count rest);
 }
 
 -- What is found in a text of which these lines are read gives that: each rule what its lines alone spell, and each line
@@ -41,7 +49,7 @@ place_in name rest count = record {
 pub data GivesFound (name : List ℕ) (kept : List NumberedLine) : List Found → RulesGathered → Type 0 where
   none_found : GivesFound name kept [] none_given
   next_rule : {first count : ℕ} {others : List Found} {given : RuleGiven} {behind : RulesGathered}
-      → SpellRule (margin_at (take count (drop first kept))) (take count (drop first kept)) given
+      → SpellRule (lines_text (margin_at (take count (drop first kept))) (take count (drop first kept))) given
       → GivesFound name kept others behind
       → GivesFound name kept (found.Rule first count ∷ others)
       (both_given (one_rule (place_in name (drop first kept) count) given) behind)

@@ -12,7 +12,6 @@ use Rattle.abnfread.specs.CoreRules.{core_names}
 use Rattle.abnfread.specs.MarkedTokens.{AreTokens}
 use Rattle.abnfread.specs.declared.kind.AbnfKind.{AbnfKind}
 use Rattle.abnfexplain.specs.AbnfNoteLines.{sign_of}
-use Rattle.abnfblocks.specs.RuleCuts.{lines_text}
 use Rattle.abnftexts.specs.GivenRules.{RuleGiven}
 use Rattle.abnftexts.specs.RulesGathered.{RuleLines}
 use Rattle.abnftexts.specs.TextPlaces.{number_at, place_shown}
@@ -31,12 +30,11 @@ used_at place m = if is_kind Use m.kind then record {
   name = m.text;
 } ∷ [] else []
 
--- the names that a rule uses, in order: those of the tokens of its lines that stand before no `=` or `=/`
+-- the names that a rule uses, in order: those of the tokens of what is written that stand before no `=` or `=/`
 pub record AreRuleUses (place : RuleLines) (uses : List UsedName) : Type 0 where
   pub tokens : List (Tok AbnfKind)
-  pub are_tokens : AreTokens (lines_text place.margin place.lines) tokens
-  pub are : uses ≡ flat_map (used_at place)
-      (mentions_in Lf (lines_text place.margin place.lines) None (map (sign_at sign_of) tokens))
+  pub are_tokens : AreTokens place.text tokens
+  pub are : uses ≡ flat_map (used_at place) (mentions_in Lf place.text None (map (sign_at sign_of) tokens))
 
 -- those that rules use, one after another
 pub data AreNameUses : List RuleLines → List UsedName → Type 0 where

@@ -23,6 +23,10 @@ pub(crate) struct RulePlace<'a> {
     pub(crate) lines: Vec<TextLine<'a>>,
     /// How many blank lines follow them.
     pub(crate) blanks: usize,
+    /// The comments that are written before the rule.
+    pub(crate) comments: Vec<u8>,
+    /// The rule as it is written.
+    pub(crate) text: Vec<u8>,
 }
 
 /// The rules of texts, in order.

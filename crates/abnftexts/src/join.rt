@@ -14,6 +14,7 @@ mod same;
 pub(crate) use by_name::{Listed, numbers_by_name};
 pub use fate::{Fate, find_fates};
 pub use given::GivenRule;
+pub(crate) use leaves::is_same_folded;
 pub use linked::linked_reading;
 pub use only_prose::is_only_prose;
 pub use order::{Clash, find_clashes, find_order};

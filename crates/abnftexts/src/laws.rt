@@ -6,7 +6,7 @@ ghost use Rattle.lexer.specs.GrammarLimits.{max_grammar};
 ghost use Rattle.abnftexts.specs.JoinRun.{JoinStates};
 ghost use Rattle.abnftexts.specs.JoinedGrammar.{AreTextsJoined, GrammarJoined};
 ghost use Rattle.abnftexts.specs.RulesGathered.{NamedText};
-ghost use Rattle.abnftexts.specs.SpelledRules.{AreSpelled, joined_places, joined_rules, unplaced};
+ghost use Rattle.abnftexts.specs.SpelledRules.{AreSpelled, as_written, joined_places, joined_rules, unplaced};
 ghost use Rattle.abnftexts.specs.TextRules.{given_by};
 ghost use Rattle.toolrun.specs.Input.{Input};
 ghost use Rattle.toolrun.specs.Reply.{Reply};
@@ -33,8 +33,8 @@ pub fn one_joining()
 }
 
 /// Says what the joined grammar of texts is read as: a definition for each rule that is printed, in that order, with
-/// its name, its elements, and `=` or `=/`. They are the definitions that the rules' own lines are read as, but for
-/// where their names stand. A grammar that has some rule is read unless it is too long, and has no other fault.
+/// its name, its elements, and `=` or `=/`. They are the definitions that the texts of the rules are each read as, but
+/// for where their names stand. A grammar that has some rule is read unless it is too long, and has no other fault.
 pub fn joined_reading()
     ensures reads { (texts : List NamedText) (j : GrammarJoined) → AreTextsJoined texts j → j.grammar ≢ []
         → length j.grammar ≤ max_grammar → (definitions : List Definition) × Reads j.grammar definitions }
@@ -42,7 +42,7 @@ pub fn joined_reading()
         → j.grammar ≢ [] → IsFaultOf j.grammar fault → fault ≢ ReadFault.Memory → fault ≡ ReadFault.TooLong }
     ensures rules { (texts : List NamedText) (j : GrammarJoined) (definitions : List Definition)
         (a : AreTextsJoined texts j) → Reads j.grammar definitions
-        → map given_by definitions ≡ joined_rules a.gathered }
+        → map given_by definitions ≡ map as_written (joined_rules a.gathered) }
     ensures spelled { (texts : List NamedText) (j : GrammarJoined) (definitions : List Definition)
         (a : AreTextsJoined texts j) → Reads j.grammar definitions → (alone : List Definition)
         × AreSpelled (joined_places a.gathered) (joined_rules a.gathered) alone

@@ -1,7 +1,7 @@
 //! The list of the rules that texts give.
 ghost use Rattle.std.specs.Prelude.{◌≡◌, ◌++◌, map, IfOk, OnOk};
 ghost use Rattle.abnftexts.specs.GivenRules.{text_rule};
-ghost use Rattle.abnftexts.specs.JoinedGrammar.{fate_told, numbered_place, rule_listed, rules_listed};
+ghost use Rattle.abnftexts.specs.JoinedGrammar.{fate_told, rule_listed, rules_listed};
 ghost use Rattle.abnftexts.specs.RulesGathered.{lines_placed};
 
 use crate::gathered::RulePlace;
@@ -10,29 +10,20 @@ use crate::printed::{push_rule_name, push_rule_place};
 use ruletable::Memory;
 use std::alloc::Global;
 
-// Adds a word and the position of the rule with that number.
-fn push_told_place(
-    out: &mut Vec<u8>,
-    told: &[u8],
-    places: &[RulePlace<'_>],
-    number: usize,
-) -> Result<(), Memory>
-    ensures { OnOk result (out.new.items
-        ≡ out.old.items ++ (told.now ++ numbered_place (map lines_placed places.now) number)) }
-{
-    out.extend_from_slice(told)?;
-    push_rule_place(out, places, number)?;
-    Ok(())
-}
-
 // Adds what becomes of a rule.
 fn push_fate(out: &mut Vec<u8>, places: &[RulePlace<'_>], fate: Fate) -> Result<(), Memory>
     ensures { OnOk result (out.new.items ≡ out.old.items ++ fate_told (map lines_placed places.now) fate) }
 {
     match fate {
         Fate::Stands => Ok(out.extend_from_slice(b"stands")?),
-        Fate::Again(number) => push_told_place(out, b"is given at ", places, number),
-        Fate::Yields(number) => push_told_place(out, b"yields to ", places, number),
+        Fate::Again(number) => {
+            out.extend_from_slice(b"is given at ")?;
+            push_rule_place(out, places, number)
+        }
+        Fate::Yields(number) => {
+            out.extend_from_slice(b"yields to ")?;
+            push_rule_place(out, places, number)
+        }
     }
 }
 

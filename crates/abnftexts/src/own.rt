@@ -1,17 +1,13 @@
-//! The rule that lines alone spell.
-ghost use Rattle.std.specs.Prelude.{◌≡◌, ◌∷◌, [], map, IfOk};
-ghost use Rattle.abnfread.specs.AbnfReading.{Reads};
+//! The rule that a text spells.
+ghost use Rattle.std.specs.Prelude.{◌≡◌, option_map, IfOk};
 ghost use Rattle.abnfread.specs.AbnfViews.{definition_from};
-ghost use Rattle.abnfread.specs.Element.{Definition as Read};
 ghost use Rattle.abnftexts.specs.GivenRules.{text_rule};
-ghost use Rattle.abnfblocks.specs.RuleCuts.{lines_text};
-ghost use Rattle.abnfblocks.specs.TextLines.{numbered};
+ghost use Rattle.abnftexts.specs.TakenRules.{IsRuleOf};
 ghost use Rattle.abnftexts.specs.TextRules.{given_by};
 
-use crate::join::GivenRule;
-use abnfblocks::{TextLine, joined_text};
-use abnfread::{Definition, begun_body, read_definitions};
-use ruletable::Memory;
+use crate::join::{GivenRule, is_only_prose};
+use abnfread::{Definition, begun_body, one_reading, read_definitions};
+use ruletable::{Memory, ReadFault};
 use std::alloc::Global;
 
 // The rule that a definition is.
@@ -21,28 +17,33 @@ fn given_rule(alloc: Global, definition: Definition<'_>) -> Result<GivenRule, Me
     let adds = definition.adds;
     let name = Vec::from_slice(alloc, definition.name)?;
     let body = begun_body(alloc, definition)?;
-    Ok(GivenRule { adds, name, body })
+    let is_prose = !adds && is_only_prose(&body);
+    Ok(GivenRule {
+        adds,
+        name,
+        body,
+        is_prose,
+    })
 }
 
-/// Returns the rule that the lines alone spell without that margin. They must spell one.
+/// Returns the rule that the text alone spells, if it spells one.
 ///
 /// # Errors
 /// `Memory` if an allocation fails.
-pub(crate) fn own_rule(
-    alloc: Global,
-    margin_size: usize,
-    lines: &[TextLine<'_>],
-) -> Result<GivenRule, Memory>
-    ensures { (d : Read) → Reads (lines_text margin_size (map numbered lines.now)) (d ∷ [])
-        → IfOk result (λ rule. text_rule rule ≡ given_by d) }
+pub(crate) fn read_rule(alloc: Global, text: &[u8]) -> Result<Option<GivenRule>, Memory>
+    ensures { IfOk result (λ rule. IsRuleOf text.now (option_map text_rule rule)) }
 {
-    let text = joined_text(alloc, margin_size, lines)?;
-    // Lines that spell a definition have no fault but `Memory`.
-    let Ok(mut definitions) = read_definitions(alloc, &text) else {
-        return Err(Memory);
+    one_reading();
+    let mut definitions = match read_definitions(alloc, text) {
+        Ok(definitions) => definitions,
+        Err(ReadFault::Memory) => return Err(Memory),
+        Err(_fault) => return Ok(None),
     };
+    if definitions.len() != 1 {
+        return Ok(None);
+    }
     match definitions.pop() {
-        Some(definition) => given_rule(alloc, definition),
-        None => Err(Memory),
+        Some(definition) => Ok(Some(given_rule(alloc, definition)?)),
+        None => Ok(None),
     }
 }

@@ -11,7 +11,6 @@ ghost use Rattle.abnftexts.specs.RulesGathered.{lines_placed};
 use crate::gathered::RulePlace;
 use crate::join::{Clash, GivenRule};
 use crate::told::{number_at, push_place};
-use abnfblocks::joined_text;
 use ruletable::Memory;
 use std::alloc::Global;
 
@@ -88,7 +87,6 @@ fn push_start(
 
 // Adds a rule as it is printed.
 fn push_printed(
-    alloc: Global,
     out: &mut Vec<u8>,
     before: Option<&RulePlace<'_>>,
     place: &RulePlace<'_>,
@@ -97,8 +95,8 @@ fn push_printed(
         ++ rule_printed (option_map (λ p. lines_placed p.now) before.entry) (lines_placed place.now)) }
 {
     push_start(out, before, place)?;
-    let text = joined_text(alloc, place.margin, &place.lines)?;
-    out.extend_from_slice(&text)?;
+    out.extend_from_slice(&place.comments)?;
+    out.extend_from_slice(&place.text)?;
     Ok(())
 }
 
@@ -118,7 +116,7 @@ pub(crate) fn printed_text(
     let mut before: Option<&RulePlace<'_>> = None;
     for number in order {
         if let Some(place) = places.get(*number) {
-            push_printed(alloc, &mut out, before, place)?;
+            push_printed(&mut out, before, place)?;
             before = Some(place);
         }
     }

@@ -1,17 +1,10 @@
 //! Rules that stand.
 ghost use Rattle.std.specs.Prelude.{◌≡◌, IfOk};
-ghost use Rattle.abnftexts.specs.JoinedGrammar.{has_stayed, standing};
+ghost use Rattle.abnftexts.specs.JoinedGrammar.{standing};
 
 use crate::join::Fate;
 use ruletable::Memory;
 use std::alloc::Global;
-
-// Whether a rule stands.
-fn stands(fate: Fate) -> bool
-    ensures { result ≡ has_stayed fate }
-{
-    matches!(fate, Fate::Stands)
-}
 
 /// Keeps the items of `all` whose fate says that their rule stands.
 ///
@@ -31,7 +24,7 @@ pub(crate) fn kept_standing<T: Drop>(
             break;
         };
         left = behind;
-        if stands(*fate) {
+        if matches!(*fate, Fate::Stands) {
             kept.push(it)?;
         }
     }

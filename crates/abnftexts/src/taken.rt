@@ -1,5 +1,5 @@
 //! The rules that texts give.
-ghost use Rattle.std.specs.Prelude.{◌≡◌, take, drop, map, IfOk, OnOk};
+ghost use Rattle.std.specs.Prelude.{◌≡◌, map, IfOk, OnOk};
 ghost use Rattle.abnfblocks.specs.RuleCuts.{margin_at};
 ghost use Rattle.abnftexts.specs.GivenRules.{text_rule};
 ghost use Rattle.abnfblocks.specs.TextLines.{numbered};
@@ -9,9 +9,12 @@ ghost use Rattle.abnftexts.specs.TextRules.{GivesText, GiveTexts, place_in};
 
 use crate::gathered::{Gathered, RulePlace, SourceText};
 use crate::join::GivenRule;
-use crate::own::own_rule;
+use crate::own::read_rule;
+use crate::parts::{items_before, items_behind};
 use crate::told::push_not_abnf;
-use abnfblocks::{Found, TextLine, blank_count, find_rules, margin, read_lines, without_mark};
+use abnfblocks::{
+    Found, TextLine, blank_count, find_rules, joined_text, margin, read_lines, without_mark,
+};
 use ruletable::Memory;
 use std::alloc::Global;
 
@@ -39,20 +42,6 @@ fn margin_in(lines: &[TextLine<'_>]) -> usize
     }
 }
 
-// Returns the lines from that position on.
-fn lines_behind<'a, 'b>(lines: &'b [TextLine<'a>], place: usize) -> &'b [TextLine<'a>]
-    ensures { result.now ≡ drop place lines.now }
-{
-    &lines[place.min(lines.len())..]
-}
-
-// So many of the lines.
-fn lines_before<'a, 'b>(lines: &'b [TextLine<'a>], count: usize) -> &'b [TextLine<'a>]
-    ensures { result.now ≡ take count lines.now }
-{
-    &lines[..count.min(lines.len())]
-}
-
 // Where the rule stands that has so many of these lines.
 fn place_of<'a>(
     alloc: Global,
@@ -62,13 +51,17 @@ fn place_of<'a>(
 ) -> Result<RulePlace<'a>, Memory>
     ensures { IfOk result (λ place. lines_placed place ≡ place_in name.now (map numbered rest.now) count) }
 {
-    let own = lines_before(rest, count);
+    let own = items_before(rest, count);
     let lines = Vec::from_slice(alloc, own)?;
+    let margin = margin_in(own);
+    let text = joined_text(alloc, margin, own)?;
     Ok(RulePlace {
         name,
-        margin: margin_in(own),
+        margin,
         lines,
-        blanks: blank_count(lines_behind(rest, count)),
+        blanks: blank_count(items_behind(rest, count)),
+        comments: Vec::new(alloc),
+        text,
     })
 }
 
@@ -84,7 +77,10 @@ fn take_rule<'a>(
         (rules_gathered gathered.old) (rules_gathered gathered.new)) }
 {
     let place = place_of(alloc, name, rest, count)?;
-    let rule = own_rule(alloc, place.margin, &place.lines)?;
+    // Lines that spell a definition have no fault but `Memory`.
+    let Some(rule) = read_rule(alloc, &place.text)? else {
+        return Err(Memory);
+    };
     push_rule(gathered, place, rule)?;
     Ok(())
 }
@@ -103,14 +99,14 @@ fn take_found<'a>(
     for it in found {
         match *it {
             Found::Rule { first, count } => {
-                take_rule(alloc, gathered, name, lines_behind(kept, first), count)?;
+                take_rule(alloc, gathered, name, items_behind(kept, first), count)?;
             }
             Found::NotAbnf {
                 first,
                 count,
                 fault,
             } => {
-                let lines = lines_before(lines_behind(kept, first), count);
+                let lines = items_before(items_behind(kept, first), count);
                 push_not_abnf(&mut gathered.told, name, lines, fault)?;
             }
         }

@@ -1,13 +1,9 @@
 //! Names that are used and not defined.
-ghost use Rattle.std.specs.Prelude.{◌≡◌, ◌++◌, map, not, IfOk, OnOk};
-ghost use Rattle.std.specs.List.{list_any};
-ghost use Rattle.ruletable.specs.Rules.{same_name};
+ghost use Rattle.std.specs.Prelude.{◌≡◌, ◌++◌, map, IfOk, OnOk};
 ghost use Rattle.ruletable.specs.declared.table.NameCase.TheVariants.{Fold};
 ghost use Rattle.abnfread.specs.AbnfTable.{IsCoreTable};
-ghost use Rattle.abnfread.specs.CoreRules.{core_names};
 ghost use Rattle.abnftexts.specs.GivenRules.{text_rule};
-ghost use Rattle.abnftexts.specs.CodeUses.{ListsMore, is_unknown, name_used, unknown_told};
-ghost use Rattle.abnftexts.specs.ListedRules.{has_list};
+ghost use Rattle.abnftexts.specs.CodeUses.{ListsMore, is_known as knows, is_unknown, name_used, unknown_told};
 ghost use Rattle.abnftexts.specs.UsedNames.{undefined_line, undefined_told};
 
 use crate::join::{GivenRule, Listed, numbers_by_name};
@@ -18,25 +14,21 @@ use diagnostics::{add_number, numbers_of};
 use ruletable::{Memory, RuleTable};
 use std::alloc::Global;
 
-// Whether a core rule has the name.
-fn is_core(core: &RuleTable<Elem>, name: &[u8]) -> Result<bool, Memory>
+/// Returns whether the name is listed, or that of a core rule.
+///
+/// # Errors
+/// `Memory` if an allocation fails.
+pub(crate) fn is_known(
+    core: &RuleTable<Elem>,
+    names: &RuleTable<Vec<usize>>,
+    name: &[u8],
+) -> Result<bool, Memory>
     requires { IsCoreTable core.now }
-    ensures { IfOk result (λ is. is ≡ list_any (same_name Fold name.now) core_names) }
-{
-    let found = core.find(name)?;
-    Ok(found.is_some())
-}
-
-// Lists a name, and returns whether it was not listed before.
-fn is_first(alloc: Global, names: &mut RuleTable<Vec<usize>>, name: &[u8]) -> Result<bool, Memory>
-    requires { names.old.names ≡ Fold }
-    ensures first { IfOk result (λ is. is ≡ not (has_list names.old name.now)) }
-    ensures listed { OnOk result (ListsMore name.now names.old names.new) }
+    ensures { IfOk result (λ is. is ≡ knows names.now name.now) }
 {
     let numbers = numbers_of(names, name)?;
-    let is_new = numbers.is_empty();
-    add_number(alloc, names, name, 0)?;
-    Ok(is_new)
+    let found = core.find(name)?;
+    Ok(!numbers.is_empty() || found.is_some())
 }
 
 // Lists the name of a use, and returns whether the use reports that it is not defined: neither rules nor uses before
@@ -52,10 +44,9 @@ fn is_told(
     ensures told { IfOk result (λ is. is ≡ is_unknown names.old name.now) }
     ensures listed { OnOk result (ListsMore name.now names.old names.new) }
 {
-    if !is_first(alloc, names, name)? {
-        return Ok(false);
-    }
-    Ok(!is_core(core, name)?)
+    let known = is_known(core, names, name)?;
+    add_number(alloc, names, name, 0)?;
+    Ok(!known)
 }
 
 // Adds the line of a use whose name is not defined.

@@ -9,7 +9,6 @@ ghost use Rattle.abnftexts.specs.UsedNames.{AreNameUses, used_at};
 
 use crate::gathered::RulePlace;
 use crate::told::number_at;
-use abnfblocks::joined_text;
 use abnfexplain::abnf_places;
 use diagnostics::{Mention, MentionKind};
 use ruletable::Memory;
@@ -75,8 +74,7 @@ fn push_uses<'a>(
     ensures { OnOk result (AddsUses (lines_placed place.now)
         (map name_used uses.old.items) (map name_used uses.new.items)) }
 {
-    let text = joined_text(alloc, place.margin, &place.lines)?;
-    let found = abnf_places(alloc, &text)?;
+    let found = abnf_places(alloc, &place.text)?;
     push_mentions(alloc, uses, place, &found.mentions)
 }
 

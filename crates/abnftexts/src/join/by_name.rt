@@ -7,7 +7,6 @@ ghost use Rattle.abnftexts.specs.GivenRules.{text_rule};
 ghost use Rattle.abnftexts.specs.ListedRules.{ListNames, ListsRule, is_listed as listed_so};
 
 use crate::join::given::GivenRule;
-use crate::join::only_prose::is_only_prose;
 use diagnostics::{add_number, numbers_of};
 use ruletable::{Memory, NameCase, RuleTable};
 use std::alloc::Global;
@@ -32,7 +31,7 @@ fn is_listed(listed: Listed, rule: &GivenRule) -> bool
     match listed {
         Listed::Rules => true,
         Listed::Definitions => !rule.adds,
-        Listed::Elements => !rule.adds && !is_only_prose(&rule.body),
+        Listed::Elements => !rule.adds && !rule.is_prose,
         Listed::Additions => rule.adds,
     }
 }

@@ -7,7 +7,6 @@ ghost use Rattle.abnftexts.specs.RuleKeys.{rule_key as key_of_rule};
 use crate::join::by_name::{Listed, first_number, numbers_by_name};
 use crate::join::given::GivenRule;
 use crate::join::key::rule_key;
-use crate::join::only_prose::is_only_prose;
 use diagnostics::add_number;
 use ruletable::{Memory, NameCase, RuleTable};
 use std::alloc::Global;
@@ -33,10 +32,7 @@ fn find_wanted(
     requires { ListNames Listed.Elements rules.now names.now }
     ensures { IfOk result (λ first. first ≡ first_wanted (text_rule rule.now) (map text_rule rules.now)) }
 {
-    if rule.adds {
-        return Ok(rules.len());
-    }
-    if !is_only_prose(&rule.body) {
+    if !rule.is_prose {
         return Ok(rules.len());
     }
     first_number(names, &rule.name, rules.len())
@@ -55,7 +51,7 @@ fn find_same(
     ensures { IfOk result (λ first. first ≡ first_same (text_rule rule.now) (map text_rule rules.now)) }
 {
     let mut place = first_number(keys, key, rules.len())?;
-    while place < rules.len() && !rule.is_same(&rules[place]) {
+    while place < rules.len() && !rule.is_same(false, &rules[place]) {
         place += 1;
     }
     Ok(place)

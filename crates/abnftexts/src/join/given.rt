@@ -1,9 +1,8 @@
 //! Rules as texts give them.
 ghost use Rattle.std.specs.Prelude.{◌≡◌};
-ghost use Rattle.abnftexts.specs.GivenRules.{text_rule, is_same_rule, yields_to as yields};
+ghost use Rattle.abnftexts.specs.GivenRules.{text_rule, is_same_rule};
 
 use crate::join::leaves::{is_same_flag, is_same_folded};
-use crate::join::only_prose::is_only_prose;
 use crate::join::same::is_same_element;
 use abnfread::Elem;
 
@@ -16,27 +15,20 @@ pub struct GivenRule {
     pub name: Vec<u8>,
     /// The elements.
     pub body: Elem,
+    /// Whether it is a definition that its text writes as prose alone.
+    pub is_prose: bool,
 }
 
 impl GivenRule {
-    /// Returns whether the other rule has the same name and elements, but for case, and both define or both add.
-    pub fn is_same(&self, other: &GivenRule) -> bool
-        ensures { result ≡ is_same_rule (text_rule self.now) (text_rule other.now) }
+    /// Returns whether the other rule has the same name and elements, but for case, and both define or both add. A
+    /// definition of prose alone is the same only as another one. If `named` is true, that does not count, and a name
+    /// may stand in the other rule for a prose of that name.
+    pub fn is_same(&self, named: bool, other: &GivenRule) -> bool
+        ensures { result ≡ is_same_rule named (text_rule self.now) (text_rule other.now) }
     {
-        is_same_flag(self.adds, other.adds)
+        (named || is_same_flag(self.is_prose, other.is_prose))
+            && is_same_flag(self.adds, other.adds)
             && is_same_folded(&self.name, &other.name)
-            && is_same_element(&self.body, &other.body)
-    }
-
-    /// Returns whether it is a definition of prose alone, and the other one a definition of the same name that has
-    /// elements.
-    pub fn yields_to(&self, other: &GivenRule) -> bool
-        ensures { result ≡ yields (text_rule self.now) (text_rule other.now) }
-    {
-        !self.adds
-            && !other.adds
-            && is_same_folded(&self.name, &other.name)
-            && is_only_prose(&self.body)
-            && !is_only_prose(&other.body)
+            && is_same_element(named, &self.body, &other.body)
     }
 }

@@ -94,7 +94,14 @@ pub(crate) fn rule_key(alloc: Global, rule: &GivenRule) -> Result<Vec<u8>, Memor
     ensures { IfOk result (λ key. key.items ≡ key_of_rule (text_rule rule.now)) }
 {
     let mut key = Vec::new(alloc);
-    push_folded(&mut key, if rule.adds { b'+' } else { b'=' }, &rule.name)?;
+    let mark = if rule.adds {
+        b'+'
+    } else if rule.is_prose {
+        b'<'
+    } else {
+        b'='
+    };
+    push_folded(&mut key, mark, &rule.name)?;
     push_element(&mut key, &rule.body)?;
     Ok(key)
 }

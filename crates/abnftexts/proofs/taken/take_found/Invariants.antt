@@ -1,4 +1,4 @@
-use Rattle.std.proofs.Common.{ℕ, List, [], map, drop}
+use Rattle.std.proofs.Common.{ℕ, List, map, drop}
 use Rattle.abnfblocks.specs.MaskedLines.{AreRead}
 use Rattle.abnfblocks.specs.FoundRules.{AreFound}
 use Rattle.abnfblocks.specs.TextLines.{numbered}

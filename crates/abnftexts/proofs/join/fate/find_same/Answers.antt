@@ -1,7 +1,7 @@
 -- Rules that are the same have one key, so the first that is the same stands where the first one of its key does.
 use Prim.Native.Char.{code}
 use Rattle.std.proofs.Common.{◌≡◌, ℕ, ◌≤◌, ◌+◌, ◌&&◌, ◌==◌, not, Bool, true, false, List, [], ◌∷◌, ◌++◌, Option, None}
-use Rattle.std.proofs.Common.{Some, refl, sym, ap, ◌∙◌, subst, arith, if◌then◌else◌, length, map, drop}
+use Rattle.std.proofs.Common.{Some, refl, sym, ap, ◌∙◌, subst, arith, length, map, drop}
 use Rattle.std.specs.List.{prefix_len}
 use Rattle.std.specs.Option.{unwrap_or}
 use Rattle.std.specs.Prelude.{bytes_eq, slice_get}
@@ -17,7 +17,7 @@ use Rattle.abnfread.specs.Element.{more}
 use Rattle.diagnostics.specs.NumberLists.{positions_from}
 use Rattle.abnftexts.specs.GivenRules.{RuleGiven, first_same, is_same_rule, text_rule}
 use Rattle.abnftexts.specs.ListedRules.{has_key}
-use Rattle.abnftexts.specs.RuleKeys.{element_key, exact_key, folded_key, members_key, numbers_key, rule_key}
+use Rattle.abnftexts.specs.RuleKeys.{element_key, exact_key, folded_key, members_key, numbers_key, rule_key, rule_mark}
 use Rattle.abnftexts.specs.SameElements.{all_same, same_as, same_bound, same_flag, same_spelling}
 use Rattle.abnftexts.specs.declared.join.given.GivenRule.{GivenRule}
 use Rattle.abnftexts.proofs.FatesLemmas.{one-fails, one-passes}
@@ -70,42 +70,47 @@ repeat-same a c b d x y least most e =
     rw (low, high, e) refl
 
 mutual
-  element-same : (a b : Element) → same_as a b ≡ true → element_key a ≡ element_key b
+  element-same : (a b : Element) → same_as false a b ≡ true → element_key a ≡ element_key b
   element-same (Text f a) (Text g b) h = text-same f g a b h
   element-same (Values a) (Values b) h = ap (numbers_key (code "%")) (bytes-same a b h)
   element-same (Range l h) (Range m k) e = range-same l h m k e
   element-same (Concat xs) (Concat ys) h = ap (λ (t : List ℕ). code "(" ∷ t) (members-same xs ys h)
   element-same (Alt xs) (Alt ys) h = ap (λ (t : List ℕ). code "/" ∷ t) (members-same xs ys h)
   element-same (Rep a b x) (Rep c d y) h =
-      let parts = both-true (a == c) (same_bound b d && same_as x y) h in
-      let rest = both-true (same_bound b d) (same_as x y) parts.1 in
+      let parts = both-true (a == c) (same_bound b d && same_as false x y) h in
+      let rest = both-true (same_bound b d) (same_as false x y) parts.1 in
       repeat-same a c b d (element_key x) (element_key y) parts.0 rest.0 (element-same x y rest.1)
   element-same (Opt x) (Opt y) h = ap (λ (t : List ℕ). code "[" ∷ t) (element-same x y h)
   element-same (Name a) (Name b) h = name-same (code "n") a b h
   element-same (Prose a) (Prose b) h = ap (exact_key (code "<")) (bytes-same a b h)
   element-same _ _ h = absurd (cc h)
 
-  members-same : (xs ys : Elements) → all_same xs ys ≡ true → members_key xs ≡ members_key ys
+  members-same : (xs ys : Elements) → all_same false xs ys ≡ true → members_key xs ≡ members_key ys
   members-same none none h = refl
   members-same (more x xs) (more y ys) h =
-      let parts = both-true (same_as x y) (all_same xs ys) h in
+      let parts = both-true (same_as false x y) (all_same false xs ys) h in
       ap (λ (t : List ℕ). t ++ members_key xs) (element-same x y parts.0)
       ∙ ap (λ (t : List ℕ). element_key y ++ t) (members-same xs ys parts.1)
   members-same none (more y ys) h = absurd (cc h)
   members-same (more x xs) none h = absurd (cc h)
 
-key-same : (a b : RuleGiven) → is_same_rule a b ≡ true → rule_key a ≡ rule_key b
+key-same : (a b : RuleGiven) → is_same_rule false a b ≡ true → rule_key a ≡ rule_key b
 key-same a b h =
-    let parts = both-true (same_flag a.adds b.adds) (same_name Fold a.name b.name && same_as a.body b.body) h in
-    let rest = both-true (same_name Fold a.name b.name) (same_as a.body b.body) parts.1 in
+    let alike = both-true (same_flag a.is_prose b.is_prose) (same_flag a.adds b.adds
+    && (same_name Fold a.name b.name && same_as false a.body b.body)) h in
+    let parts = both-true (same_flag a.adds b.adds) (same_name Fold a.name b.name && same_as false a.body b.body)
+    alike.1 in
+    let rest = both-true (same_name Fold a.name b.name) (same_as false a.body b.body) parts.1 in
+    let prose : a.is_prose ≡ b.is_prose = flag-same a.is_prose b.is_prose alike.0 in
     let sign : a.adds ≡ b.adds = flag-same a.adds b.adds parts.0 in
-    let mark = λ (adds : Bool). if adds then code "+" else code "=" in
-    ap (λ (adds : Bool). folded_key (mark adds) a.name ++ element_key a.body) sign
-    ∙ ap (λ (t : List ℕ). t ++ element_key a.body) (name-same (mark b.adds) a.name b.name rest.0)
-    ∙ ap (λ (t : List ℕ). folded_key (mark b.adds) b.name ++ t) (element-same a.body b.body rest.1)
+    ap (λ (adds : Bool). folded_key (rule_mark adds a.is_prose) a.name ++ element_key a.body) sign
+    ∙ ap (λ (is_prose : Bool). folded_key (rule_mark b.adds is_prose) a.name ++ element_key a.body) prose
+    ∙ ap (λ (t : List ℕ). t ++ element_key a.body) (name-same (rule_mark b.adds b.is_prose) a.name b.name rest.0)
+    ∙ ap (λ (t : List ℕ). folded_key (rule_mark b.adds b.is_prose) b.name ++ t)
+    (element-same a.body b.body rest.1)
 
 -- what is the same as a rule has its key
-same-keyed : (key : List ℕ) (rule other : RuleGiven) → key ≡ rule_key rule → is_same_rule rule other ≡ true
+same-keyed : (key : List ℕ) (rule other : RuleGiven) → key ≡ rule_key rule → is_same_rule false rule other ≡ true
     → has_key key other ≡ true
 same-keyed key rule other is h = (bytes_eq-Decides key (rule_key other)).1 (is ∙ key-same rule other h)
 
@@ -113,15 +118,15 @@ same-keyed key rule other is h = (bytes_eq-Decides key (rule_key other)).1 (is �
 same-later : (rules : List GivenRule) (rule : RuleGiven) (key numbers : List ℕ) (first : ℕ) → key ≡ rule_key rule
     → numbers ≡ positions_from 0 (λ r. has_key key (text_rule r)) rules
     → first ≡ unwrap_or (slice_get numbers 0) (length rules) → (first ≤ length rules)
-    × (first + prefix_len (λ r. not (is_same_rule rule r)) (drop first (map text_rule rules))
+    × (first + prefix_len (λ r. not (is_same_rule false rule r)) (drop first (map text_rule rules))
     ≡ first_same rule (map text_rule rules))
 same-later rules rule key numbers first is listed e =
     let rows = map text_rule rules in
     let place : first ≡ prefix_len (λ r. not (has_key key r)) rows =
     e ∙ first-listed has_key rules key numbers listed in
-    let later = search-later (is_same_rule rule) (has_key key) (λ r. same-keyed key rule r is) rows in (
+    let later = search-later (is_same_rule false rule) (has_key key) (λ r. same-keyed key rule r is) rows in (
       omega (arith, place, prefix_len-le-length (λ r. not (has_key key r)) rows, length-map rules text_rule),
-      subst (λ (k : ℕ). k + prefix_len (λ r. not (is_same_rule rule r)) (drop k rows) ≡ first_same rule rows)
+      subst (λ (k : ℕ). k + prefix_len (λ r. not (is_same_rule false rule r)) (drop k rows) ≡ first_same rule rows)
           (sym place) later,
     )
 
@@ -133,14 +138,14 @@ loop-place-init c =
 
 pub loop-place-preserved : goal.loop-place-preserved
 loop-place-preserved c =
-    let more = one-fails (is_same_rule (text_rule c.args.rule.now)) c.args.rules.now c.loop-place.place
+    let more = one-fails (is_same_rule false (text_rule c.args.rule.now)) c.args.rules.now c.loop-place.place
     c.index-rules-place.result c.is_same.result c.loop-place-test.true c.index-rules-place.is c.is_same.ensures
     c.if-not-is_same.true in
     record { within = omega arith; same = omega (arith, more, c.loop-place.invariant.same) }
 
 pub returns-else-not-is_same : goal.returns-else-not-is_same
 returns-else-not-is_same c =
-    let none = one-passes (is_same_rule (text_rule c.args.rule.now)) c.args.rules.now c.loop-place.place
+    let none = one-passes (is_same_rule false (text_rule c.args.rule.now)) c.args.rules.now c.loop-place.place
     c.index-rules-place.result c.is_same.result c.loop-place-test.true c.index-rules-place.is c.is_same.ensures
     c.if-not-is_same.false in
     omega (arith, none, c.loop-place.invariant.same)

@@ -7,6 +7,6 @@ use Rattle.abnftexts.proofs.join.same.+comparing.Given as goal
 abbrev pub invariant-are_same-loop-i : goal.invariant-are_same-loop-i
 invariant-are_same-loop-i l = record {
   size : length l.a ≡ length l.b;
-  left : all_same (elements_of l.a) (elements_of l.b)
-      ≡ all_same (elements_of (drop l.i l.a)) (elements_of (drop l.i l.b));
+  left : all_same l.named (elements_of l.a) (elements_of l.b)
+      ≡ all_same l.named (elements_of (drop l.i l.a)) (elements_of (drop l.i l.b));
 }

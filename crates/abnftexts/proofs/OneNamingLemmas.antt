@@ -1,0 +1,97 @@
+-- Rules lose the angle brackets of names in one way.
+-- Serves: one_joining
+use Rattle.std.proofs.Common.{◌≡◌, ℕ, Bool, List, [], ◌∷◌, ◌++◌, codes, refl, sym, ap, ap₂, ◌∙◌, subst}
+use Rattle.lexer.specs.TokenLists.{Tok}
+use Rattle.abnfread.specs.declared.kind.AbnfKind.{AbnfKind}
+use Rattle.abnfblocks.specs.TextLines.{NumberedLine}
+use Rattle.abnftexts.specs.GivenRules.{RuleGiven}
+use Rattle.abnftexts.specs.NamedRules.{AreLinesNamed, AreNamed, ArePlacesNamed, AreRulesNamed, IsLineNamed}
+use Rattle.abnftexts.specs.NamedRules.{IsPlaceNamed, IsRuleNamed, SpellsNamed, bare_line, comment_of, is_named}
+use Rattle.abnftexts.specs.NamedRules.{next_line, no_lines, no_more_places, no_more_rules, one_place, one_rule}
+use Rattle.abnftexts.specs.NamedRules.{places_end, read_again}
+use Rattle.abnftexts.specs.NamedRules.{rules_end, same_rule, stays, tokens_named, with_prose}
+use Rattle.abnftexts.specs.RulesGathered.{RuleLines, RulesGathered}
+use Rattle.abnftexts.specs.TextRules.{SpellRule, given_by}
+use Rattle.abnftexts.proofs.TextRulesLemmas.{OneReading}
+
+module _ (one : OneReading) where
+  spelled-same : {text : List ℕ} {a b : RuleGiven} → SpellRule text a → SpellRule text b → a ≡ b
+  spelled-same {text} x y =
+      let all : x.definition ∷ [] ≡ y.definition ∷ [] =
+      one.definitions text (x.definition ∷ []) (y.definition ∷ []) x.reads y.reads in
+      let same : x.definition ≡ y.definition = cc in
+      x.is ∙ ap given_by same ∙ sym y.is
+
+  module _ {known : List ℕ → Bool} where
+    line-same : (own line a b : List ℕ) → IsLineNamed known own line a → IsLineNamed known own line b → a ≡ b
+    line-same own line a b x y =
+        x.is ∙ ap (λ (ts : List (Tok AbnfKind)). tokens_named known own line 0 ts)
+        (one.tokens line x.tokens y.tokens x.are_tokens y.are_tokens) ∙ sym y.is
+
+    lines-same : {own : List ℕ} {m : ℕ} {lines : List NumberedLine} {c d t u : List ℕ}
+        → AreLinesNamed known own m lines c t → AreLinesNamed known own m lines d u → (c ≡ d) × (t ≡ u)
+    lines-same no_lines no_lines = (refl, refl)
+    lines-same {own} {m} (next_line {line} {new = a} {comments = c} {text = t} x h)
+        (next_line {new = b} {comments = d} {text = u} y k) =
+        let rest = lines-same h k in
+        let same : a ≡ b = line-same own (bare_line m line) a b x y in (
+          ap₂ (λ (n r : List ℕ). comment_of (bare_line m line) n ++ r) same rest.0,
+          ap₂ (λ (n r : List ℕ). n ++ (codes "\n" ++ r)) same rest.1,
+        )
+
+    place-same : {rule : RuleGiven} {place a b : RuleLines} → IsPlaceNamed known rule place a
+        → IsPlaceNamed known rule place b → a ≡ b
+    place-same {place = place} (is_named x some s) (is_named y other r) =
+        let same = lines-same x y in
+        ap₂ (λ (comments text : List ℕ). record {
+          name = place.name;
+          margin = place.margin;
+          lines = place.lines;
+          blanks = place.blanks;
+          comments = comments;
+          text = text;
+        }) same.0 same.1
+    place-same {rule} (is_named x some s) (stays y none) =
+        let same = lines-same x y in
+        absurd (none (λ e. some (same.0 ∙ e)) (subst (SpellsNamed rule) same.1 s))
+    place-same {rule} (stays x none) (is_named y some s) =
+        let same = lines-same y x in
+        absurd (none (λ e. some (same.0 ∙ e)) (subst (SpellsNamed rule) same.1 s))
+    place-same (stays x none) (stays y other) = refl
+
+    places-same : {rules : List RuleGiven} {places a b : List RuleLines} → ArePlacesNamed known rules places a
+        → ArePlacesNamed known rules places b → a ≡ b
+    places-same rules_end rules_end = refl
+    places-same rules_end places_end = refl
+    places-same places_end rules_end = refl
+    places-same places_end places_end = refl
+    places-same (one_place x h) (one_place y k) = ap₂ (λ p ps. p ∷ ps) (place-same x y) (places-same h k)
+
+  rule-same : {place : RuleLines} {rule a b : RuleGiven} → IsRuleNamed place rule a → IsRuleNamed place rule b → a ≡ b
+  rule-same (same_rule e) (same_rule f) = refl
+  rule-same (same_rule e) (read_again n s) = absurd (n e)
+  rule-same (read_again n s) (same_rule e) = absurd (n e)
+  rule-same {rule = rule} (read_again n s) (read_again m r) = ap (with_prose rule.is_prose) (spelled-same s r)
+
+  rules-same : {places : List RuleLines} {rules a b : List RuleGiven} → AreRulesNamed places rules a
+      → AreRulesNamed places rules b → a ≡ b
+  rules-same no_more_places no_more_places = refl
+  rules-same no_more_places no_more_rules = refl
+  rules-same no_more_rules no_more_places = refl
+  rules-same no_more_rules no_more_rules = refl
+  rules-same (one_rule x h) (one_rule y k) = ap₂ (λ r rs. r ∷ rs) (rule-same x y) (rules-same h k)
+
+  pub naming-same : {given a b : RulesGathered} → AreNamed given a → AreNamed given b → a ≡ b
+  naming-same {given} {a} {b} x y =
+      let places : a.places ≡ b.places = places-same x.places y.places in
+      let here : AreRulesNamed b.places given.rules a.rules =
+      subst (λ (ps : List RuleLines). AreRulesNamed ps given.rules a.rules) places x.rules in
+      let rules : a.rules ≡ b.rules = rules-same here y.rules in
+      let told : a.told ≡ b.told = x.told ∙ sym y.told in
+      all-same a b places rules told
+    where
+      all-same : (a b : RulesGathered) → a.places ≡ b.places → a.rules ≡ b.rules → a.told ≡ b.told → a ≡ b
+      all-same a b places rules told =
+          ap (λ (ps : List RuleLines). record { places = ps; rules = a.rules; told = a.told }) places
+          ∙ ap (λ (rs : List RuleGiven). record { places = b.places; rules = rs; told = a.told }) rules
+          ∙ ap (λ (t : List ℕ). record { places = b.places; rules = b.rules; told = t }) told

@@ -1,0 +1,136 @@
+-- What is written for each rule spells it, and names that lose angle brackets leave it so.
+-- Serves: join_texts, joined_reading
+use Rattle.std.proofs.Common.{◌≡◌, ℕ, zero, suc, Bool, Option, Some, None, List, [], ◌∷◌, ◌++◌}
+use Rattle.std.proofs.Common.{refl, sym, ap, ◌∙◌, inl, inr, min, subst}
+use Rattle.std.proofs.lemmas.Bool.{cases_Bool}
+use Rattle.std.specs.List.{filter_map, slice_get, cons_option}
+use Rattle.std.specs.Prelude.{bytes_eq}
+use Rattle.abnfblocks.specs.RuleLines.{margin_of}
+use Rattle.abnfblocks.specs.TextLines.{NumberedLine}
+use Rattle.abnftexts.specs.GivenRules.{RuleGiven}
+use Rattle.abnftexts.specs.JoinedGrammar.{has_stayed, standing}
+use Rattle.abnftexts.specs.LinkedTexts.{EndsLine, lf, behind_byte}
+use Rattle.abnftexts.specs.NamedRules.{AreLinesNamed, no_lines, next_line, ArePlacesNamed, rules_end, places_end}
+use Rattle.abnftexts.specs.NamedRules.{one_place, IsPlaceNamed, is_named, stays, IsRuleNamed, same_rule, read_again}
+use Rattle.abnftexts.specs.NamedRules.{AreRulesNamed, no_more_places, no_more_rules, one_rule, bare_line, with_prose}
+use Rattle.abnftexts.specs.RulesGathered.{RuleLines}
+use Rattle.abnftexts.specs.SpelledRules.{as_written}
+use Rattle.abnftexts.specs.TextRules.{SpellRule}
+use Rattle.abnftexts.specs.declared.join.fate.Fate.{Fate}
+use Rattle.abnftexts.proofs.ClearLinesLemmas.{AreInside, IsClear}
+use Rattle.abnftexts.proofs.EachLemmas.{Each, each_none, each_next, each-both, each-drop}
+use Rattle.abnftexts.proofs.PlacedRulesLemmas.{ArePlaced, IsPlaced, none_placed, next_placed}
+use Rattle.abnftexts.proofs.RuleTextLemmas.{LetterFirst, letter-first, line-behind, rule-text}
+
+-- comments of one line each
+pub data AreComments : List ℕ → Type 0 where
+  no_comments : AreComments []
+  a_comment : {rest : List ℕ} (bytes : List ℕ) → AreInside bytes → AreComments rest
+      → AreComments ((59 ∷ (bytes ++ 10 ∷ [])) ++ rest)
+
+-- what is written for a rule: comments, and a text that begins with a letter, ends with LF, and spells it
+pub record IsWritten (place : RuleLines) (given : RuleGiven) : Type 0 where
+  pub comments : AreComments place.comments
+  pub first : LetterFirst place.text
+  pub line : EndsLine place.text
+  pub spells : SpellRule place.text (as_written given)
+
+pub data AreWritten : List RuleLines → List RuleGiven → Type 0 where
+  none_written : AreWritten [] []
+  next_written : {place : RuleLines} {given : RuleGiven} {places : List RuleLines} {rules : List RuleGiven}
+      → IsWritten place given → AreWritten places rules → AreWritten (place ∷ places) (given ∷ rules)
+
+-- a rule that a text spells, whatever is said of prose
+spells-written : {text : List ℕ} {given : RuleGiven} (rule : RuleGiven) → SpellRule text given
+    → as_written rule ≡ as_written given → SpellRule text (as_written rule)
+spells-written rule spells e = record {
+  definition = spells.definition;
+  reads = spells.reads;
+  is = e ∙ ap as_written spells.is;
+}
+
+placed-written : {place : RuleLines} {given : RuleGiven} → IsPlaced place given → IsWritten place given
+placed-written {place} {given} is =
+    let t = rule-text is.own in record {
+      comments = subst AreComments (sym is.none) no_comments;
+      first = record { first = t.first; tail = t.tail; is_letter = is.text ∙ t.whole; letter = t.letter };
+      line = subst EndsLine (sym is.text) t.line;
+      spells = spells-written given is.spells refl;
+    }
+
+module _ {known : List ℕ → Bool} {own : List ℕ} {m : ℕ} where
+  named-end : {line : NumberedLine} {lines : List NumberedLine} {comments text : List ℕ}
+      → AreLinesNamed known own m (line ∷ lines) comments text → EndsLine text
+  named-end (next_line {new} h no_lines) = line-behind new lf
+  named-end (next_line {new} h (next_line {line} {lines} k more)) =
+      line-behind new (behind_byte (named-end {line = line} {lines = lines} (next_line {line = line} k more)))
+
+  named-comments : {lines : List NumberedLine} {comments text : List ℕ} → Each IsClear lines
+      → AreLinesNamed known own m lines comments text → AreComments comments
+  named-comments clear no_lines = no_comments
+  named-comments (each_next {x = line} c clear) (next_line {new} h more) =
+      let bare = bare_line m line in
+      let rest = named-comments clear more in
+      elim (cases_Bool (bytes_eq bare new)) [
+        | inl e ↦ rw e rest
+        | inr e ↦ rw e (a_comment (32 ∷ 102 ∷ 114 ∷ 111 ∷ 109 ∷ 58 ∷ 32 ∷ bare)
+            (each-both (each_next refl (each_next refl (each_next refl (each_next refl (each_next refl (each_next refl
+            (each_next refl each_none))))))) (each-drop (min m (margin_of line.bytes)) c.inside)) rest)
+      ]
+
+-- a rule with its names is written so
+rule-written : {known : List ℕ → Bool} {place new : RuleLines} {rule named : RuleGiven} → IsPlaced place rule
+    → IsPlaceNamed known rule place new → IsRuleNamed new rule named → IsWritten new named
+rule-written is (stays lines none) (same_rule e) = placed-written is
+rule-written is (stays lines none) (read_again n spells) = absurd (n is.none)
+rule-written is (is_named lines some spells) (same_rule e) = absurd (some e)
+rule-written {rule = rule} is (is_named {comments} {text} lines some named) (read_again {given} n spells) =
+    let own = is.own in
+    let rows = own.whole in
+    record {
+      comments = named-comments own.clear lines;
+      first = letter-first text named.letter;
+      line = (let here = rw rows at lines in named-end here);
+      spells = spells-written (with_prose rule.is_prose given) spells refl;
+    }
+
+pub named-written : {known : List ℕ → Bool} {places new : List RuleLines} {rules named : List RuleGiven}
+    → ArePlaced places rules → ArePlacesNamed known rules places new → AreRulesNamed new rules named
+    → AreWritten new named
+named-written none_placed rules_end no_more_places = none_written
+named-written none_placed rules_end no_more_rules = none_written
+named-written none_placed places_end no_more_places = none_written
+named-written none_placed places_end no_more_rules = none_written
+named-written (next_placed is h) (one_place p ps) (one_rule r rs) =
+    next_written (rule-written is p r) (named-written h ps rs)
+
+pub written-standing : (fates : List Fate) {places : List RuleLines} {rules : List RuleGiven} → AreWritten places rules
+    → AreWritten (standing fates places) (standing fates rules)
+written-standing [] none_written = none_written
+written-standing [] (next_written is h) = none_written
+written-standing (fate ∷ fates) none_written = none_written
+written-standing (fate ∷ fates) (next_written is h) = elim (cases_Bool (has_stayed fate)) [
+  | inl e ↦ rw e (next_written is (written-standing fates h))
+  | inr e ↦ rw e (written-standing fates h)
+]
+
+-- the rule with a number, and what is written for it
+data WrittenAt : Option RuleLines → Option RuleGiven → Type 0 where
+  none_there : WrittenAt None None
+  some_there : {place : RuleLines} {given : RuleGiven} → IsWritten place given → WrittenAt (Some place) (Some given)
+
+written-at : (n : ℕ) {places : List RuleLines} {rules : List RuleGiven} → AreWritten places rules
+    → WrittenAt (slice_get places n) (slice_get rules n)
+written-at n none_written = none_there
+written-at zero (next_written is h) = some_there is
+written-at (suc n) (next_written is h) = written-at n h
+
+written-cons : {p : Option RuleLines} {r : Option RuleGiven} {places : List RuleLines} {rules : List RuleGiven}
+    → WrittenAt p r → AreWritten places rules → AreWritten (cons_option p places) (cons_option r rules)
+written-cons none_there h = h
+written-cons (some_there is) h = next_written is h
+
+pub written-ordered : (order : List ℕ) {places : List RuleLines} {rules : List RuleGiven} → AreWritten places rules
+    → AreWritten (filter_map (slice_get places) order) (filter_map (slice_get rules) order)
+written-ordered [] h = none_written
+written-ordered (n ∷ order) h = written-cons (written-at n h) (written-ordered order h)

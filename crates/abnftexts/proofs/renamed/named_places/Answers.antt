@@ -1,0 +1,40 @@
+use Rattle.std.proofs.Common.{[], List, arith, map, subst, sym}
+use Rattle.abnftexts.specs.CodeUses.{is_known}
+use Rattle.abnftexts.specs.GivenRules.{text_rule}
+use Rattle.abnftexts.specs.NamedRules.{ArePlacesNamed, one_place, places_end, rules_end}
+use Rattle.abnftexts.specs.RulesGathered.{lines_placed}
+use Rattle.abnftexts.specs.declared.gathered.RulePlace.{RulePlace}
+use Rattle.abnftexts.specs.declared.join.given.GivenRule.{GivenRule}
+use Rattle.abnftexts.proofs.NamedRulesLemmas.{no-items, pair-more, pairs-done}
+use Rattle.abnftexts.proofs.renamed.named_places.Goals as goal
+use Rattle.abnftexts.proofs.renamed.named_places.Goals.{in-None, in-Some+in_default}
+
+pub loop-place-preserved : goal.loop-place-preserved
+loop-place-preserved c =
+    let known = is_known c.args.names.now in
+    pair-more text_rule lines_placed lines_placed (ArePlacesNamed known)
+    (ArePlacesNamed known (map text_rule c.args.rules.now) (map lines_placed c.args.places.items))
+    c.loop-place.left.now c.in-Some-split_first.behind.now c.in-Some-split_first.rule.now
+    c.loop-place.place-iterator.rest.items c.next.new.self.rest.items c.in-Some.place c.loop-place.named.items
+    c.push.new.self.items c.in_ok-it.it (let s = c.in-Some-split_first.ensures.cases in s.0)
+    (let e = c.in-Some.ensures.steps in e.0)
+    c.in_ok-push.ensures.items (λ zs h. one_place c.in_ok-it.ensures h) c.loop-place.invariant
+
+pub returns : goal.returns
+returns c =
+    let known = is_known c.args.names.now in
+    let left = c.loop-place.left.now in
+    let rest = c.loop-place.place-iterator.rest.items in
+    pairs-done text_rule lines_placed lines_placed (ArePlacesNamed known)
+    (ArePlacesNamed known (map text_rule c.args.rules.now) (map lines_placed c.args.places.items))
+    (map text_rule left) (map lines_placed rest) c.loop-place.named.items
+    (elim c.match-next.branch [
+      | in-None w ↦ (let e = w.in-None.ensures.steps in
+          subst (λ (xs : List RulePlace). ArePlacesNamed known (map text_rule left) (map lines_placed xs) [])
+          (sym (no-items rest (omega (arith, e.0, c.loop-place.place-iterator.rest.ok))))
+          places_end)
+      | in-Some+in_default w ↦ (let e = w.in_default.ensures.cases in
+          subst (λ (xs : List GivenRule). ArePlacesNamed known (map text_rule xs) (map lines_placed rest) [])
+          (sym (no-items left e))
+          rules_end)
+    ]) c.loop-place.invariant

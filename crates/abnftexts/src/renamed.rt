@@ -1,0 +1,149 @@
+//! Rules with names in angle brackets.
+ghost use Rattle.std.specs.Prelude.{map, IfOk};
+ghost use Rattle.abnfread.specs.AbnfTable.{IsCoreTable};
+ghost use Rattle.abnftexts.specs.CodeUses.{is_known as knows};
+ghost use Rattle.abnftexts.specs.GivenRules.{text_rule};
+ghost use Rattle.abnftexts.specs.NamedRules.{AreNamed, ArePlacesNamed, AreRulesNamed, IsPlaceNamed, IsRuleNamed};
+ghost use Rattle.abnftexts.specs.RulesGathered.{lines_placed, rules_gathered};
+ghost use Rattle.abnftexts.specs.TakenRules.{IsNamedOutcome};
+
+use crate::gathered::{Gathered, RulePlace};
+use crate::join::{GivenRule, Listed, numbers_by_name};
+use crate::named::named_lines;
+use crate::own::read_rule;
+use abnfread::{Elem, core_rules};
+use ruletable::{Memory, RuleTable};
+use std::alloc::Global;
+
+// Whether the text is not indented and spells the rule, but that names may stand for prose.
+fn spells_named(alloc: Global, rule: &GivenRule, text: &[u8]) -> Result<bool, Memory>
+    ensures { IfOk result (λ spells. IsNamedOutcome (text_rule rule.now) text.now spells) }
+{
+    match text.first() {
+        Some(b) if b.is_ascii_alphabetic() => {}
+        _ => return Ok(false),
+    }
+    match read_rule(alloc, text)? {
+        Some(given) => Ok(rule.is_same(true, &given)),
+        None => Ok(false),
+    }
+}
+
+// Where a rule stands with its names.
+fn named_place<'a>(
+    alloc: Global,
+    core: &RuleTable<Elem>,
+    names: &RuleTable<Vec<usize>>,
+    rule: &GivenRule,
+    place: RulePlace<'a>,
+) -> Result<RulePlace<'a>, Memory>
+    requires { IsCoreTable core.now }
+    ensures { IfOk result (λ named. IsPlaceNamed (knows names.now) (text_rule rule.now) (lines_placed place.entry)
+        (lines_placed named)) }
+{
+    let lines = named_lines(alloc, core, names, &rule.name, &place)?;
+    if lines.comments.is_empty() {
+        return Ok(place);
+    }
+    let is_rule = spells_named(alloc, rule, &lines.text)?;
+    if !is_rule {
+        return Ok(place);
+    }
+    Ok(RulePlace {
+        name: place.name,
+        margin: place.margin,
+        lines: place.lines,
+        blanks: place.blanks,
+        comments: lines.comments,
+        text: lines.text,
+    })
+}
+
+// Where rules stand with their names.
+fn named_places<'a>(
+    alloc: Global,
+    core: &RuleTable<Elem>,
+    names: &RuleTable<Vec<usize>>,
+    rules: &[GivenRule],
+    places: Vec<RulePlace<'a>>,
+) -> Result<Vec<RulePlace<'a>>, Memory>
+    requires { IsCoreTable core.now }
+    ensures { IfOk result (λ named. ArePlacesNamed (knows names.now) (map text_rule rules.now)
+        (map lines_placed places.entry.items) (map lines_placed named.items)) }
+{
+    let mut named = Vec::new(alloc);
+    let mut left = rules;
+    for place in places {
+        let Some((rule, behind)) = left.split_first() else {
+            break;
+        };
+        left = behind;
+        let it = named_place(alloc, core, names, rule, place)?;
+        named.push(it)?;
+    }
+    Ok(named)
+}
+
+// A rule with its names.
+fn named_rule(alloc: Global, place: &RulePlace<'_>, rule: GivenRule) -> Result<GivenRule, Memory>
+    ensures { IfOk result (λ named. IsRuleNamed (lines_placed place.now) (text_rule rule) (text_rule named)) }
+{
+    if place.comments.is_empty() {
+        return Ok(rule);
+    }
+    // A text with comments spells a rule.
+    match read_rule(alloc, &place.text)? {
+        Some(given) => Ok(GivenRule {
+            adds: given.adds,
+            name: given.name,
+            body: given.body,
+            is_prose: rule.is_prose,
+        }),
+        None => Err(Memory),
+    }
+}
+
+// Rules with their names.
+fn named_rules(
+    alloc: Global,
+    places: &[RulePlace<'_>],
+    rules: Vec<GivenRule>,
+) -> Result<Vec<GivenRule>, Memory>
+    ensures { IfOk result (λ named. AreRulesNamed (map lines_placed places.now) (map text_rule rules.items)
+        (map text_rule named.items)) }
+{
+    let mut named = Vec::new(alloc);
+    let mut number = 0;
+    for rule in rules {
+        let Some(place) = places.get(number) else {
+            break;
+        };
+        let it = named_rule(alloc, place, rule)?;
+        named.push(it)?;
+        number += 1;
+    }
+    Ok(named)
+}
+
+/// Takes the angle brackets from names of these rules and of core rules, but where they stand in a rule of the name.
+///
+/// # Errors
+/// `Memory` if an allocation fails.
+pub(crate) fn name_rules<'a>(alloc: Global, gathered: Gathered<'a>) -> Result<Gathered<'a>, Memory>
+    ensures { IfOk result (λ named. AreNamed (rules_gathered gathered.entry) (rules_gathered named)) }
+{
+    let Gathered {
+        places,
+        rules,
+        told,
+    } = gathered;
+    let core = core_rules(alloc)?;
+    let names = numbers_by_name(alloc, Listed::Rules, &rules)?;
+    let places = named_places(alloc, &core, &names, &rules, places)?;
+    let rules = named_rules(alloc, &places, rules)?;
+    Ok(Gathered {
+        places,
+        rules,
+        told,
+    })
+}
