@@ -56,7 +56,7 @@ PROGRAMS = {
 # The most functions that a crate has, and the crates that have more: so many each. Tests count for nothing.
 LARGEST_CRATE = 105
 # lazydfa: `States` needs the transitions that `Automaton` has, and a crate of its own would make them public.
-LARGER = {"lazydfa": 112}
+LARGER = {"lazydfa": 114}
 # The most entries that a folder has, and the folders that have more.
 LARGEST_FOLDER = 40
 WIDER = {"crates": MOST_CRATES, "docs/crates": MOST_CRATES}

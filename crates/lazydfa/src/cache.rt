@@ -59,6 +59,19 @@ pub(crate) struct Cache {
     pub(crate) budget: Budget,
 }
 
+/// Forgets all.
+pub(crate) fn forget(cache: &mut Cache)
+    ensures conts { cache.new.conts.items.items ≡ [] }
+    ensures states { cache.new.states.items ≡ [] }
+    ensures cells { cache.new.cells.items ≡ [] }
+{
+    cache.conts.items.clear();
+    cache.conts.chains.clear();
+    cache.states.clear();
+    cache.chains.clear();
+    cache.cells.clear();
+}
+
 /// Returns whether a continuation reads a symbol.
 fn cont_reads(tables: &Tables, id: usize, value: u32, conts: &Conts) -> bool
     requires within { id ≤ length conts.now.items.items }

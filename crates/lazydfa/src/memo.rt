@@ -4,7 +4,7 @@ ghost use Rattle.lazydfa.specs.Cached.{IsCache, Grows};
 ghost use Rattle.lazydfa.specs.Memos.{IsKnown, IsMemo, IsUnfold};
 ghost use Rattle.lazydfa.specs.declared.cache.State.{State};
 
-use crate::cache::{Cache, state_of};
+use crate::cache::{Cache, forget, state_of};
 use crate::chains::Chains;
 use crate::fill::may_fill;
 use crate::parts::put_back;
@@ -53,11 +53,7 @@ pub(crate) fn forget_all(memo: &mut Memo)
     ensures hops { memo.new.hops.items ≡ [] }
     ensures unfolds { memo.new.unfolds.items ≡ [] }
 {
-    memo.cache.conts.items.clear();
-    memo.cache.conts.chains.clear();
-    memo.cache.states.clear();
-    memo.cache.chains.clear();
-    memo.cache.cells.clear();
+    forget(&mut memo.cache);
     memo.hops.clear();
     memo.unfolds.clear();
     memo.chains.clear();

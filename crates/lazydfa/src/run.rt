@@ -80,7 +80,12 @@ fn make_start(
 /// Returns whether there is a start state, which has the number 0 and is made on first use; `false` if the budget does
 /// not allow it. `Memory` if an allocation fails.
 #[inline(always)]
-pub(crate) fn begin(alloc: Global, tables: &Tables, samples: &[u32], cache: &mut Cache) -> Result<bool, Memory>
+pub(crate) fn begin(
+    alloc: Global,
+    tables: &Tables,
+    samples: &[u32],
+    cache: &mut Cache,
+) -> Result<bool, Memory>
     requires cached { IsCache tables.now samples.now cache.old }
     ensures cached { IfOk result (λ made. IsCache tables.now samples.now cache.new) }
     ensures grows { IfOk result (λ made. Grows cache.old cache.new) }
