@@ -24,9 +24,8 @@ use Rattle.packrat.specs.View.{weight}
 use Rattle.packrat.specs.declared.frames.Frame.{Frame}
 use Rattle.memo.specs.declared.key_log.Stored.{Stored}
 use Rattle.packrat.specs.Stands.{AreWaiting, AreEntered, IsEntered}
-use Rattle.packrat.specs.Onward.{tail_of, member_of}
+use Rattle.packrat.specs.Onward.{tail_of}
 use Rattle.packrat.specs.declared.onward.Entering.{Entering}
-use Rattle.pegnodes.specs.KeyLists.{Marks}
 use Rattle.packrat.specs.declared.frames.Wait.{Wait}
 use Rattle.packrat.specs.declared.frames.Wait.TheVariants.{First, Last, Turned}
 use Rattle.packrat.specs.LoopTurns.{Turn, Ask, Answer}

@@ -1,5 +1,4 @@
 -- What the loop does next.
-use Rattle.std.specs.Prelude.{Option, Some, None}
 use Rattle.memo.specs.declared.key_log.Given.{Given}
 use Rattle.memo.specs.declared.spot.Spot.{Spot}
 use Rattle.memo.specs.declared.spot.Spot.TheVariants.{Pair}

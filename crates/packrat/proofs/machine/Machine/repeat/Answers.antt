@@ -1,6 +1,5 @@
 use Rattle.std.proofs.Common.{◌<◌, IfOk, refl, sym, subst, ◌∙◌}
 use Rattle.packrat.specs.Begins.{repeated_of}
-use Rattle.packrat.specs.Stands.{Stands}
 use Rattle.packrat.specs.TurnsLeft.{left}
 use Rattle.packrat.specs.LoopTurns.{Ask, turn_of}
 use Rattle.memo.specs.declared.spot.Spot.TheVariants.{Pair}

@@ -1,2 +1,0 @@
-use Rattle.std.proofs.Common.{inl, inr, refl, arith}
-use Rattle.packrat.proofs.skips.skip_at.Goals as goal
