@@ -167,9 +167,12 @@ module _ (settings : PegSettings) (start : ℕ) (before items : List ℕ) (flow 
     stops_over : (n : ℕ) → (start == n) ≡ (start == length input.bytes) → MayRun settings input start
         → IsStep (rules_of g.rules) g.start settings input start old old (Ok (Stops (stop_at start n)))
     stops_over n e may =
-        inr ([], subst (λ (it : Stop). Ends (rules_of g.rules) g.start settings input start [] it)
-        (same_stop start (length input.bytes) n (sym e)) (over_there (start == length input.bytes) refl may),
-        Appends-same old)
+        inr (
+          [],
+          subst (λ (it : Stop). Ends (rules_of g.rules) g.start settings input start [] it)
+              (same_stop start (length input.bytes) n (sym e)) (over_there (start == length input.bytes) refl may),
+          Appends-same old,
+        )
 
     full_over : length items ≡ suc settings.limit
         → IsStep (rules_of g.rules) g.start settings input start old old

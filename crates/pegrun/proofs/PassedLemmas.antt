@@ -91,9 +91,12 @@ drop_more s xs (f ∷ fs) ys h =
     let same : (s + 1) + length fs ≡ s + length (f ∷ fs) = omega arith in
     subst (λ (n : ℕ). drop n xs ≡ ys) same (drop_more (s + 1) xs fs ys (drop_one s xs f (fs ++ ys) h))
 
+-- units may be passed: they may look at a byte, and each may be followed by another one
+abbrev MayPass : PegSettings → Type 0
+MayPass settings = (0 < settings.limit) × (settings.options.whole ≡ false)
+
 module _ (g : Grammar) (settings : PegSettings) (input : Input) (units : ByteUnits)
-    (are : AreByteUnits g settings.options.raw units) (room : (0 < settings.limit) × (settings.options.whole ≡ false))
-  where
+    (are : AreByteUnits g settings.options.raw units) (room : MayPass settings) where
   abbrev UnitsTo : ℕ → List ℕ → Type 0
   UnitsTo s text = Units (rules_of g.rules) g.start settings input s text
 
@@ -239,7 +242,7 @@ moved_units rules start settings input s text it =
 module _ {R : Type 0} (remaining : R → Option (List ℕ)) (units : ByteUnits) (settings : PegSettings) (f0 f1 f2 : Feed R)
     (bytes : List ℕ) (some : 0 < length bytes) (first : IsBeginning bytes (bytes_of f0))
     (are_known : prefix_len (is_known units) bytes ≡ length bytes) (count : ℕ) (is_count : count ≡ length bytes)
-    (room : (0 < settings.limit) × (settings.options.whole ≡ false)) (capacity : capacity_of f0 ≡ settings.limit + 1)
+    (room : MayPass settings) (capacity : capacity_of f0 ≡ settings.limit + 1)
     (skip_bytes : bytes_of f1 ≡ drop (count - 1) (bytes_of f0)) (skip_reader : reader_of f1 ≡ reader_of f0)
     (skip_flow : flow_of f1 ≡ flow_of f0) (skip_allowance : allowance_of f1 ≡ allowance_of f0)
     (skip_capacity : capacity_of f1 ≡ capacity_of f0) (grows : Grows remaining f1 f2) (why : Held)

@@ -1,7 +1,6 @@
 -- One more unit, or the end.
 use Rattle.std.proofs.Common.{◌≡◌, false, [], ◌++◌, ◌+◌, ◌≤◌, ◌∙◌, length, take, refl, ap, rules, arith}
 use Rattle.std.proofs.Common.{length-append}
-use Rattle.std.specs.Io.KnownBytes.{Consumes}
 use Rattle.feed.specs.Feed.{bytes_of, input_limit, reader_of}
 use Rattle.ruletable.proofs.AppendsLemmas.{Appends-same}
 use Rattle.feed.proofs.GrowsLemmas.{Consumes-same}
