@@ -11,12 +11,12 @@ use Rattle.abnftexts.specs.JoinRun.{IsWrittenAs, JoinStates, JoinedReply, a_list
 use Rattle.abnftexts.specs.JoinRun.{joined_status, joins, no_memory, no_room, nothing, text_written, too_long, writes}
 use Rattle.abnftexts.specs.JoinedGrammar.{AreTextsJoined, GrammarJoined, UsesPrinted, gathered_joined, standing_places}
 use Rattle.abnftexts.specs.JoinedGrammar.{standing_rules}
-use Rattle.abnftexts.specs.NamedRules.{AreNamed}
+use Rattle.abnftexts.specs.NamedRules.{AreRenamed}
 use Rattle.abnftexts.specs.RulesGathered.{NamedText, RulesGathered}
 use Rattle.abnftexts.specs.UsedNames.{UsedName}
 use Rattle.abnftexts.specs.declared.run.JoinForm.{JoinForm}
 use Rattle.abnftexts.specs.declared.run.JoinForm.TheVariants.{Listed}
-use Rattle.abnftexts.proofs.OneNamingLemmas.{naming-same}
+use Rattle.abnftexts.proofs.OneRenameLemmas.{naming-same}
 use Rattle.abnftexts.proofs.TextRulesLemmas.{OneReading, texts-same, uses-same}
 
 module _ (one : OneReading) where
@@ -24,8 +24,8 @@ module _ (one : OneReading) where
       → a ≡ b
   joined-same texts a b x y =
       let given : x.given ≡ y.given = texts-same one x.gives y.gives in
-      let named : AreNamed y.given x.gathered =
-      subst (λ (g : RulesGathered). AreNamed g x.gathered) given x.names in
+      let named : AreRenamed y.given x.gathered =
+      subst (λ (g : RulesGathered). AreRenamed g x.gathered) given x.names in
       let same : x.gathered ≡ y.gathered = naming-same one named y.names in
       let here : UsesPrinted (standing_places y.gathered) (standing_rules y.gathered) x.uses =
       subst (λ (g : RulesGathered). UsesPrinted (standing_places g) (standing_rules g) x.uses) same x.are_uses in

@@ -21,5 +21,5 @@ pub mod LinkedTokenLemmas
 pub mod MovedWordLemmas
 pub mod ListNamesLemmas
 pub mod NamedRulesLemmas
-pub mod OneNamingLemmas
+pub mod OneRenameLemmas
 pub mod WrittenRulesLemmas

@@ -9,7 +9,7 @@ use Rattle.abnftexts.specs.declared.join.fate.Fate.{Fate}
 use Rattle.abnftexts.specs.declared.join.fate.Fate.TheVariants.{Stands, Again, Yields}
 use Rattle.abnftexts.specs.declared.join.order.Clash.{Clash}
 use Rattle.abnftexts.specs.RulesGathered.{NamedText, RuleLines, RulesGathered}
-use Rattle.abnftexts.specs.NamedRules.{AreNamed}
+use Rattle.abnftexts.specs.NamedRules.{AreRenamed}
 use Rattle.abnftexts.specs.TextRules.{GiveTexts}
 use Rattle.abnftexts.specs.UsedNames.{AreNameUses, UsedName, undefined_told}
 use Rattle.abnftexts.specs.TextPlaces.{number_at, place_shown}
@@ -140,7 +140,7 @@ pub record AreTextsJoined (texts : List NamedText) (joined : GrammarJoined) : Ty
   pub given : RulesGathered
   pub gives : GiveTexts texts given
   pub gathered : RulesGathered
-  pub names : AreNamed given gathered
+  pub names : AreRenamed given gathered
   pub uses : List UsedName
   pub are_uses : UsesPrinted (standing_places gathered) (standing_rules gathered) uses
   pub is : joined ≡ gathered_joined gathered uses

@@ -15,9 +15,9 @@ use Rattle.abnftexts.specs.RulesGathered.{RuleLines, RulesGathered}
 use Rattle.abnftexts.specs.TextRules.{SpellRule}
 use Rattle.abnftexts.specs.UsedNames.{is_known_name}
 
-abbrev pub is_prose : AbnfKind → Bool
-is_prose Prose = true
-is_prose _ = false
+abbrev pub is_prose_kind : AbnfKind → Bool
+is_prose_kind Prose = true
+is_prose_kind _ = false
 
 -- what stands between the first byte and the last one
 abbrev pub inside_of : List ℕ → List ℕ
@@ -26,7 +26,7 @@ inside_of slice = drop 1 (take (length slice - 1) slice)
 -- A token as it is written in the rule of that name: a name that is known, and is not its own, loses angle brackets.
 abbrev pub token_named : (List ℕ → Bool) → List ℕ → Tok AbnfKind → List ℕ
 token_named known own x =
-    if is_prose (kind_of x) && (known (inside_of (slice_of x)) && not (same_name Fold own (inside_of (slice_of x))))
+    if is_prose_kind (kind_of x) && (known (inside_of (slice_of x)) && not (same_name Fold own (inside_of (slice_of x))))
     then inside_of (slice_of x) else slice_of x
 
 -- the text from that position on, where these are its tokens there: what stands between tokens stays
@@ -106,7 +106,7 @@ pub data AreRulesNamed : List RuleLines → List RuleGiven → List RuleGiven �
       → AreRulesNamed (place ∷ places) (rule ∷ rules) (new ∷ others)
 
 -- What was gathered, where names of its rules and of core rules lose angle brackets in all others.
-pub record AreNamed (given named : RulesGathered) : Type 0 where
+pub record AreRenamed (given named : RulesGathered) : Type 0 where
   pub places : ArePlacesNamed (is_known_name given.rules) given.rules given.places named.places
   pub rules : AreRulesNamed named.places given.rules named.rules
   pub told : named.told ≡ given.told

@@ -1,9 +1,9 @@
 //! Rules with names in angle brackets.
 ghost use Rattle.std.specs.Prelude.{map, IfOk};
 ghost use Rattle.abnfread.specs.AbnfTable.{IsCoreTable};
-ghost use Rattle.abnftexts.specs.CodeUses.{is_known as knows};
+ghost use Rattle.abnftexts.specs.CodeUses.{is_known_name as knows};
 ghost use Rattle.abnftexts.specs.GivenRules.{text_rule};
-ghost use Rattle.abnftexts.specs.NamedRules.{AreNamed, ArePlacesNamed, AreRulesNamed, IsPlaceNamed, IsRuleNamed};
+ghost use Rattle.abnftexts.specs.NamedRules.{AreRenamed, ArePlacesNamed, AreRulesNamed, IsPlaceNamed, IsRuleNamed};
 ghost use Rattle.abnftexts.specs.RulesGathered.{lines_placed, rules_gathered};
 ghost use Rattle.abnftexts.specs.TakenRules.{IsNamedOutcome};
 
@@ -130,7 +130,7 @@ fn named_rules(
 /// # Errors
 /// `Memory` if an allocation fails.
 pub(crate) fn name_rules<'a>(alloc: Global, gathered: Gathered<'a>) -> Result<Gathered<'a>, Memory>
-    ensures { IfOk result (λ named. AreNamed (rules_gathered gathered.entry) (rules_gathered named)) }
+    ensures { IfOk result (λ named. AreRenamed (rules_gathered gathered.entry) (rules_gathered named)) }
 {
     let Gathered {
         places,

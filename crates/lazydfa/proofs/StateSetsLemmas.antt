@@ -18,33 +18,33 @@ use Rattle.lazydfa.specs.declared.conts.Cont.{Cont}
 use Rattle.lazydfa.specs.declared.cache.State.{State}
 use Rattle.lazydfa.specs.Conts.{stack_of, last_of, AreKept, IsStackOf, IsTransition}
 use Rattle.lazydfa.specs.Cached.{AreGrown, IsAt, IsInterned, IsStartAt}
-use Rattle.lazydfa.specs.StateSets.{AreMoreStates, IsLed, IsNextState, IsStartState, set_of, sets_of}
+use Rattle.lazydfa.specs.StateSets.{AreMoreStates, IsLed, IsNextState, IsStartState, state_set_of, sets_of}
 use Rattle.lazydfa.specs.StateSets.{StateSet, StateSets}
 use Rattle.lazydfa.proofs.AreCachedLemmas.{grown_at, transition_kept}
 use Rattle.lazydfa.proofs.ContsLemmas.{kept_same, kept_stack}
 use Rattle.lazydfa.proofs.IsAtLemmas.{at_start, front_as}
 use Rattle.lazydfa.proofs.TellLemmas.{transition_next}
 
-pub contained : {A : Type 0} (xs : List A) (k : ℕ) (x : A) → slice_get xs k ≡ Some x → Contains xs x
-contained [] k x is = absurd (cc is)
-contained (y ∷ xs) zero x is = (0, omega arith, cc is)
-contained (y ∷ xs) (suc k) x is =
-    let h = contained xs k x is in (suc h.0, (let lt = h.1 in omega (arith, lt)), h.2)
+pub contained_at : {A : Type 0} (xs : List A) (k : ℕ) (x : A) → slice_get xs k ≡ Some x → Contains xs x
+contained_at [] k x is = absurd (cc is)
+contained_at (y ∷ xs) zero x is = (0, omega arith, cc is)
+contained_at (y ∷ xs) (suc k) x is =
+    let h = contained_at xs k x is in (suc h.0, (let lt = h.1 in omega (arith, lt)), h.2)
 
-pub got : {A : Type 0} (xs : List A) (x : A) (h : Contains xs x) → slice_get xs h.0 ≡ Some x
-got xs x h = slice_get-get_or xs h.0 x h.1 ∙ ap (λ v. Some v) h.2
+pub got_at : {A : Type 0} (xs : List A) (x : A) (h : Contains xs x) → slice_get xs h.0 ≡ Some x
+got_at xs x h = slice_get-get_or xs h.0 x h.1 ∙ ap (λ v. Some v) h.2
 
 module _ (conts : List Cont) (ids : List ℕ) where
   to_list : (s : List Place) → IsStackOf conts ids s → Contains (map (stack_of conts) ids) s
   to_list s h =
       subst (λ v. Contains (map (stack_of conts) ids) v) (sym h.is)
-      (contained (map (stack_of conts) ids) h.stands.0 (stack_of conts h.id)
-      (get_map (stack_of conts) ids h.stands.0 (got ids h.id h.stands)))
+      (contained_at (map (stack_of conts) ids) h.stands.0 (stack_of conts h.id)
+      (get_map (stack_of conts) ids h.stands.0 (got_at ids h.id h.stands)))
 
   from_list : (s : List Place) → Contains (map (stack_of conts) ids) s → IsStackOf conts ids s
   from_list s h =
-      let u = get_unmap (stack_of conts) ids h.0 s (got (map (stack_of conts) ids) s h) in
-      record { id = u.from; stands = contained ids h.0 u.from u.at; is = sym u.is }
+      let u = get_unmap (stack_of conts) ids h.0 s (got_at (map (stack_of conts) ids) s h) in
+      record { id = u.from; stands = contained_at ids h.0 u.from u.at; is = sym u.is }
 
 -- the stacks of states stay
 map_same : (f g : ℕ → List Place) (ids : List ℕ) → ((id : ℕ) → Contains ids id → f id ≡ g id) → map f ids ≡ map g ids
@@ -55,7 +55,7 @@ map_same f g (x ∷ ids) same =
 
 module _ (old new : List Cont) (kept : AreKept old new) where
   set_kept : (state : State) → ((id : ℕ) → Contains state.tops.items id → id ≤ length old)
-      → set_of new state ≡ set_of old state
+      → state_set_of new state ≡ state_set_of old state
   set_kept state within =
       ap (λ v. record { stacks = v; ended = state.ended }) (map_same (stack_of new) (stack_of old) state.tops.items
       (λ id h. kept_stack old new kept id (within id h)))
@@ -65,7 +65,7 @@ module _ (old new : List Cont) (kept : AreKept old new) where
   sets_kept [] within = refl
   sets_kept (x ∷ states) within =
       ap (λ v. v ∷ sets_of new states) (set_kept x (within 0 x refl))
-      ∙ ap (λ v. set_of old x ∷ v) (sets_kept states (λ s state is. within (suc s) state is))
+      ∙ ap (λ v. state_set_of old x ∷ v) (sets_kept states (λ s state is. within (suc s) state is))
 
   pub more_states : (tables : code_flat.Tables) (states more : List State) → AreGrown states more
       → ((s : ℕ) (state : State) → slice_get states s ≡ Some state → (id : ℕ) → Contains state.tops.items id
@@ -74,7 +74,7 @@ module _ (old new : List Cont) (kept : AreKept old new) where
   more_states tables states more grown within = record {
     same = refl;
     added = sets_of new grown.added;
-    grown = ap (λ v. sets_of new v) grown.grown ∙ (map-append (set_of new) states grown.added
+    grown = ap (λ v. sets_of new v) grown.grown ∙ (map-append (state_set_of new) states grown.added
         ∙ ap (λ v. v ++ sets_of new grown.added) (sets_kept states within));
   }
 
@@ -115,10 +115,10 @@ module _ (tables : code_flat.Tables) (roots : GiveRoots (flat_of tables) tables.
 
   pub led_next : (c s t : ℕ) → IsLed tables c conts states s t → IsNextState Sets c s t
   led_next c s t l = record {
-    from = set_of conts l.from;
-    to = set_of conts l.to;
-    from_is = get_map (set_of conts) states s l.from_is;
-    to_is = get_map (set_of conts) states t l.to_is;
+    from = state_set_of conts l.from;
+    to = state_set_of conts l.to;
+    from_is = get_map (state_set_of conts) states s l.from_is;
+    to_is = get_map (state_set_of conts) states t l.to_is;
     next = next_as (flat_of tables) (last_of tables) c (IsStackOf conts l.from.tops.items)
         (Contains (map (stack_of conts) l.from.tops.items)) (IsStackOf conts l.to.tops.items)
         (Contains (map (stack_of conts) l.to.tops.items)) l.to.ended (to_list conts l.from.tops.items)
@@ -128,8 +128,8 @@ module _ (tables : code_flat.Tables) (roots : GiveRoots (flat_of tables) tables.
 
   pub start_state : (t : ℕ) → IsStartAt tables conts states t → IsStartState Sets t
   start_state t s = record {
-    state = set_of conts s.state;
-    is = get_map (set_of conts) states t s.is;
+    state = state_set_of conts s.state;
+    is = get_map (state_set_of conts) states t s.is;
     front = λ x. front_as (flat_of tables) (last_of tables) x 0 (IsStackOf conts s.state.tops.items)
         (Contains (map (stack_of conts) s.state.tops.items)) s.state.ended [] (to_list conts s.state.tops.items)
         (from_list conts s.state.tops.items) (first x (at_start tables roots x conts states t s));
@@ -143,10 +143,10 @@ module _ (tables : code_flat.Tables) (roots : GiveRoots (flat_of tables) tables.
           a.front
 
 -- the ids of a transition in another order
-pub reordered : (tables : code_flat.Tables) (c : ℕ) (first : List Cont) (tops : List ℕ) (conts : List Cont)
+pub tops_reordered : (tables : code_flat.Tables) (c : ℕ) (first : List Cont) (tops : List ℕ) (conts : List Cont)
     (next other : List ℕ) (ended : Bool) → IsPermutation next other
     → IsTransition tables c first tops conts next ended → IsTransition tables c first tops conts other ended
-reordered tables c first tops conts next other ended p t = record {
+tops_reordered tables c first tops conts next other ended p t = record {
   within = λ id h. t.within id (back id h);
   tops_are = λ stack. (
     λ s. (t.tops_are stack).0 (record { id = s.id; stands = back s.id s.stands; is = s.is }),
@@ -187,7 +187,7 @@ from_empty : (f : ℕ → List Place) (ids : List ℕ) → map f ids ≡ [] → 
 from_empty f [] none = refl
 from_empty f (x ∷ ids) none = absurd (cc none)
 
-pub dead_is : (conts : List Cont) (state : State) (sets : StateSet) → set_of conts state ≡ sets → (dead : Bool)
+pub dead_is : (conts : List Cont) (state : State) (sets : StateSet) → state_set_of conts state ≡ sets → (dead : Bool)
     → dead ≡ eqb (length state.tops.items) 0 → (dead ≡ true) ↔ (sets.stacks ≡ [])
 dead_is conts state sets same dead is = (
   λ yes. subst (λ v. v.stacks ≡ []) same (to_empty (stack_of conts) state.tops.items

@@ -54,11 +54,11 @@ pub record IsNextState (sets : StateSets) (c s t : ℕ) : Type 0 where
   pub next : IsNext (grammar_of sets) (last_in sets) (Contains from.stacks) c (Contains to.stacks) to.ended
 
 -- a state by its ids
-abbrev pub set_of : List Cont → State → StateSet
-set_of conts state = record { stacks = map (stack_of conts) state.tops.items; ended = state.ended }
+abbrev pub state_set_of : List Cont → State → StateSet
+state_set_of conts state = record { stacks = map (stack_of conts) state.tops.items; ended = state.ended }
 
 abbrev pub sets_of : List Cont → List State → List StateSet
-sets_of conts states = map (set_of conts) states
+sets_of conts states = map (state_set_of conts) states
 
 -- a symbol leads from the ids of one state to those of another
 pub record IsLed (tables : code_flat.Tables) (c : ℕ) (conts : List Cont) (states : List State) (s t : ℕ) : Type 0 where

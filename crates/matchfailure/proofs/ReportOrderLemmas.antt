@@ -79,9 +79,9 @@ marked-by x y ys false e some later =
     let there = later (omega (arith, some, none, sum_by-cons (mark x) y ys)) in
     (suc there.0, omega (arith, there.1), there.2)
 
-marked : (x : List ℕ) (ys : List (List ℕ)) → 0 < sum_by (mark x) ys → HasKey x ys
-marked x [] some = absurd (omega (arith, some))
-marked x (y ∷ ys) some = marked-by x y ys (bytes_eq x y) refl some (marked x ys)
+marked_key : (x : List ℕ) (ys : List (List ℕ)) → 0 < sum_by (mark x) ys → HasKey x ys
+marked_key x [] some = absurd (omega (arith, some))
+marked_key x (y ∷ ys) some = marked-by x y ys (bytes_eq x y) refl some (marked_key x ys)
 
 in-sum : (x : List ℕ) (xs : List (List ℕ)) → 0 < sum_by (mark x) (x ∷ xs)
 in-sum x xs =
@@ -108,7 +108,7 @@ tail-up x xs up k d low high =
 -- of two ascending lists of the same keys neither first is below the other
 not-below : (x y : List ℕ) (xs ys : List (List ℕ)) → AreUp (y ∷ ys) → AreSame (x ∷ xs) (y ∷ ys) → below x y ≡ false
 not-below x y xs ys up same =
-    let there = marked x (y ∷ ys) (omega (arith, in-sum x xs, same (mark x))) in
+    let there = marked_key x (y ∷ ys) (omega (arith, in-sum x xs, same (mark x))) in
     subst (λ z. below z y ≡ false) (there.2 []) (first-least y ys up there.0 there.1)
 
 rest-same : (x : List ℕ) (xs ys : List (List ℕ)) → AreSame (x ∷ xs) (x ∷ ys) → AreSame xs ys

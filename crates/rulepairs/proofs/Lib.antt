@@ -6,4 +6,4 @@ mod SwappedLemmas
 mod CountsWithinLemmas
 mod SamplesLemmas
 mod SearchLemmas
-mod AloneLemmas
+mod OldAloneLemmas

@@ -22,9 +22,9 @@ use Rattle.flatgrammar.specs.Flat.{Flat}
 use Rattle.flatgrammar.proofs.CallOfLemmas.{get_map, get_unmap}
 use Rattle.letterclasses.specs.ClassBounds.{AreJoined, AreNodesSplit, IsFree}
 use Rattle.letterclasses.proofs.AreClassesLemmas.{joined_alike, more_nodes_split}
-use Rattle.lazydfa.proofs.StateSetsLemmas.{contained, got}
+use Rattle.lazydfa.proofs.StateSetsLemmas.{contained_at, got_at}
 use Rattle.rulepairs.specs.FirstLines.{sort_key}
-use Rattle.rulepairs.specs.Samples.{AreCommonBounds, AreInOrder, AreKeysOf, cuts, IsKeyAdded, symbol_of}
+use Rattle.rulepairs.specs.Samples.{AreCommonBounds, AreInLineOrder, AreKeysOf, cuts, IsKeyAdded, symbol_of}
 use Rattle.rulepairs.specs.StatePairs.{AreSamples}
 
 -- the bounds of both
@@ -99,8 +99,8 @@ last_bound bounds first (suc c) = by (contains_or bounds (suc c)) (last_bound bo
 -- no cut is between
 module _ (bounds : List ℕ) (all_cuts : (c : ℕ) → Contains cuts c → Contains bounds c) (s c : ℕ)
     (joined : AreJoined bounds s c) where
-  beside : (k : ℕ) → Contains cuts k → (k ≤ s) ⊎ (c < k)
-  beside k h = by (cases_lt s k) (cases_lt c k)
+  beside_bound : (k : ℕ) → Contains cuts k → (k ≤ s) ⊎ (c < k)
+  beside_bound k h = by (cases_lt s k) (cases_lt c k)
     where
       by : (s < k) ⊎ (k ≤ s) → (c < k) ⊎ (k ≤ c) → (k ≤ s) ⊎ (c < k)
       by (inr le) _ = inl le
@@ -109,7 +109,7 @@ module _ (bounds : List ℕ) (all_cuts : (c : ℕ) → Contains cuts c → Conta
 
   key_first : sort_key s ≤ sort_key c
   key_first =
-      by (beside 32 (1, omega arith, refl)) (beside 33 (2, omega arith, refl)) (beside 127 (3, omega arith, refl))
+      by (beside_bound 32 (1, omega arith, refl)) (beside_bound 33 (2, omega arith, refl)) (beside_bound 127 (3, omega arith, refl))
     where
       by : (32 ≤ s) ⊎ (c < 32) → (33 ≤ s) ⊎ (c < 33) → (127 ≤ s) ⊎ (c < 127) → sort_key s ≤ sort_key c
       by (inl a) (inl b) (inl d) = let le = joined.0 in grind (arith, nat_tests)
@@ -122,7 +122,7 @@ module _ (bounds : List ℕ) (all_cuts : (c : ℕ) → Contains cuts c → Conta
 
   has_too : (alphabet : Alphabet) → has alphabet c ≡ true → has alphabet s ≡ true
   has_too Bytes is = let le = joined.0 in grind (arith, nat_tests)
-  has_too Utf8 is = by (beside 57344 (4, omega arith, refl))
+  has_too Utf8 is = by (beside_bound 57344 (4, omega arith, refl))
     where
       by : (57344 ≤ s) ⊎ (c < 57344) → has Utf8 s ≡ true
       by (inl a) = let le = joined.0 in grind (arith, nat_tests)
@@ -178,7 +178,7 @@ module _ (has : ℕ → Bool) where
       from : (k : ℕ) → Contains old k ⊎ ((has b ≡ true) × (k ≡ sort_key b))
           → (b : ℕ) × Contains bounds b × (has b ≡ true) × (k ≡ sort_key b)
       from k (inl h) = before.only k h
-      from k (inr h) = (b, contained bounds n b at_n, h.0, h.1)
+      from k (inr h) = (b, contained_at bounds n b at_n, h.0, h.1)
 
       by : (i other : ℕ) → i < n + 1 → slice_get bounds i ≡ Some other → has other ≡ true → (i < n) ⊎ (n ≤ i)
           → Contains new (sort_key other)
@@ -193,7 +193,7 @@ module _ (has : ℕ → Bool) where
       → AreKeysOf has bounds keys
   keys_all bounds n keys le k = record {
     only = k.only;
-    all = λ b h. k.all h.0 b (let lt = h.1 in omega (arith, lt, le)) (got bounds b h);
+    all = λ b h. k.all h.0 b (let lt = h.1 in omega (arith, lt, le)) (got_at bounds b h);
   }
 
 -- sorted keys, each once
@@ -218,8 +218,8 @@ module _ (alphabet : Alphabet) (old new : Flat) (bounds keys samples : List ℕ)
     (is : samples ≡ map symbol_of keys) where
   sample_of : (b : ℕ) → Contains keys (sort_key b) → Contains samples b
   sample_of b h =
-      let there = contained (map symbol_of keys) h.0 (symbol_of (sort_key b))
-      (get_map symbol_of keys h.0 (got keys (sort_key b) h)) in
+      let there = contained_at (map symbol_of keys) h.0 (symbol_of (sort_key b))
+      (get_map symbol_of keys h.0 (got_at keys (sort_key b) h)) in
       subst (λ v. Contains v b) (sym is) (subst (λ v. Contains (map symbol_of keys) v) (key_symbol b) there)
 
   pub each_class : AreSamples old new (has alphabet) samples
@@ -239,15 +239,15 @@ module _ (alphabet : Alphabet) (old new : Flat) (bounds keys samples : List ℕ)
   key_at : (i c : ℕ) → slice_get samples i ≡ Some c → (slice_get keys i ≡ Some (sort_key c)) × (has alphabet c ≡ true)
   key_at i c at_i =
       let u = get_unmap symbol_of keys i c (subst (λ v. slice_get v i ≡ Some c) is at_i) in
-      let k = are.only u.from (contained keys i u.from u.at) in
+      let k = are.only u.from (contained_at keys i u.from u.at) in
       let symbol : k.0 ≡ c = sym (key_symbol k.0) ∙ (ap symbol_of (sym k.3) ∙ u.is) in (
         u.at ∙ ap (λ v. Some v) (k.3 ∙ ap sort_key symbol),
         subst (λ v. has alphabet v ≡ true) symbol k.2,
       )
 
-  pub in_order : IsStrictlyIncreasing keys → AreInOrder (has alphabet) samples
+  pub in_order : IsStrictlyIncreasing keys → AreInLineOrder (has alphabet) samples
   in_order up = record {
-    symbols = λ c h. (key_at h.0 c (got samples c h)).1;
+    symbols = λ c h. (key_at h.0 c (got_at samples c h)).1;
     order = λ i j c d lt at_i at_j. rise i j (sort_key c) (sort_key d) lt (key_at i c at_i).0 (key_at j d at_j).0;
   }
     where
@@ -270,7 +270,7 @@ module _ (alphabet : Alphabet) (old new : Flat) (bounds keys samples : List ℕ)
 pub samples_are : (alphabet : Alphabet) (old new : Flat) (bounds first mid keys samples : List ℕ)
     → AreCommonBounds old new bounds → AreKeysOf (has alphabet) bounds first → IsPermutation first mid
     → IsSorted nat_cmp mid → IsFiltered (DiffersFromLast eqb) [] mid keys → samples ≡ map symbol_of keys
-    → AreSamples old new (has alphabet) samples × AreInOrder (has alphabet) samples
+    → AreSamples old new (has alphabet) samples × AreInLineOrder (has alphabet) samples
 samples_are alphabet old new bounds first mid keys samples common are moved sorted filtered is =
     let kept = keys_kept mid keys filtered (has alphabet) bounds first moved are in (
       each_class alphabet old new bounds keys samples common kept is,

@@ -1,5 +1,5 @@
 -- A step of a search of pairs.
--- Serves: search.
+-- Serves: search_all
 use Rattle.std.proofs.Common.{◌≡◌, ℕ, zero, suc, ◌+◌, ◌<◌, ◌≤◌, Bool, true, false, List, [], ◌∷◌, ◌++◌, length}
 use Rattle.std.proofs.Common.{refl, sym, ◌∙◌}
 use Rattle.std.proofs.Common.{ap, subst, arith, ◌⊎◌, inl, inr, get_or, length-append, append-nil}
@@ -16,11 +16,11 @@ use Rattle.rulepairs.specs.declared.pairs.Pair.{Pair}
 use Rattle.rulepairs.specs.FirstLines.{sort_key}
 use Rattle.rulepairs.specs.FoundPairs.{AreFound, EndWithNew, FoundPair, HasParent, IsFoundBefore}
 use Rattle.rulepairs.specs.FoundPairs.{IsOldDead, LeadsToFound}
-use Rattle.rulepairs.specs.Samples.{AreInOrder}
-use Rattle.rulepairs.specs.Search.{found_pair, found_pairs, HasPair, IsPairAdded, IsSearch, state_at}
+use Rattle.rulepairs.specs.Samples.{AreInLineOrder}
+use Rattle.rulepairs.specs.Search.{found_pair, found_pairs, HasPair, IsPairAdded, IsPairSearch, state_at}
 use Rattle.rulepairs.specs.StatePairs.{PairLeads}
 use Rattle.letterclasses.specs.Stacks.{IsNext}
-use Rattle.lazydfa.proofs.StateSetsLemmas.{contained}
+use Rattle.lazydfa.proofs.StateSetsLemmas.{contained_at}
 
 get_left : {A : Type 0} (xs ys : List A) (k : ℕ) (x : A) → slice_get xs k ≡ Some x → slice_get (xs ++ ys) k ≡ Some x
 get_left [] ys k x h = absurd (cc h)
@@ -95,7 +95,7 @@ module _ (old mid new more : StateSets) (old_more : AreMoreStates old mid) (new_
       (λ i q h. new_within (suc i) q h))
 
   pub search_kept : (has : ℕ → Bool) (samples : List ℕ) (pairs : List Pair) (n k m : ℕ)
-      → IsSearch has samples old new pairs n k m → IsSearch has samples mid more pairs n k m
+      → IsPairSearch has samples old new pairs n k m → IsPairSearch has samples mid more pairs n k m
   search_kept has samples pairs n k m s = record {
     old_within = λ i p h.
         (let lt = s.old_within i p h in let le = more_length old mid old_more in omega (arith, lt, le));
@@ -130,8 +130,8 @@ module _ (old mid new more : StateSets) (old_more : AreMoreStates old mid) (new_
           (found_pairs old new pairs) i e c) (sym new_more.same) l)))
 
 -- one sample leads on from a pair
-module _ (has : ℕ → Bool) (samples : List ℕ) (in_order : AreInOrder has samples) (old new : StateSets)
-    (pairs : List Pair) (n k m : ℕ) (s : IsSearch has samples old new pairs n k m) (p : Pair)
+module _ (has : ℕ → Bool) (samples : List ℕ) (in_order : AreInLineOrder has samples) (old new : StateSets)
+    (pairs : List Pair) (n k m : ℕ) (s : IsPairSearch has samples old new pairs n k m) (p : Pair)
     (at_n : slice_get pairs n ≡ Some p) (c : ℕ) (at_k : slice_get samples k ≡ Some c) (symbol : has c ≡ true)
     (a b : ℕ) (old_next : IsNextState old c p.old a) (new_next : IsNextState new c p.new b) where
   abbrev Found : List FoundPair
@@ -143,18 +143,18 @@ module _ (has : ℕ → Bool) (samples : List ℕ) (in_order : AreInOrder has sa
   abbrev LeadsBy : ℕ → FoundPair → List FoundPair → ℕ → Type 0
   LeadsBy i e found d = LeadsToFound (grammar_of old) (last_in old) (grammar_of new) (last_in new) found i e d
 
-  side : (sets : StateSets) (s t : ℕ) (next : IsNextState sets c s t)
+  side_next : (sets : StateSets) (s t : ℕ) (next : IsNextState sets c s t)
       → IsNext (grammar_of sets) (last_in sets) (Contains (state_at sets s).stacks) c
       (Contains (state_at sets t).stacks) (state_at sets t).ended
-  side sets s t next =
+  side_next sets s t next =
       subst (λ v. IsNext (grammar_of sets) (last_in sets) (Contains v.stacks) c (Contains (state_at sets t).stacks)
       (state_at sets t).ended) (sym (state_is sets s next.from next.from_is))
       (subst (λ v. IsNext (grammar_of sets) (last_in sets) (Contains next.from.stacks) c (Contains v.stacks) v.ended)
       (sym (state_is sets t next.to next.to_is)) next.next)
 
-  leads : PairLeads (grammar_of old) (last_in old) (grammar_of new) (last_in new) c (found_pair old new p).pair
+  pair_leads : PairLeads (grammar_of old) (last_in old) (grammar_of new) (last_in new) c (found_pair old new p).pair
       (found_pair old new Entry).pair
-  leads = record { old_next = side old p.old a old_next; new_next = side new p.new b new_next }
+  pair_leads = record { old_next = side_next old p.old a old_next; new_next = side_next new p.new b new_next }
 
   same_states : (q : Pair) → q.old ≡ a → q.new ≡ b → (found_pair old new Entry).pair ≡ (found_pair old new q).pair
   same_states q old_is new_is =
@@ -174,12 +174,12 @@ module _ (has : ℕ → Bool) (samples : List ℕ) (in_order : AreInOrder has sa
       by (inr le) = inr (h.0, (let lt = h.1 in omega (arith, lt, le)))
 
   -- a pair of the list that the sample leads to
-  reaches : (found : List FoundPair) (index : ℕ) (next : FoundPair) → slice_get found index ≡ Some next
+  reaches_pair : (found : List FoundPair) (index : ℕ) (next : FoundPair) → slice_get found index ≡ Some next
       → (found_pair old new Entry).pair ≡ next.pair
       → (index ≡ 0) ⊎ ((next.parent < n) ⊎ ((next.parent ≡ n) × (sort_key next.symbol ≤ sort_key c)))
       → (i j d : ℕ) (e : FoundPair) → i ≡ n → j ≡ k → slice_get Found i ≡ Some e → slice_get samples j ≡ Some d
       → LeadsBy i e found d
-  reaches found index next is same order i j d e here sample at_i at_j =
+  reaches_pair found index next is same order i j d e here sample at_i at_j =
       let entry : found_pair old new p ≡ e = cc (
         get_map (found_pair old new) pairs n at_n,
         subst (λ v. slice_get Found v ≡ Some e) here at_i,
@@ -192,7 +192,7 @@ module _ (has : ℕ → Bool) (samples : List ℕ) (in_order : AreInOrder has sa
         next = next;
         is = is;
         leads = subst (λ v. PairLeads (grammar_of old) (last_in old) (grammar_of new) (last_in new) c
-            (found_pair old new p).pair v) same leads;
+            (found_pair old new p).pair v) same pair_leads;
         order = order;
       })))
 
@@ -224,7 +224,7 @@ module _ (has : ℕ → Bool) (samples : List ℕ) (in_order : AreInOrder has sa
         by (inl lt) = inr (weaker (is_later h.pair (s.recent h.index h.pair lt h.is)))
         by (inr le) = inl (omega (arith, le))
 
-    pub found_there : IsSearch has samples old new pairs n (k + 1) m
+    pub found_there : IsPairSearch has samples old new pairs n (k + 1) m
     found_there = record {
       old_within = s.old_within;
       new_within = s.new_within;
@@ -238,7 +238,7 @@ module _ (has : ℕ → Bool) (samples : List ℕ) (in_order : AreInOrder has sa
         by : (i j : ℕ) (e : FoundPair) (d : ℕ) → slice_get Found i ≡ Some e → slice_get samples j ≡ Some d
             → IsBefore k i j ⊎ ((i ≡ n) × (j ≡ k)) → IsOldDead e.pair ⊎ LeadsBy i e Found d
         by i j e d is at_j (inl lt) = s.searched i j e d lt is at_j
-        by i j e d is at_j (inr g) = inr (reaches Found h.index (found_pair old new h.pair)
+        by i j e d is at_j (inr g) = inr (reaches_pair Found h.index (found_pair old new h.pair)
             (get_map (found_pair old new) pairs h.index h.is) (same_states h.pair h.old_is h.new_is) there_order i j d e
             g.0 g.1 is at_j)
 
@@ -249,11 +249,11 @@ module _ (has : ℕ → Bool) (samples : List ℕ) (in_order : AreInOrder has sa
   abbrev MoreFound : List FoundPair
   MoreFound = Found ++ found_pair old new Entry ∷ []
 
-  count : length Found ≡ length pairs
-  count = length-map pairs (found_pair old new)
+  found_count : length Found ≡ length pairs
+  found_count = length-map pairs (found_pair old new)
 
-  here : n < length pairs
-  here = slice_get_within pairs n p at_n
+  is_here : n < length pairs
+  is_here = slice_get_within pairs n p at_n
 
   at_last : slice_get MoreFound (length Found) ≡ Some (found_pair old new Entry)
   at_last = get_end Found (found_pair old new Entry)
@@ -277,12 +277,12 @@ module _ (has : ℕ → Bool) (samples : List ℕ) (in_order : AreInOrder has sa
 
   own_parent : ParentIn MoreFound (length Found) (found_pair old new Entry)
   own_parent = record {
-    earlier = omega (arith, here, count);
+    earlier = omega (arith, is_here, found_count);
     parent = found_pair old new p;
     is = get_left Found (found_pair old new Entry ∷ []) n (found_pair old new p)
         (get_map (found_pair old new) pairs n at_n);
     symbol = symbol;
-    leads = leads;
+    leads = pair_leads;
   }
 
   before_last : (i : ℕ) (e : FoundPair) → 0 < i → slice_get Found i ≡ Some e
@@ -316,8 +316,8 @@ module _ (has : ℕ → Bool) (samples : List ℕ) (in_order : AreInOrder has sa
           absurd (let within = slice_get_within Found j f at in let e = is.0 in omega (arith, within, lt, e))
       ordered i j e f some lt (inr is) (inr at) = absurd (let e = is.0 in let f = at.0 in omega (arith, lt, e, f))
 
-  longer : (i : ℕ) (e : FoundPair) (d : ℕ) → LeadsBy i e Found d → LeadsBy i e MoreFound d
-  longer i e d l = record {
+  leads_longer : (i : ℕ) (e : FoundPair) (d : ℕ) → LeadsBy i e Found d → LeadsBy i e MoreFound d
+  leads_longer i e d l = record {
     index = l.index;
     next = l.next;
     is = get_left Found (found_pair old new Entry ∷ []) l.index l.next l.is;
@@ -332,12 +332,12 @@ module _ (has : ℕ → Bool) (samples : List ℕ) (in_order : AreInOrder has sa
     where
       by : IsOldDead e.pair ⊎ LeadsBy i e Found d → IsOldDead e.pair ⊎ LeadsBy i e MoreFound d
       by (inl dead) = inl dead
-      by (inr l) = inr (longer i e d l)
+      by (inr l) = inr (leads_longer i e d l)
   more_searched i j e d at_j (inr g) is =
-      inr (reaches MoreFound (length Found) (found_pair old new Entry) at_last refl (inr (inr (refl, omega arith))) i j
+      inr (reaches_pair MoreFound (length Found) (found_pair old new Entry) at_last refl (inr (inr (refl, omega arith))) i j
       d e g.0 g.1 is at_j)
 
-  pub found_more : IsSearch has samples old new More n (k + 1) m
+  pub found_more : IsPairSearch has samples old new More n (k + 1) m
   found_more = record {
     old_within = λ i q is. old_lt i q (push_cases pairs Entry i q is);
     new_within = λ i q is. new_lt i q (push_cases pairs Entry i q is);
@@ -357,7 +357,7 @@ module _ (has : ℕ → Bool) (samples : List ℕ) (in_order : AreInOrder has sa
           → (slice_get Found i ≡ Some e) ⊎ ((i ≡ length Found) × (found_pair old new Entry ≡ e))
           → e.pair.old_ended ≡ true → e.pair.new_ended ≡ true
       ends i e lt (inl is) = s.agree i e lt is
-      ends i e lt (inr g) = absurd (let e = g.0 in let le = s.met in omega (arith, lt, e, le, count))
+      ends i e lt (inr g) = absurd (let e = g.0 in let le = s.met in omega (arith, lt, e, le, found_count))
 
       old_lt : (i : ℕ) (q : Pair) → (slice_get pairs i ≡ Some q) ⊎ ((i ≡ length pairs) × (Entry ≡ q))
           → q.old < length old.states
@@ -385,32 +385,32 @@ module _ (has : ℕ → Bool) (samples : List ℕ) (in_order : AreInOrder has sa
           → (slice_get Found i ≡ Some e) ⊎ ((i ≡ length Found) × (found_pair old new Entry ≡ e))
           → IsOldDead e.pair ⊎ LeadsBy i e MoreFound d
       by i j e d lt at_j (inl is) = more_searched i j e d at_j (last_sample i j lt) is
-      by i j e d (inl lt) at_j (inr g) = absurd (let e = g.0 in omega (arith, lt, e, here, count))
-      by i j e d (inr at) at_j (inr g) = absurd (let e = g.0 in let f = at.0 in omega (arith, e, f, here, count))
+      by i j e d (inl lt) at_j (inr g) = absurd (let e = g.0 in omega (arith, lt, e, is_here, found_count))
+      by i j e d (inr at) at_j (inr g) = absurd (let e = g.0 in let f = at.0 in omega (arith, e, f, is_here, found_count))
 
 -- either way
-pub search_next : (has : ℕ → Bool) (samples : List ℕ) → AreInOrder has samples → (old new : StateSets)
-    (pairs more : List Pair) (n k m : ℕ) → IsSearch has samples old new pairs n k m → (p : Pair)
+pub search_next : (has : ℕ → Bool) (samples : List ℕ) → AreInLineOrder has samples → (old new : StateSets)
+    (pairs more : List Pair) (n k m : ℕ) → IsPairSearch has samples old new pairs n k m → (p : Pair)
     → slice_get pairs n ≡ Some p → (c : ℕ) → slice_get samples k ≡ Some c → (a b : ℕ) → IsNextState old c p.old a
     → IsNextState new c p.new b → IsPairAdded pairs (record { old = a; new = b; parent = n; symbol = c }) more
-    → IsSearch has samples old new more n (k + 1) m
+    → IsPairSearch has samples old new more n (k + 1) m
 search_next has samples in_order old new pairs more n k m s p at_n c at_k a b old_next new_next added = by added
   where
     symbol : has c ≡ true
-    symbol = in_order.symbols c (contained samples k c at_k)
+    symbol = in_order.symbols c (contained_at samples k c at_k)
 
     by : ((more ≡ pairs) × HasPair pairs a b)
         ⊎ (more ≡ pairs ++ record { old = a; new = b; parent = n; symbol = c } ∷ [])
-        → IsSearch has samples old new more n (k + 1) m
-    by (inl h) = subst (λ v. IsSearch has samples old new v n (k + 1) m) (sym h.0)
+        → IsPairSearch has samples old new more n (k + 1) m
+    by (inl h) = subst (λ v. IsPairSearch has samples old new v n (k + 1) m) (sym h.0)
         (found_there has samples in_order old new pairs n k m s p at_n c at_k symbol a b old_next new_next h.1)
-    by (inr is) = subst (λ v. IsSearch has samples old new v n (k + 1) m) (sym is)
+    by (inr is) = subst (λ v. IsPairSearch has samples old new v n (k + 1) m) (sym is)
         (found_more has samples in_order old new pairs n k m s p at_n c at_k symbol a b old_next new_next)
 
 -- from one pair to the next
 module _ (has : ℕ → Bool) (samples : List ℕ) (old new : StateSets) (pairs : List Pair) (n m : ℕ) where
-  pub search_turn : (k : ℕ) → length samples ≤ k → IsSearch has samples old new pairs n k m
-      → IsSearch has samples old new pairs (n + 1) 0 m
+  pub search_turn : (k : ℕ) → length samples ≤ k → IsPairSearch has samples old new pairs n k m
+      → IsPairSearch has samples old new pairs (n + 1) 0 m
   search_turn k le s = record {
     old_within = s.old_within;
     new_within = s.new_within;
@@ -437,8 +437,8 @@ module _ (has : ℕ → Bool) (samples : List ℕ) (old new : StateSets) (pairs 
               let w = slice_get_within samples j c at_j in inr (omega (arith, lt, more), omega (arith, w, le))
       before i j c at_j (inr h) = absurd (let lt = h.1 in omega (arith, lt))
 
-  pub search_skip : IsSearch has samples old new pairs n 0 m → (p : Pair) → slice_get pairs n ≡ Some p
-      → (state_at old p.old).stacks ≡ [] → IsSearch has samples old new pairs (n + 1) 0 m
+  pub search_skip : IsPairSearch has samples old new pairs n 0 m → (p : Pair) → slice_get pairs n ≡ Some p
+      → (state_at old p.old).stacks ≡ [] → IsPairSearch has samples old new pairs (n + 1) 0 m
   search_skip s p at_n dead = record {
     old_within = s.old_within;
     new_within = s.new_within;
@@ -471,9 +471,9 @@ module _ (has : ℕ → Bool) (samples : List ℕ) (old new : StateSets) (pairs 
 
 -- the ends of one more pair agree
 pub search_agrees : (has : ℕ → Bool) (samples : List ℕ) (old new : StateSets) (pairs : List Pair) (n : ℕ)
-    → IsSearch has samples old new pairs n 0 n → (p : Pair) → slice_get pairs n ≡ Some p
+    → IsPairSearch has samples old new pairs n 0 n → (p : Pair) → slice_get pairs n ≡ Some p
     → ((state_at old p.old).ended ≡ true → (state_at new p.new).ended ≡ true)
-    → IsSearch has samples old new pairs n 0 (n + 1)
+    → IsPairSearch has samples old new pairs n 0 (n + 1)
 search_agrees has samples old new pairs n s p at_n agree = record {
   old_within = s.old_within;
   new_within = s.new_within;
@@ -497,7 +497,7 @@ search_agrees has samples old new pairs n s p at_n agree = record {
 
 -- the states of a pair by their numbers
 module _ (has : ℕ → Bool) (samples : List ℕ) (old new : StateSets) (pairs : List Pair) (n k m : ℕ)
-    (s : IsSearch has samples old new pairs n k m) (i : ℕ) (p : Pair) (at_i : slice_get pairs i ≡ Some p) where
+    (s : IsPairSearch has samples old new pairs n k m) (i : ℕ) (p : Pair) (at_i : slice_get pairs i ≡ Some p) where
   state_there : (xs : List StateSet) (j : ℕ) → j < length xs
       → slice_get xs j ≡ Some (get_or xs j (record { stacks = []; ended = false }))
   state_there [] j lt = absurd (omega (arith, lt))

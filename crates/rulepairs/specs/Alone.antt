@@ -12,7 +12,7 @@ use Rattle.rulepairs.specs.declared.alone.Alone.TheVariants.{First, Never, Never
 use Rattle.rulepairs.specs.declared.search.Outcome.{Outcome}
 use Rattle.rulepairs.specs.declared.search.Search.{Search}
 use Rattle.rulepairs.specs.FirstLines.{HasNoLine, HasNoLineUpTo, IsFirstLine}
-use Rattle.rulepairs.specs.Search.{IsOutcome, Searches}
+use Rattle.rulepairs.specs.Search.{IsSearchOutcome, Searches}
 use Rattle.rulepairs.specs.StatePairs.{AreSamples}
 
 -- a flat grammar derives exactly the lines that a rule derives, whatever their length
@@ -45,4 +45,4 @@ pub record IsSearchOf (old new : Flat) (has : ℕ → Bool) (samples : List ℕ)
   pub olds_are : AreOfGrammar old search.olds
   pub news_are : AreOfGrammar new search.news
   pub each : AreSamples (grammar_of search.olds) (grammar_of search.news) has samples
-  pub ended : IsOutcome outcome has samples search
+  pub ended : IsSearchOutcome outcome has samples search

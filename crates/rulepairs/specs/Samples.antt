@@ -6,7 +6,7 @@ use Rattle.letterclasses.specs.ClassBounds.{AreNodesSplit}
 use Rattle.rulepairs.specs.FirstLines.{sort_key}
 
 -- the samples are symbols, and come in the order of lines
-pub record AreInOrder (has : ℕ → Bool) (samples : List ℕ) : Type 0 where
+pub record AreInLineOrder (has : ℕ → Bool) (samples : List ℕ) : Type 0 where
   pub symbols : (c : ℕ) → Contains samples c → has c ≡ true
   pub order : (i j c d : ℕ) → i < j → slice_get samples i ≡ Some c → slice_get samples j ≡ Some d
       → sort_key c < sort_key d

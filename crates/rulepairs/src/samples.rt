@@ -2,7 +2,7 @@
 ghost use Rattle.std.specs.Prelude.{◌≡◌, ◌<◌, ◌^◌, IfOk, map};
 ghost use Rattle.letters.specs.Letters.{has};
 ghost use Rattle.rulepairs.specs.FirstLines.{sort_key};
-ghost use Rattle.rulepairs.specs.Samples.{AreCommonBounds, AreInOrder, AreKeysOf, IsKeyAdded, symbol_of};
+ghost use Rattle.rulepairs.specs.Samples.{AreCommonBounds, AreInLineOrder, AreKeysOf, IsKeyAdded, symbol_of};
 ghost use Rattle.rulepairs.specs.StatePairs.{AreSamples};
 
 use flatgrammar::Flat;
@@ -94,7 +94,7 @@ pub(crate) fn common_samples(
     new: &Flat,
 ) -> Result<Vec<u32>, Memory>
     ensures each { IfOk result (λ samples. AreSamples old.now new.now (has alphabet) samples.items) }
-    ensures order { IfOk result (λ samples. AreInOrder (has alphabet) samples.items) }
+    ensures order { IfOk result (λ samples. AreInLineOrder (has alphabet) samples.items) }
 {
     let bounds = common_bounds(alloc, old, new)?;
     let mut keys = keys_of(alloc, alphabet, &bounds)?;

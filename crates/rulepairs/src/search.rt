@@ -1,7 +1,7 @@
 //! A breadth-first search of pairs of states, for the first line that the old grammar alone derives.
 ghost use Rattle.std.specs.Prelude.{◌≡◌, ◌+◌, ℕ, Bool, false, List, IsTrue, IfOk, slice_get, Some};
-ghost use Rattle.rulepairs.specs.Samples.{AreInOrder};
-ghost use Rattle.rulepairs.specs.Search.{AreSameGrammars, IsExpanded, IsOutcome, Searches};
+ghost use Rattle.rulepairs.specs.Samples.{AreInLineOrder};
+ghost use Rattle.rulepairs.specs.Search.{AreSameGrammars, IsExpanded, IsSearchOutcome, Searches};
 
 use crate::pairs::{Pair, Pairs, add_pair};
 use lazydfa::States;
@@ -32,7 +32,7 @@ pub(crate) enum Outcome {
 fn lead(search: &mut Search, at: usize, symbol: u32) -> Result<bool, Memory>
     ensures same { IfOk result (λ done. AreSameGrammars search.old search.new) }
     ensures led { IfOk result (λ done. (has : ℕ → Bool) (samples : List ℕ) (k m : ℕ) → Searches has samples search.old
-        at k m → IsTrue done → AreInOrder has samples → slice_get samples k ≡ Some symbol → Searches has samples
+        at k m → IsTrue done → AreInLineOrder has samples → slice_get samples k ≡ Some symbol → Searches has samples
         search.new at (k + 1) m) }
     ensures over { IfOk result (λ done. (has : ℕ → Bool) (samples : List ℕ) (k m : ℕ) → Searches has samples search.old
         at k m → (done ≡ false) → Searches has samples search.new at k m) }
@@ -61,7 +61,7 @@ fn lead(search: &mut Search, at: usize, symbol: u32) -> Result<bool, Memory>
 // allocation fails.
 fn expand(search: &mut Search, at: usize, samples: &[u32]) -> Result<bool, Memory>
     ensures same { IfOk result (λ done. AreSameGrammars search.old search.new) }
-    ensures expanded { IfOk result (λ done. (has : ℕ → Bool) (m : ℕ) → AreInOrder has samples.now → Searches has
+    ensures expanded { IfOk result (λ done. (has : ℕ → Bool) (m : ℕ) → AreInLineOrder has samples.now → Searches has
         samples.now search.old at 0 m → IsExpanded done has samples.now search.new at m) }
 {
     for symbol in samples {
@@ -79,8 +79,8 @@ pub(crate) fn search_all(
     most: usize,
 ) -> Result<Outcome, Memory>
     ensures same { IfOk result (λ outcome. AreSameGrammars search.old search.new) }
-    ensures outcome { IfOk result (λ outcome. (has : ℕ → Bool) → AreInOrder has samples.now → Searches has samples.now
-        search.old 0 0 0 → IsOutcome outcome has samples.now search.new) }
+    ensures outcome { IfOk result (λ outcome. (has : ℕ → Bool) → AreInLineOrder has samples.now → Searches has samples.now
+        search.old 0 0 0 → IsSearchOutcome outcome has samples.now search.new) }
 {
     for at in 0..most {
         let Some(found) = search.pairs.items.get(at) else {

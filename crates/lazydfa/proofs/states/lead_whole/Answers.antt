@@ -3,7 +3,7 @@ use Rattle.std.specs.Prelude.{Contains, IfSome, Some, [], slice_get}
 use Rattle.std.proofs.lemmas.Option.{slice_get-get_or}
 use Rattle.lazydfa.specs.Conts.{IsTransition}
 use Rattle.lazydfa.proofs.AreCachedLemmas.{cached_conts, grown_cached}
-use Rattle.lazydfa.proofs.StateSetsLemmas.{led_whole, reordered}
+use Rattle.lazydfa.proofs.StateSetsLemmas.{led_whole, tops_reordered}
 use Rattle.lazydfa.proofs.states.lead_whole.Goals as goal
 
 pub transition-requires-clause-within : goal.transition-requires-clause-within
@@ -20,7 +20,7 @@ returns-in_default-clause-cached c =
 
 pub returns-clause-cached : goal.returns-clause-cached
 returns-clause-cached c =
-    let is = reordered c.args.tables.now c.args.value c.args.cache.now.conts.items.items c.as_slice-tops.result.now
+    let is = tops_reordered c.args.tables.now c.args.value c.args.cache.now.conts.items.items c.as_slice-tops.result.now
     c.transition.new.conts.items.items c.in-Some.front.tops.items c.in_order.result.tops.items c.in-Some.front.ended
     c.in_order.ensures.tops
     (subst (λ v. IfSome v (λ front. IsTransition c.args.tables.now c.args.value c.args.cache.now.conts.items.items
@@ -50,7 +50,7 @@ returns-clause-is c =
     (subst (λ v. IsTransition c.args.tables.now c.args.value c.args.cache.now.conts.items.items
     c.as_slice-tops.result.now c.transition.new.conts.items.items c.in_order.result.tops.items v)
     (sym c.in_order.ensures.ended)
-    (reordered c.args.tables.now c.args.value c.args.cache.now.conts.items.items c.as_slice-tops.result.now
+    (tops_reordered c.args.tables.now c.args.value c.args.cache.now.conts.items.items c.as_slice-tops.result.now
     c.transition.new.conts.items.items c.in-Some.front.tops.items c.in_order.result.tops.items c.in-Some.front.ended
     c.in_order.ensures.tops
     (subst (λ v. IfSome v (λ front. IsTransition c.args.tables.now c.args.value c.args.cache.now.conts.items.items

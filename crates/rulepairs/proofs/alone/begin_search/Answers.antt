@@ -1,7 +1,7 @@
 use Rattle.std.proofs.Common.{subst}
 use Rattle.std.specs.Prelude.{IfSome}
 use Rattle.lazydfa.specs.StateSets.{AreStatesOf, IsStartState}
-use Rattle.rulepairs.proofs.AloneLemmas.{begun_of, first_added, search_begun}
+use Rattle.rulepairs.proofs.OldAloneLemmas.{begun_of, first_added, search_begun}
 use Rattle.rulepairs.proofs.alone.begin_search.Goals as goal
 
 pub returns : goal.returns

@@ -1,14 +1,14 @@
 use Rattle.std.proofs.Common.{subst, arith}
 use Rattle.std.specs.Prelude.{IfSome}
 use Rattle.rulepairs.specs.FoundPairs.{IsWordOf}
-use Rattle.rulepairs.specs.Search.{found_pairs, IsOutcome}
+use Rattle.rulepairs.specs.Search.{found_pairs, IsSearchOutcome}
 use Rattle.lazydfa.specs.StateSets.{StateSets}
-use Rattle.rulepairs.proofs.AloneLemmas.{first_is, never_is, up_to_is}
+use Rattle.rulepairs.proofs.OldAloneLemmas.{first_is, never_is, up_to_is}
 use Rattle.rulepairs.proofs.alone.conclude.Goals as goal
 
 pub returns-in-Some : goal.returns-in-Some
 returns-in-Some c = λ old new has samples old_rules new_rules old_rule new_rule s old_derives new_derives.
-    let ended = subst (λ v. IsOutcome v has samples c.args.search.now) c.in-First.is s.ended in
+    let ended = subst (λ v. IsSearchOutcome v has samples c.args.search.now) c.in-First.is s.ended in
     let word = subst (λ v. IfSome v (λ word. (olds news : StateSets) → IsWordOf
     (found_pairs olds news c.deref.result.now) c.in-First.n word.items)) c.in-Some.is c.in_ok-word-in-First.ensures in
     first_is old new has samples c.args.search.now old_rules new_rules old_rule new_rule s.olds_are s.news_are s.each
@@ -18,13 +18,13 @@ returns-in-Some c = λ old new has samples old_rules new_rules old_rule new_rule
 
 pub returns-in-Nothing : goal.returns-in-Nothing
 returns-in-Nothing c = λ old new has samples old_rules new_rules old_rule new_rule s old_derives new_derives.
-    let ended = subst (λ v. IsOutcome v has samples c.args.search.now) c.in-Nothing.is s.ended in
+    let ended = subst (λ v. IsSearchOutcome v has samples c.args.search.now) c.in-Nothing.is s.ended in
     never_is old new has samples c.args.search.now old_rules new_rules old_rule new_rule s.olds_are s.news_are s.each
     old_derives new_derives ended.0 ended.1 ended.2
 
 pub returns-in-Some-checked_sub : goal.returns-in-Some-checked_sub
 returns-in-Some-checked_sub c = λ old new has samples old_rules new_rules old_rule new_rule s old_derives new_derives.
-    let ended = subst (λ v. IsOutcome v has samples c.args.search.now) c.in-Over.is s.ended in
+    let ended = subst (λ v. IsSearchOutcome v has samples c.args.search.now) c.in-Over.is s.ended in
     let word = subst (λ v. IfSome v (λ word. (olds news : StateSets) → IsWordOf (found_pairs olds news
     c.deref-in-Over.result.now) c.in-Over.n word.items)) c.in-Some-2.is c.in_ok-word-in-Over.ensures in
     up_to_is old new has samples c.args.search.now old_rules new_rules old_rule new_rule s.olds_are s.news_are s.each

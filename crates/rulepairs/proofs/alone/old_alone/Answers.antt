@@ -4,9 +4,9 @@ use Rattle.std.specs.Prelude.{IfSome}
 use Rattle.letters.specs.Letters.{has}
 use Rattle.lazydfa.specs.StateSets.{grammar_of}
 use Rattle.rulepairs.specs.Alone.{IsBegun, IsSearchOf}
-use Rattle.rulepairs.specs.Samples.{AreInOrder}
+use Rattle.rulepairs.specs.Samples.{AreInLineOrder}
 use Rattle.rulepairs.specs.StatePairs.{AreSamples}
-use Rattle.rulepairs.proofs.AloneLemmas.{still_of}
+use Rattle.rulepairs.proofs.OldAloneLemmas.{still_of}
 use Rattle.rulepairs.proofs.alone.old_alone.Goals as goal
 
 ended : (c : goal.After-drop-samples-2) → IsSearchOf c.args.old.now c.args.new.now (has c.args.alphabet)
@@ -26,7 +26,7 @@ ended c =
           (subst (λ v. AreSamples c.args.old.now c.args.new.now (has c.args.alphabet) v) (sym c.deref.ensures.value)
           c.in_ok-samples.ensures.each));
       ended = c.in_ok-outcome.ensures.outcome (has c.args.alphabet)
-          (subst (λ v. AreInOrder (has c.args.alphabet) v) (sym c.deref.ensures.value) c.in_ok-samples.ensures.order)
+          (subst (λ v. AreInLineOrder (has c.args.alphabet) v) (sym c.deref.ensures.value) c.in_ok-samples.ensures.order)
           (begun.starts (has c.args.alphabet) c.deref.result.now);
     }
 

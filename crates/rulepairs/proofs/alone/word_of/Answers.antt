@@ -1,7 +1,7 @@
 use Rattle.std.proofs.Common.{◌∙◌, ap, sym, arith}
 use Rattle.std.specs.Prelude.{Some}
 use Rattle.std.proofs.lemmas.Option.{slice_get-get_or}
-use Rattle.rulepairs.proofs.AloneLemmas.{leads_all, leads_more}
+use Rattle.rulepairs.proofs.OldAloneLemmas.{leads_all, leads_more}
 use Rattle.rulepairs.proofs.alone.word_of.Goals as goal
 
 pub returns-then-at-eq0 : goal.returns-then-at-eq0

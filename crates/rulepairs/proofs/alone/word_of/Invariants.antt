@@ -1,4 +1,4 @@
-use Rattle.rulepairs.proofs.AloneLemmas.{LeadsTo}
+use Rattle.rulepairs.proofs.OldAloneLemmas.{LeadsTo}
 use Rattle.rulepairs.proofs.alone.word_of.Given as goal
 
 abbrev pub invariant-loop : goal.invariant-loop

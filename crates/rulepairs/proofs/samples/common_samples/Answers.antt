@@ -1,13 +1,13 @@
 use Rattle.std.proofs.Common.{◌≡◌, List, ℕ, map, subst, sym}
 use Rattle.std.proofs.lemmas.Result.{IfOk-weaker}
 use Rattle.letters.specs.Letters.{has}
-use Rattle.rulepairs.specs.Samples.{AreCommonBounds, AreInOrder, symbol_of}
+use Rattle.rulepairs.specs.Samples.{AreCommonBounds, AreInLineOrder, symbol_of}
 use Rattle.rulepairs.specs.StatePairs.{AreSamples}
 use Rattle.rulepairs.proofs.SamplesLemmas.{samples_are}
 use Rattle.rulepairs.proofs.samples.common_samples.Goals as goal
 
 both : (c : goal.After-drop-bounds-2) (samples : List ℕ) → samples ≡ map symbol_of c.deref-2.result.now
-    → AreSamples c.args.old.now c.args.new.now (has c.args.alphabet) samples × AreInOrder (has c.args.alphabet) samples
+    → AreSamples c.args.old.now c.args.new.now (has c.args.alphabet) samples × AreInLineOrder (has c.args.alphabet) samples
 both c samples is =
     samples_are c.args.alphabet c.args.old.now c.args.new.now c.deref.result.now c.in_ok-keys.keys.items
     c.sort_unstable.new.self.items c.dedup.new.self.items samples

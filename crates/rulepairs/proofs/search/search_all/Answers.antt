@@ -2,7 +2,7 @@ use Rattle.std.proofs.Common.{◌≡◌, ◌+◌, true, subst, sym, ◌∙◌, a
 use Rattle.std.specs.Prelude.{Some, slice_get}
 use Rattle.std.proofs.lemmas.Option.{slice_get-get_or}
 use Rattle.flatgrammar.proofs.CallOfLemmas.{get_map}
-use Rattle.rulepairs.specs.Search.{AreSameGrammars, found_pair, IsExpanded, IsSearch, Searches, state_at}
+use Rattle.rulepairs.specs.Search.{AreSameGrammars, found_pair, IsExpanded, IsPairSearch, Searches, state_at}
 use Rattle.rulepairs.proofs.SearchLemmas.{new_there, old_there, search_agrees, search_skip}
 use Rattle.rulepairs.proofs.search.search_all.Goals as goal
 use Rattle.rulepairs.proofs.search.search_all.Goals.{else-has_ended-via-then-has_ended+else-not-has_ended}
@@ -109,6 +109,6 @@ pub returns-clause-outcome : goal.returns-clause-outcome
 returns-clause-outcome c = λ has in_order first.
     let here : c.loop-at.at ≡ c.args.most = (let over = c.loop-at-test.false in let most = c.loop-at.auto.at-end in
     omega (arith, over, most)) in
-    let s = subst (λ v. IsSearch has c.args.samples.now c.loop-at.search.olds c.loop-at.search.news
+    let s = subst (λ v. IsPairSearch has c.args.samples.now c.loop-at.search.olds c.loop-at.search.news
     c.loop-at.search.pairs.items.items v 0 v) here (c.loop-at.invariant.1 has in_order first) in
     (0, c.args.most, omega arith, s)

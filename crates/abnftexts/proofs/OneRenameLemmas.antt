@@ -5,7 +5,7 @@ use Rattle.lexer.specs.TokenLists.{Tok}
 use Rattle.abnfread.specs.declared.kind.AbnfKind.{AbnfKind}
 use Rattle.abnfblocks.specs.TextLines.{NumberedLine}
 use Rattle.abnftexts.specs.GivenRules.{RuleGiven}
-use Rattle.abnftexts.specs.NamedRules.{AreLinesNamed, AreNamed, ArePlacesNamed, AreRulesNamed, IsLineNamed}
+use Rattle.abnftexts.specs.NamedRules.{AreLinesNamed, AreRenamed, ArePlacesNamed, AreRulesNamed, IsLineNamed}
 use Rattle.abnftexts.specs.NamedRules.{IsPlaceNamed, IsRuleNamed, SpellsNamed, bare_line, comment_of, is_named}
 use Rattle.abnftexts.specs.NamedRules.{next_line, no_lines, no_more_places, no_more_rules, one_place, one_rule}
 use Rattle.abnftexts.specs.NamedRules.{places_end, read_again}
@@ -81,7 +81,7 @@ module _ (one : OneReading) where
   rules-same no_more_rules no_more_rules = refl
   rules-same (one_rule x h) (one_rule y k) = ap₂ (λ r rs. r ∷ rs) (rule-same x y) (rules-same h k)
 
-  pub naming-same : {given a b : RulesGathered} → AreNamed given a → AreNamed given b → a ≡ b
+  pub naming-same : {given a b : RulesGathered} → AreRenamed given a → AreRenamed given b → a ≡ b
   naming-same {given} {a} {b} x y =
       let places : a.places ≡ b.places = places-same x.places y.places in
       let here : AreRulesNamed b.places given.rules a.rules =

@@ -16,13 +16,13 @@ use Rattle.letterclasses.specs.Stacks.{AreUncounted, IsFront, TellsLast}
 use Rattle.lazydfa.specs.Conts.{last_of}
 use Rattle.lazydfa.specs.RunVerdicts.{IsOne}
 use Rattle.lazydfa.specs.StateSets.{AreMoreStates, AreStatesOf, grammar_of, IsStartState, last_in, StateSets}
-use Rattle.lazydfa.proofs.StateSetsLemmas.{got}
+use Rattle.lazydfa.proofs.StateSetsLemmas.{got_at}
 use Rattle.rulepairs.specs.Alone.{AreOfGrammar, DerivesAsRule}
 use Rattle.rulepairs.specs.declared.pairs.Pair.{Pair}
 use Rattle.rulepairs.specs.declared.search.Search.{Search}
 use Rattle.rulepairs.specs.FirstLines.{HasNoLine, HasNoLineUpTo, IsFirstLine, IsOfOldAlone}
 use Rattle.rulepairs.specs.FoundPairs.{AreSearched, EndWithNew, FoundPair, IsOldDead, IsWordOf, next, start}
-use Rattle.rulepairs.specs.Search.{found_in, found_pair, found_pairs, IsOldAloneAt, IsPairAdded, IsSearch, Searches}
+use Rattle.rulepairs.specs.Search.{found_in, found_pair, found_pairs, IsOldAloneAt, IsPairAdded, IsPairSearch, Searches}
 use Rattle.rulepairs.specs.StatePairs.{AcceptsRule, AreSamples, IsStartPair}
 use Rattle.rulepairs.proofs.FoundPairsLemmas.{comes_first, none_after, none_up_to, one_word}
 use Rattle.rulepairs.proofs.SearchLemmas.{state_is}
@@ -93,8 +93,8 @@ module _ (olds news : StateSets) (a b : ℕ) (old_start : IsStartState olds a) (
   only_found (suc i) e is = absurd (cc is)
 
   pub search_begun : (has : ℕ → Bool) (samples : List ℕ) (pairs : List Pair) → pairs ≡ Opening ∷ []
-      → IsSearch has samples olds news pairs 0 0 0
-  search_begun has samples pairs one = subst (λ v. IsSearch has samples olds news v 0 0 0) (sym one) (record {
+      → IsPairSearch has samples olds news pairs 0 0 0
+  search_begun has samples pairs one = subst (λ v. IsPairSearch has samples olds news v 0 0 0) (sym one) (record {
     old_within = λ i p is. subst (λ v. v.old < length olds.states) (only_first i p is).1
         (slice_get_within olds.states a old_start.state old_start.is);
     new_within = λ i p is. subst (λ v. v.new < length news.states) (only_first i p is).1
@@ -117,10 +117,10 @@ module _ (olds news : StateSets) (a b : ℕ) (old_start : IsStartState olds a) (
       none i j (inr h) = let lt = h.1 in omega (arith, lt)
 
 -- what stacks accept, the rule derives
-accepts : (has : ℕ → Bool) (rules : List Rule) (rule : ℕ) (flat : Flat) (sets : StateSets) → AreOfGrammar flat sets
+accepts_lines : (has : ℕ → Bool) (rules : List Rule) (rule : ℕ) (flat : Flat) (sets : StateSets) → AreOfGrammar flat sets
     → DerivesAsRule has rules rule flat → (most : ℕ)
     → AcceptsRule has rules rule (grammar_of sets) (last_in sets) most
-accepts has rules rule flat sets a derives most = record {
+accepts_lines has rules rule flat sets a derives most = record {
   body = a.one.0;
   whole = a.one.1;
   tail_places = a.tail_places;
@@ -143,18 +143,18 @@ module _ (old new : Flat) (has : ℕ → Bool) (samples : List ℕ) (search : Se
         (last_in search.news) (found_in search) IsOldDead samples n
 
     searched_to : (n k m : ℕ) → Searches has samples search n k m → Searched n
-    searched_to n k m s i e lt is c h = s.searched i h.0 e c (inl lt) is (got samples c h)
+    searched_to n k m s i e lt is c h = s.searched i h.0 e c (inl lt) is (got_at samples c h)
 
     agree_to : (n k m : ℕ) → n ≤ m → Searches has samples search n k m → EndWithNew (found_in search) n
     agree_to n k m le s i e lt is = s.agree i e (omega (arith, lt, le)) is
 
     olds_accept : (most : ℕ)
         → AcceptsRule has old_rules old_rule (grammar_of search.olds) (last_in search.olds) most
-    olds_accept most = accepts has old_rules old_rule old search.olds olds_are old_derives most
+    olds_accept most = accepts_lines has old_rules old_rule old search.olds olds_are old_derives most
 
     news_accept : (most : ℕ)
         → AcceptsRule has new_rules new_rule (grammar_of search.news) (last_in search.news) most
-    news_accept most = accepts has new_rules new_rule new search.news news_are new_derives most
+    news_accept most = accepts_lines has new_rules new_rule new search.news news_are new_derives most
 
     pub first_is : (n : ℕ) → Searches has samples search n 0 n → IsOldAloneAt (found_in search) n → (w : List ℕ)
         → IsWordOf (found_in search) n w → IsFirstLine Lines w
