@@ -21,7 +21,7 @@ end
 
 complete -c abnfi -s m -l mode -x -a 'run check print' -d 'Choose what to do with the grammar'
 complete -c abnfi -s s -l rule -x -a '(__abnfi_rules)' -d 'Judge by this rule [default: the first rule]'
-complete -c abnfi -s l -l limit -x -d 'Take lines of at most N bytes, from 1 to 16777216'
+complete -c abnfi -s l -l limit -x -d 'Take lines of at most N bytes, or Nk, NM, from 1 to 16777216'
 complete -c abnfi -s u -l letters -x -a 'bytes utf8' -d 'Take bytes or code points of UTF-8 as letters'
 complete -c abnfi -s z -l null-data -d 'Cut the input at NUL bytes in place of line feeds'
 complete -c abnfi -s k -l keep-ends -d 'Judge each line with its line feed, or its NUL byte'

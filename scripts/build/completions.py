@@ -55,7 +55,7 @@ PROGRAMS = (
     Program("pegi", (
         MODE,
         Option("s", "rule", "RULE", (), "Start from this rule [default: the first rule]"),
-        Option("l", "limit", "N", (), "Look at no more than N bytes in a unit, from 1 to 16777216"),
+        Option("l", "limit", "N", (), "Look at no more than N bytes, or Nk, NM, in a unit, from 1 to 16777216"),
         Option("1", "whole", "", (), "Take the input as one unit, up to its end"),
         Option("r", "raw", "", (), "Print actions verbatim"),
         EXPLAIN,
@@ -65,7 +65,7 @@ PROGRAMS = (
     Program("abnfi", (
         MODE,
         Option("s", "rule", "RULE", (), "Judge by this rule [default: the first rule]"),
-        Option("l", "limit", "N", (), "Take lines of at most N bytes, from 1 to 16777216"),
+        Option("l", "limit", "N", (), "Take lines of at most N bytes, or Nk, NM, from 1 to 16777216"),
         Option("u", "letters", "MODE", ("bytes", "utf8"), "Take bytes or code points of UTF-8 as letters"),
         Option("z", "null-data", "", (), "Cut the input at NUL bytes in place of line feeds"),
         Option("k", "keep-ends", "", (), "Judge each line with its line feed, or its NUL byte"),

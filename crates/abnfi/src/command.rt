@@ -34,7 +34,7 @@ Grammar:
   -s, --rule <RULE>  Judge by this rule [default: the first rule]
 
 Input:
-  -l, --limit <N>       Take lines of at most N bytes, from 1 to 16777216 [default: 65536]
+  -l, --limit <N>       Take lines of at most N bytes, or Nk, NM, from 1 to 16777216 [default: 65536]
   -u, --letters <MODE>  Take bytes or code points of UTF-8 as letters [default: bytes] [possible values: bytes, utf8]
   -z, --null-data       Cut the input at NUL bytes in place of line feeds
   -k, --keep-ends       Judge each line with its line feed, or its NUL byte

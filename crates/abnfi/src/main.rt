@@ -6,7 +6,7 @@ mod run;
 
 use crate::command::Abnfi;
 use crate::run::abnfi_main;
-use cli::{Program, open_source, start_program};
+use cli::{Program, end_without_memory, open_source, plain_words, start_program};
 use std::process::ExitCode;
 
 fn main(rt: HostRuntime) -> ExitCode {
@@ -15,15 +15,21 @@ fn main(rt: HostRuntime) -> ExitCode {
         rt.stdout(),
         rt.stderr(),
         |alloc| Abnfi::command(alloc),
-        |words, out, err| match open_source::<Abnfi, HostRuntime, _, _, _>(
-            &rt,
-            words,
-            rt.stdin(),
-            out,
-            err,
-        ) {
-            Ok(mut reader) => ExitCode::from(abnfi_main(&rt, words, &mut reader, out, err).code()),
-            Err(status) => ExitCode::from(status.code()),
+        |words, out, err| {
+            let Ok(words) = plain_words(rt.alloc(), words) else {
+                return end_without_memory(&rt);
+            };
+            let words = words.as_slice();
+            match open_source::<Abnfi, HostRuntime, _, _, _>(&rt, words, rt.stdin(), out, err) {
+                Ok(mut reader) => ExitCode::from(abnfi_main(
+                    &rt,
+                    words,
+                    &mut reader,
+                    out,
+                    err,
+                ).code()),
+                Err(status) => ExitCode::from(status.code()),
+            }
         },
     )
 }

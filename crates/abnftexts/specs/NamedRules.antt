@@ -26,7 +26,8 @@ inside_of slice = drop 1 (take (length slice - 1) slice)
 -- A token as it is written in the rule of that name: a name that is known, and is not its own, loses angle brackets.
 abbrev pub token_named : (List ℕ → Bool) → List ℕ → Tok AbnfKind → List ℕ
 token_named known own x =
-    if is_prose_kind (kind_of x) && (known (inside_of (slice_of x)) && not (same_name Fold own (inside_of (slice_of x))))
+    if is_prose_kind (kind_of x)
+    && (known (inside_of (slice_of x)) && not (same_name Fold own (inside_of (slice_of x))))
     then inside_of (slice_of x) else slice_of x
 
 -- the text from that position on, where these are its tokens there: what stands between tokens stays

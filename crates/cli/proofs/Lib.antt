@@ -5,3 +5,4 @@ pub mod AreWholeLemmas
 pub mod AskLemmas
 mod InputLemmas
 mod JobStatesLemmas
+mod SizesLemmas

@@ -3,3 +3,4 @@ pub mod Command
 pub mod Inputs
 pub mod Jobs
 pub mod Parsing
+pub mod LimitWords

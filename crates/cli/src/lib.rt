@@ -8,6 +8,7 @@ mod input;
 mod program;
 mod reading;
 mod settings;
+mod sizes;
 mod start;
 mod tool;
 
@@ -17,5 +18,6 @@ pub use input::{Input, Inputless, open_source};
 pub use program::{Program, parse};
 pub use reading::{Job, Unready, end_unready, read_job};
 pub use settings::{Asked, read_words, settings_of};
+pub use sizes::plain_words;
 pub use start::{end_without_memory, start_program, words_of};
 pub use tool::tool_main;

@@ -25,7 +25,7 @@ Grammar:
   -s, --rule <RULE>  Start from this rule [default: the first rule]
 
 Input and output:
-  -l, --limit <N>  Look at no more than N bytes in a unit, from 1 to 16777216 [default: 65536]
+  -l, --limit <N>  Look at no more than N bytes, or Nk, NM, in a unit, from 1 to 16777216 [default: 65536]
   -1, --whole      Take the input as one unit, up to its end
   -r, --raw        Print actions verbatim
   -x, --explain    Explain messages in more lines

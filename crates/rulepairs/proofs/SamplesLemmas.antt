@@ -109,7 +109,8 @@ module _ (bounds : List ℕ) (all_cuts : (c : ℕ) → Contains cuts c → Conta
 
   key_first : sort_key s ≤ sort_key c
   key_first =
-      by (beside_bound 32 (1, omega arith, refl)) (beside_bound 33 (2, omega arith, refl)) (beside_bound 127 (3, omega arith, refl))
+      by (beside_bound 32 (1, omega arith, refl)) (beside_bound 33 (2, omega arith, refl))
+      (beside_bound 127 (3, omega arith, refl))
     where
       by : (32 ≤ s) ⊎ (c < 32) → (33 ≤ s) ⊎ (c < 33) → (127 ≤ s) ⊎ (c < 127) → sort_key s ≤ sort_key c
       by (inl a) (inl b) (inl d) = let le = joined.0 in grind (arith, nat_tests)

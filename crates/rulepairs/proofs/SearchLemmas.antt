@@ -334,7 +334,8 @@ module _ (has : ℕ → Bool) (samples : List ℕ) (in_order : AreInLineOrder ha
       by (inl dead) = inl dead
       by (inr l) = inr (leads_longer i e d l)
   more_searched i j e d at_j (inr g) is =
-      inr (reaches_pair MoreFound (length Found) (found_pair old new Entry) at_last refl (inr (inr (refl, omega arith))) i j
+      inr (reaches_pair MoreFound (length Found) (found_pair old new Entry) at_last refl (inr (inr (refl, omega arith))) i
+      j
       d e g.0 g.1 is at_j)
 
   pub found_more : IsPairSearch has samples old new More n (k + 1) m
@@ -386,7 +387,8 @@ module _ (has : ℕ → Bool) (samples : List ℕ) (in_order : AreInLineOrder ha
           → IsOldDead e.pair ⊎ LeadsBy i e MoreFound d
       by i j e d lt at_j (inl is) = more_searched i j e d at_j (last_sample i j lt) is
       by i j e d (inl lt) at_j (inr g) = absurd (let e = g.0 in omega (arith, lt, e, is_here, found_count))
-      by i j e d (inr at) at_j (inr g) = absurd (let e = g.0 in let f = at.0 in omega (arith, e, f, is_here, found_count))
+      by i j e d (inr at) at_j (inr g) = absurd
+          (let e = g.0 in let f = at.0 in omega (arith, e, f, is_here, found_count))
 
 -- either way
 pub search_next : (has : ℕ → Bool) (samples : List ℕ) → AreInLineOrder has samples → (old new : StateSets)

@@ -42,7 +42,8 @@ IsPairAdded old pair new = ((new ≡ old) × HasPair old pair.old pair.new) ⊎ 
 
 -- A search by samples: all samples lead on from the first n pairs, but for the dead ones, and the first k samples from
 -- the next one. In the first m pairs the new whole is done where the old one is.
-pub record IsPairSearch (has : ℕ → Bool) (samples : List ℕ) (old new : StateSets) (pairs : List Pair) (n k m : ℕ) : Type 0
+pub record IsPairSearch (has : ℕ → Bool) (samples : List ℕ) (old new : StateSets) (pairs : List Pair) (n k m : ℕ)
+    : Type 0
   where
     pub old_within : (i : ℕ) (p : Pair) → slice_get pairs i ≡ Some p → p.old < length old.states
     pub new_within : (i : ℕ) (p : Pair) → slice_get pairs i ≡ Some p → p.new < length new.states
@@ -77,7 +78,8 @@ pub record IsOldAloneAt (found : List FoundPair) (n : ℕ) : Type 0 where
 -- how a search ended
 abbrev pub IsSearchOutcome : Outcome → (ℕ → Bool) → List ℕ → Search → Type 0
 IsSearchOutcome (First n) has samples search = Searches has samples search n 0 n × IsOldAloneAt (found_in search) n
-IsSearchOutcome Nothing has samples search = (n : ℕ) × (length (found_in search) ≤ n) × Searches has samples search n 0 n
+IsSearchOutcome Nothing has samples search =
+    (n : ℕ) × (length (found_in search) ≤ n) × Searches has samples search n 0 n
 IsSearchOutcome (Over n) has samples search = (k m : ℕ) × (n ≤ m) × Searches has samples search n k m
 
 -- the states of both are of the same grammars

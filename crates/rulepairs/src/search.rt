@@ -79,8 +79,8 @@ pub(crate) fn search_all(
     most: usize,
 ) -> Result<Outcome, Memory>
     ensures same { IfOk result (λ outcome. AreSameGrammars search.old search.new) }
-    ensures outcome { IfOk result (λ outcome. (has : ℕ → Bool) → AreInLineOrder has samples.now → Searches has samples.now
-        search.old 0 0 0 → IsSearchOutcome outcome has samples.now search.new) }
+    ensures outcome { IfOk result (λ outcome. (has : ℕ → Bool) → AreInLineOrder has samples.now → Searches has
+        samples.now search.old 0 0 0 → IsSearchOutcome outcome has samples.now search.new) }
 {
     for at in 0..most {
         let Some(found) = search.pairs.items.get(at) else {

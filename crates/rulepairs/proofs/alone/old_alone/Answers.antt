@@ -26,7 +26,8 @@ ended c =
           (subst (λ v. AreSamples c.args.old.now c.args.new.now (has c.args.alphabet) v) (sym c.deref.ensures.value)
           c.in_ok-samples.ensures.each));
       ended = c.in_ok-outcome.ensures.outcome (has c.args.alphabet)
-          (subst (λ v. AreInLineOrder (has c.args.alphabet) v) (sym c.deref.ensures.value) c.in_ok-samples.ensures.order)
+          (subst (λ v. AreInLineOrder (has c.args.alphabet) v) (sym c.deref.ensures.value)
+          c.in_ok-samples.ensures.order)
           (begun.starts (has c.args.alphabet) c.deref.result.now);
     }
 

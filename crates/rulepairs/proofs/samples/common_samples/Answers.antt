@@ -7,7 +7,8 @@ use Rattle.rulepairs.proofs.SamplesLemmas.{samples_are}
 use Rattle.rulepairs.proofs.samples.common_samples.Goals as goal
 
 both : (c : goal.After-drop-bounds-2) (samples : List ℕ) → samples ≡ map symbol_of c.deref-2.result.now
-    → AreSamples c.args.old.now c.args.new.now (has c.args.alphabet) samples × AreInLineOrder (has c.args.alphabet) samples
+    → AreSamples c.args.old.now c.args.new.now (has c.args.alphabet) samples
+    × AreInLineOrder (has c.args.alphabet) samples
 both c samples is =
     samples_are c.args.alphabet c.args.old.now c.args.new.now c.deref.result.now c.in_ok-keys.keys.items
     c.sort_unstable.new.self.items c.dedup.new.self.items samples

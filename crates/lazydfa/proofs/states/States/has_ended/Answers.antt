@@ -6,6 +6,7 @@ use Rattle.lazydfa.proofs.states.States.has_ended.Goals as goal
 
 pub returns : goal.returns
 returns c = λ got is.
-    let u = get_unmap (state_set_of c.self.inside.cache.conts.items.items) c.self.inside.cache.states.items c.args.state got
+    let u = get_unmap (state_set_of c.self.inside.cache.conts.items.items) c.self.inside.cache.states.items c.args.state
+    got
     (subst (λ v. slice_get v.states c.args.state ≡ Some got) (sym c.self.view_is) is) in
     c.has_ended.ensures u.from u.at ∙ ap (λ v. v.ended) u.is

@@ -8,7 +8,8 @@ use Rattle.lazydfa.proofs.states.States.is_dead.Goals as goal
 
 pub returns-in-Some : goal.returns-in-Some
 returns-in-Some c = λ got is.
-    let u = get_unmap (state_set_of c.self.inside.cache.conts.items.items) c.self.inside.cache.states.items c.args.state got
+    let u = get_unmap (state_set_of c.self.inside.cache.conts.items.items) c.self.inside.cache.states.items c.args.state
+    got
     (subst (λ v. slice_get v.states c.args.state ≡ Some got) (sym c.self.view_is) is) in
     let there : slice_get c.self.inside.cache.states.items c.args.state ≡ Some c.in-Some.got.now =
     subst (λ v. slice_get v c.args.state ≡ Some c.in-Some.got.now) c.deref.ensures.value
@@ -21,7 +22,8 @@ returns-in-Some c = λ got is.
 
 pub returns-in-None : goal.returns-in-None
 returns-in-None c = λ got is.
-    let u = get_unmap (state_set_of c.self.inside.cache.conts.items.items) c.self.inside.cache.states.items c.args.state got
+    let u = get_unmap (state_set_of c.self.inside.cache.conts.items.items) c.self.inside.cache.states.items c.args.state
+    got
     (subst (λ v. slice_get v.states c.args.state ≡ Some got) (sym c.self.view_is) is) in
     let lt = slice_get_within c.self.inside.cache.states.items c.args.state u.from u.at in
     let past = c.in-None.ensures.lookup.3 in

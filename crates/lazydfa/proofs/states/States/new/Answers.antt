@@ -13,7 +13,8 @@ returns c =
     let served = c.are_served.ensures c.if-not-are_served.false in
     record {
       is = view;
-      none = ap (λ v. map (state_set_of c.empty_memo-memo.result.cache.conts.items.items) v) c.empty_memo-memo.ensures.states;
+      none = ap (λ v. map (state_set_of c.empty_memo-memo.result.cache.conts.items.items) v)
+          c.empty_memo-memo.ensures.states;
       one = subst (λ v. IsOne v) view (subst (λ v. IsOne (flat_of v)) c.deref.ensures served.1);
       uncounted = subst (λ v. AreUncounted v) view (subst (λ v. AreUncounted (flat_of v)) c.deref.ensures served.0);
       tail_places = subst (λ v. TellsLast v (last_of c.in_ok-tables.tables.value)) view
