@@ -334,9 +334,8 @@ module _ (has : ℕ → Bool) (samples : List ℕ) (in_order : AreInLineOrder ha
       by (inl dead) = inl dead
       by (inr l) = inr (leads_longer i e d l)
   more_searched i j e d at_j (inr g) is =
-      inr (reaches_pair MoreFound (length Found) (found_pair old new Entry) at_last refl (inr (inr (refl, omega arith))) i
-      j
-      d e g.0 g.1 is at_j)
+      inr (reaches_pair MoreFound (length Found) (found_pair old new Entry) at_last refl
+      (inr (inr (refl, omega arith))) i j d e g.0 g.1 is at_j)
 
   pub found_more : IsPairSearch has samples old new More n (k + 1) m
   found_more = record {
