@@ -4,14 +4,13 @@ pages of the libraries and the completions; if these are green `rt ci`; if that 
 them: those that `rt ci` built are put into bin/, and run on the folders of examples/, the examples of the manual pages
 and the rows of gate/runs/, on random cases against slow answers, by item sets alone, on grammars of a megabyte and
 lines of 16 MB that are made to cost much, and with memory, writes, reads and stack refused; then what shells complete,
-what is packed, the library for C, which is made over what `rt ci` proved, and the package for Python are tested, and
-that library is fuzzed for 20 seconds.
+what is packed, the library for C, which is made over what `rt ci` proved, and the package for Python are tested.
 
 usage: gate.py
 
 Prints the last line of `rt ci` last. The status is 0 if all of it is green. RT names the command, `rt` if not set. What
 there is no C compiler for is skipped, and so are tests of Python without pytest, and fuzzing without clang: faults.py,
-library_test.py, python_test.py and fuzz.py say so.
+library_test.py and python_test.py say so.
 """
 import os
 import pathlib
@@ -35,7 +34,7 @@ BEHIND = (
     ("oracles/both_judges.py",),
     ("oracles/dense_lines.py",), ("oracles/slow_abnfx.py",), ("oracles/random_texts.py", "-n", "300"),
     ("bench/hostile_grammars.py",), ("gate/faults.py",), ("gate/completions_test.py",), ("gate/package_test.py",),
-    ("gate/library_test.py",), ("gate/python_test.py",), ("oracles/fuzz.py",)
+    ("gate/library_test.py",), ("gate/python_test.py",)
 )
 TOP = pathlib.Path(__file__).resolve().parents[2]
 RT = os.environ.get("RT", "rt").split()
