@@ -9,7 +9,7 @@ what is packed, the library for C, which is made over what `rt ci` proved, and t
 usage: gate.py
 
 Prints the last line of `rt ci` last. The status is 0 if all of it is green. RT names the command, `rt` if not set. What
-there is no C compiler for is skipped, and so are tests of Python without pytest, and fuzzing without clang: faults.py,
+there is no C compiler for is skipped, and so are tests of Python without pytest: faults.py,
 library_test.py and python_test.py say so.
 """
 import os
