@@ -15,7 +15,7 @@ use Rattle.abnfread.specs.declared.kind.AbnfKind.{AbnfKind}
 use Rattle.abnfblocks.specs.TextLines.{NumberedLine, numbered}
 use Rattle.abnfblocks.specs.declared.rfctext.text_line.TextLine.{TextLine}
 use Rattle.diagnostics.specs.NumberLists.{numbers_for}
-use Rattle.abnftexts.specs.CodeUses.{is_known_name}
+use Rattle.abnftexts.specs.CodeUses.{is_defined}
 use Rattle.abnftexts.specs.GivenRules.{text_rule, RuleGiven, is_same_rule}
 use Rattle.abnftexts.specs.ListedRules.{ListNames, is_listed_for}
 use Rattle.abnftexts.specs.NamedRules.{AreLinesNamed, IsLineNamed, bare_line, comment_of, next_line, no_lines}
@@ -36,7 +36,7 @@ use Rattle.abnftexts.specs.declared.join.by_name.Listed.TheVariants as kinds
 
 -- what is listed for rules is what is known of them
 pub names-known : (rules : List GivenRule) (names : Rules (Vec ℕ Global)) → ListNames kinds.Rules rules names
-    → is_known_name names ≡ is_known_name (map text_rule rules)
+    → is_defined names ≡ is_known_name (map text_rule rules)
 names-known rules names listed = fun_ext (λ (name : List ℕ).
     ap (λ (t : Bool). t || list_any (same_name Fold name) core_names)
     (any-listed (is_listed_for kinds.Rules) rules name (numbers_for names name) (listed.1 name)))

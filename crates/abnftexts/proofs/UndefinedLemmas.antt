@@ -25,7 +25,7 @@ use Rattle.abnfexplain.specs.AbnfNoteLines.{AreAbnfPlaces}
 use Rattle.diagnostics.specs.NumberLists.{numbers_for}
 use Rattle.abnftexts.specs.GivenRules.{RuleGiven, text_rule}
 use Rattle.abnftexts.specs.JoinedGrammar.{ordered_rules}
-use Rattle.abnftexts.specs.CodeUses.{AddsUses, ListKnown, ListsMore, is_known_name, name_used, unknown_told}
+use Rattle.abnftexts.specs.CodeUses.{AddsUses, ListKnown, ListsMore, is_defined, name_used, unknown_told}
 use Rattle.abnftexts.specs.ListedRules.{ListNames, has_list, has_some, is_listed_for}
 use Rattle.abnftexts.specs.RulesGathered.{RuleLines}
 use Rattle.abnftexts.specs.UsedNames.{AreNameUses, UsedName, next_uses, no_rules, undefined_line, undefined_told}
@@ -138,7 +138,7 @@ no-some false e = refl
 -- a name that is not listed is known if it is that of a core rule
 pub known-core : (names : table.Rules (Vec ℕ Global)) (name numbers : List ℕ) (is_empty found : Bool)
     → numbers ≡ numbers_for names name → is_empty ≡ (length numbers == 0) → is_empty ≡ true
-    → found ≡ list_any (same_name Fold name) core_names → found ≡ is_known_name names name
+    → found ≡ list_any (same_name Fold name) core_names → found ≡ is_defined names name
 known-core names name numbers is_empty found listed e empty core =
     let none : has_list names name ≡ false =
     no-some (has_list names name) (sym empty ∙ e ∙ ap (λ (ns : List ℕ). length ns == 0) listed

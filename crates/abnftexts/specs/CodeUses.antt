@@ -30,11 +30,11 @@ ListKnown rules uses names = (names.names ≡ Fold) × ((name : List ℕ) → ha
     ≡ (list_any (λ rule. same_name Fold name rule.name) rules || list_any (λ u. same_name Fold name u.name) uses))
 
 -- a name is listed, or is that of a core rule
-abbrev pub is_known_name : Rules (Vec ℕ Global) → List ℕ → Bool
-is_known_name names name = has_list names name || list_any (same_name Fold name) core_names
+abbrev pub is_defined : Rules (Vec ℕ Global) → List ℕ → Bool
+is_defined names name = has_list names name || list_any (same_name Fold name) core_names
 
 abbrev pub is_unknown : Rules (Vec ℕ Global) → List ℕ → Bool
-is_unknown names name = not (is_known_name names name)
+is_unknown names name = not (is_defined names name)
 
 -- the line of a use whose name is such
 abbrev pub unknown_told : Rules (Vec ℕ Global) → UsedName → List ℕ

@@ -3,13 +3,13 @@ ghost use Rattle.std.specs.Prelude.{◌≡◌, ◌++◌, ℕ, List, codes, map, 
 ghost use Rattle.lexer.specs.TokenLists.{tok_of};
 ghost use Rattle.abnfblocks.specs.TextLines.{numbered};
 ghost use Rattle.abnfread.specs.AbnfTable.{IsCoreTable};
-ghost use Rattle.abnftexts.specs.CodeUses.{is_known_name as knows};
+ghost use Rattle.abnftexts.specs.CodeUses.{is_defined as knows};
 ghost use Rattle.abnftexts.specs.NamedRules.{AreLinesNamed, IsLineNamed, comment_of, token_named};
 
 use crate::gathered::RulePlace;
 use crate::join::is_same_folded;
 use crate::parts::{items_before, items_behind};
-use crate::undefined::is_known_name;
+use crate::undefined::is_known;
 use abnfblocks::margin;
 use abnfread::{AbnfKind, Elem};
 use lexer::{Token, tokens};
@@ -40,7 +40,7 @@ fn token_text<'a>(
     }
     let front = items_before(token.slice, token.slice.len().saturating_sub(1));
     let name = items_behind(front, 1);
-    if is_known_name(core, names, name)? && !is_same_folded(own, name) {
+    if is_known(core, names, name)? && !is_same_folded(own, name) {
         return Ok(name);
     }
     Ok(token.slice)

@@ -1,7 +1,7 @@
 //! Rules with names in angle brackets.
 ghost use Rattle.std.specs.Prelude.{map, IfOk};
 ghost use Rattle.abnfread.specs.AbnfTable.{IsCoreTable};
-ghost use Rattle.abnftexts.specs.CodeUses.{is_known_name as knows};
+ghost use Rattle.abnftexts.specs.CodeUses.{is_defined as knows};
 ghost use Rattle.abnftexts.specs.GivenRules.{text_rule};
 ghost use Rattle.abnftexts.specs.NamedRules.{AreRenamed, ArePlacesNamed, AreRulesNamed, IsPlaceNamed, IsRuleNamed};
 ghost use Rattle.abnftexts.specs.RulesGathered.{lines_placed, rules_gathered};

@@ -3,7 +3,7 @@ ghost use Rattle.std.specs.Prelude.{◌≡◌, ◌++◌, map, IfOk, OnOk};
 ghost use Rattle.ruletable.specs.declared.table.NameCase.TheVariants.{Fold};
 ghost use Rattle.abnfread.specs.AbnfTable.{IsCoreTable};
 ghost use Rattle.abnftexts.specs.GivenRules.{text_rule};
-ghost use Rattle.abnftexts.specs.CodeUses.{ListsMore, is_known_name as knows, is_unknown, name_used, unknown_told};
+ghost use Rattle.abnftexts.specs.CodeUses.{ListsMore, is_defined as knows, is_unknown, name_used, unknown_told};
 ghost use Rattle.abnftexts.specs.UsedNames.{undefined_line, undefined_told};
 
 use crate::join::{GivenRule, Listed, numbers_by_name};
@@ -18,7 +18,7 @@ use std::alloc::Global;
 ///
 /// # Errors
 /// `Memory` if an allocation fails.
-pub(crate) fn is_known_name(
+pub(crate) fn is_known(
     core: &RuleTable<Elem>,
     names: &RuleTable<Vec<usize>>,
     name: &[u8],
@@ -44,7 +44,7 @@ fn is_told(
     ensures told { IfOk result (λ is. is ≡ is_unknown names.old name.now) }
     ensures listed { OnOk result (ListsMore name.now names.old names.new) }
 {
-    let known = is_known_name(core, names, name)?;
+    let known = is_known(core, names, name)?;
     add_number(alloc, names, name, 0)?;
     Ok(!known)
 }

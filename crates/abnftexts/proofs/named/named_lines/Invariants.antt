@@ -1,13 +1,13 @@
 use Rattle.std.proofs.Common.{◌++◌, List, ℕ, map, drop}
 use Rattle.abnfblocks.specs.TextLines.{numbered}
-use Rattle.abnftexts.specs.CodeUses.{is_known_name}
+use Rattle.abnftexts.specs.CodeUses.{is_defined}
 use Rattle.abnftexts.specs.NamedRules.{AreLinesNamed}
 use Rattle.abnftexts.proofs.named.named_lines.Given as goal
 
 -- what is written for the lines to come completes what is written for those so far
 abbrev pub invariant-loop-line : goal.invariant-loop-line
 invariant-loop-line l = (comments text : List ℕ)
-    → AreLinesNamed (is_known_name l.names) l.own l.place.margin (map numbered (drop l.line-index l.place.lines.items))
+    → AreLinesNamed (is_defined l.names) l.own l.place.margin (map numbered (drop l.line-index l.place.lines.items))
     comments text
-    → AreLinesNamed (is_known_name l.names) l.own l.place.margin (map numbered l.place.lines.items)
+    → AreLinesNamed (is_defined l.names) l.own l.place.margin (map numbered l.place.lines.items)
     (l.lines.comments.items ++ comments) (l.lines.text.items ++ text)

@@ -1,7 +1,7 @@
 use Rattle.std.proofs.Common.{◌≡◌, ◌≢◌, List, length, map, arith, subst, ℕ}
 use Rattle.std.proofs.lemmas.Bool.Decides.{nat_tests}
 use Rattle.abnfblocks.specs.TextLines.{numbered}
-use Rattle.abnftexts.specs.CodeUses.{is_known_name}
+use Rattle.abnftexts.specs.CodeUses.{is_defined}
 use Rattle.abnftexts.specs.NamedRules.{AreLinesNamed, is_named, stays}
 use Rattle.abnftexts.proofs.JoinRunLemmas.{some-text}
 use Rattle.abnftexts.proofs.NamedRulesLemmas.{no-items, no_outcome, yes_outcome}
@@ -10,14 +10,14 @@ use Rattle.abnftexts.proofs.renamed.named_place.Goals as goal
 pub returns-then-is_empty : goal.returns-then-is_empty
 returns-then-is_empty c =
     let none : length c.in_ok-lines.lines.comments.items ≡ 0 = grind (arith, nat_tests) in
-    stays (subst (λ (own : List ℕ). AreLinesNamed (is_known_name c.args.names.now) own c.args.place.margin
+    stays (subst (λ (own : List ℕ). AreLinesNamed (is_defined c.args.names.now) own c.args.place.margin
     (map numbered c.args.place.lines.items) c.in_ok-lines.lines.comments.items c.in_ok-lines.lines.text.items)
     c.deref.ensures.value c.in_ok-lines.ensures)
     (λ some spells. some (no-items c.in_ok-lines.lines.comments.items none))
 
 pub returns-then-not-is_rule : goal.returns-then-not-is_rule
 returns-then-not-is_rule c =
-    stays (subst (λ (own : List ℕ). AreLinesNamed (is_known_name c.args.names.now) own c.args.place.margin
+    stays (subst (λ (own : List ℕ). AreLinesNamed (is_defined c.args.names.now) own c.args.place.margin
     (map numbered c.args.place.lines.items) c.in_ok-lines.lines.comments.items c.in_ok-lines.lines.text.items)
     c.deref.ensures.value c.in_ok-lines.ensures)
     (λ some spells. no_outcome c.deref-2.result.now c.deref-2.ensures.value c.in_ok-is_rule.is_rule
@@ -26,7 +26,7 @@ returns-then-not-is_rule c =
 pub returns : goal.returns
 returns c =
     let some : length c.in_ok-lines.lines.comments.items ≢ 0 = grind (arith, nat_tests) in
-    is_named (subst (λ (own : List ℕ). AreLinesNamed (is_known_name c.args.names.now) own c.args.place.margin
+    is_named (subst (λ (own : List ℕ). AreLinesNamed (is_defined c.args.names.now) own c.args.place.margin
     (map numbered c.args.place.lines.items) c.in_ok-lines.lines.comments.items c.in_ok-lines.lines.text.items)
     c.deref.ensures.value c.in_ok-lines.ensures) (some-text c.in_ok-lines.lines.comments.items some)
     (yes_outcome c.deref-2.result.now c.deref-2.ensures.value c.in_ok-is_rule.is_rule c.in_ok-is_rule.ensures

@@ -1,5 +1,5 @@
 use Rattle.std.proofs.Common.{[], List, arith, map, subst, sym}
-use Rattle.abnftexts.specs.CodeUses.{is_known_name}
+use Rattle.abnftexts.specs.CodeUses.{is_defined}
 use Rattle.abnftexts.specs.GivenRules.{text_rule}
 use Rattle.abnftexts.specs.NamedRules.{ArePlacesNamed, one_place, places_end, rules_end}
 use Rattle.abnftexts.specs.RulesGathered.{lines_placed}
@@ -11,7 +11,7 @@ use Rattle.abnftexts.proofs.renamed.named_places.Goals.{in-None, in-Some+in_defa
 
 pub loop-place-preserved : goal.loop-place-preserved
 loop-place-preserved c =
-    let known = is_known_name c.args.names.now in
+    let known = is_defined c.args.names.now in
     pair-more text_rule lines_placed lines_placed (ArePlacesNamed known)
     (ArePlacesNamed known (map text_rule c.args.rules.now) (map lines_placed c.args.places.items))
     c.loop-place.left.now c.in-Some-split_first.behind.now c.in-Some-split_first.rule.now
@@ -22,7 +22,7 @@ loop-place-preserved c =
 
 pub returns : goal.returns
 returns c =
-    let known = is_known_name c.args.names.now in
+    let known = is_defined c.args.names.now in
     let left = c.loop-place.left.now in
     let rest = c.loop-place.place-iterator.rest.items in
     pairs-done text_rule lines_placed lines_placed (ArePlacesNamed known)

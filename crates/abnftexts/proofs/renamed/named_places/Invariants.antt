@@ -1,5 +1,5 @@
 use Rattle.std.proofs.Common.{◌++◌, List, map}
-use Rattle.abnftexts.specs.CodeUses.{is_known_name}
+use Rattle.abnftexts.specs.CodeUses.{is_defined}
 use Rattle.abnftexts.specs.GivenRules.{text_rule}
 use Rattle.abnftexts.specs.NamedRules.{ArePlacesNamed}
 use Rattle.abnftexts.specs.RulesGathered.{RuleLines, lines_placed}
@@ -8,7 +8,6 @@ use Rattle.abnftexts.proofs.renamed.named_places.Given as goal
 -- the places to come complete those so far
 abbrev pub invariant-loop-place : goal.invariant-loop-place
 invariant-loop-place l = (others : List RuleLines)
-    → ArePlacesNamed (is_known_name l.names) (map text_rule l.left) (map lines_placed l.place-iterator.rest.items)
-    others
-    → ArePlacesNamed (is_known_name l.names) (map text_rule l.rules) (map lines_placed l.fn.places.items)
+    → ArePlacesNamed (is_defined l.names) (map text_rule l.left) (map lines_placed l.place-iterator.rest.items) others
+    → ArePlacesNamed (is_defined l.names) (map text_rule l.rules) (map lines_placed l.fn.places.items)
     (map lines_placed l.named.items ++ others)
