@@ -28,6 +28,7 @@ complete -c abnfi -s k -l keep-ends -d 'Judge each line with its line feed, or i
 complete -c abnfi -s p -l print -x -a 'answers derived refused count none' -d 'Choose what to print'
 complete -c abnfi -s n -l line-number -d 'Print the number of each line before it'
 complete -c abnfi -s q -l quiet -d 'Print nothing, and end at the first refused line'
+complete -c abnfi -l line-buffered -d 'Answer each line before more input is read'
 complete -c abnfi -s w -l viable -d 'Write how far a refused line goes: no N'
 complete -c abnfi -s x -l explain -d 'Explain messages in more lines'
 complete -c abnfi -s h -l help -f -d 'Print this help'

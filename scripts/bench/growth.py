@@ -23,12 +23,9 @@ MOST, LEAST, PLAIN, AGAIN = 3.0, 0.1, 0.5, 4
 BOUNDED = ["sh", "-c", 'ulimit -v 4000000; ulimit -t 4; exec "$@"', "sh"]
 CHECKS = (("-m", "check"), ("-m", "print"), ("-x", "-m", "check"))
 RUNS = (("pegi", CHECKS, PEG), ("abnfi", CHECKS, ABNF), ("abnfx", ((), ("-c",)), RFC))
-# Runs that are quadratic today: a rule of many paragraphs, of which the last are no part, and notes of which each says
-# by which rules it is reached.
-PARAGRAPHS = ("deep prose after a rule", "a rule of paragraphs, then prose", "an open rule of paragraphs")
+# Runs that are quadratic today: notes of which each says by which rules it is reached.
 REACHED = ("undefined names down a chain", "prose down a chain")
-KNOWN = {f"abnfx{mode}: {name}" for mode in ("", " -c") for name in PARAGRAPHS}
-KNOWN |= {f"abnfi -x -m check: {name}" for name in REACHED}
+KNOWN = {f"abnfi -x -m check: {name}" for name in REACHED}
 
 
 def seconds(words, times=1):

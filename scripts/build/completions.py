@@ -1,11 +1,12 @@
 #!/usr/bin/env python3
-"""Writes completions/: for bash, zsh and fish what may stand next in a command line of pegi, abnfi and abnfx.
+"""Writes completions/: for bash, zsh and fish what may stand next in a command line of pegi, abnfi, abnfx
+and abnfd.
 
 usage: completions.py [--check]
 
 With --check it compares the files with what it would write, and writes nothing. The description of the options is here,
 once for all shells; completions_test.py compares it with what the programs print for -h. As the value of --rule the
-rules of the grammar are offered if it stands on the line already: they come from `-m print`.
+rules of the grammar are offered if it stands on the line already: they come from `-m print`, for abnfd of abnfi.
 """
 import dataclasses
 import pathlib
@@ -33,17 +34,27 @@ class Option:
 
 @dataclasses.dataclass(frozen=True)
 class Program:
-    """A program: its options, what stands after a rule's name where the grammar is printed, and what the help says of
-    its file. A program without that sign takes any number of texts."""
+    """A program: its options, what stands after a rule's name where the grammar is printed, what the help says of its
+    file, the program that prints grammars, and its operands. A program without that sign takes any number of texts."""
 
     name: str
     options: tuple
     sign: str
     file: str
+    printer: str = ""
+    operands: tuple = ("grammar", "input")
 
     def valued(self):
         """Returns the options that take a value, as they are typed."""
         return [name for it in self.options if it.value for name in it.typed()]
+
+    def typed_for(self, value):
+        """Returns the options whose value has that word, as they are typed."""
+        return [name for it in self.options if it.value == value for name in it.typed()]
+
+    def printing(self, word):
+        """Returns how a shell names the program that prints grammars, where that word is how this one was called."""
+        return f"${{{word}%{self.name}}}{self.printer}" if self.printer else f"${word}"
 
 
 GRAMMAR = "The file of the grammar, at most 1048576 bytes"
@@ -73,6 +84,7 @@ PROGRAMS = (
                "Choose what to print"),
         Option("n", "line-number", "", (), "Print the number of each line before it"),
         Option("q", "quiet", "", (), "Print nothing, and end at the first refused line"),
+        Option("", "line-buffered", "", (), "Answer each line before more input is read"),
         Option("w", "viable", "", (), "Write how far a refused line goes: no N"),
         EXPLAIN,
         HELP,
@@ -84,13 +96,21 @@ PROGRAMS = (
         HELP,
         VERSION,
     ), "", "The texts of RFCs, each at most 16777216 bytes"),
+    Program("abnfd", (
+        Option("s", "rule", "RULE", (), "Compare this rule of both grammars [default: the first rule]"),
+        Option("t", "new-rule", "RULE", (), "Compare this rule of NEW [default: that of -s]"),
+        Option("u", "letters", "MODE", ("bytes", "utf8"), "Take bytes or code points of UTF-8 as letters"),
+        Option("b", "budget", "N", (), "Search at most N pairs of states, from 1 to 4294967295"),
+        HELP,
+        VERSION,
+    ), "=", "The file of the old grammar, at most 1048576 bytes", "abnfi", ("old", "new")),
 )
 
 BASH = r"""# Completes the command line of @NAME@ in bash. scripts/build/completions.py wrote this file.
 
 # Prints the names of the rules of the grammar on the line, if it is there.
 _@NAME@_rules() {
-    local program=$1 at word
+    local program=@PROGRAM@ at word
     for ((at = 1; at < ${#COMP_WORDS[@]}; at++)); do
         word=${COMP_WORDS[at]}
         case $word in
@@ -120,11 +140,11 @@ _@NAME@() {
     fi
     case $before in
 @VALUES@
-        -s | --rule)
+        @RULES@)
             mapfile -t COMPREPLY < <(compgen -W "$(_@NAME@_rules "${1/#\~\//$HOME/}")" -- "$current")
             return
             ;;
-        -l | --limit) return ;;
+        @NUMBERS@) return ;;
     esac
     if [[ $current == -* ]]; then
         # each option may stand once
@@ -193,7 +213,7 @@ _@NAME@_rules() {
             (-*) ;;
             (*)
                 word=${~${(Q)word}}
-                [[ ! -f $word ]] || rules+=(${(f)"$($words[1] -m print $word 2> /dev/null |
+                [[ ! -f $word ]] || rules+=(${(f)"$(@PROGRAM@ -m print $word 2> /dev/null |
                     sed -n 's/^\([A-Za-z_][A-Za-z0-9_-]*\) @SIGN@ .*/\1/p')"})
                 ;;
         esac
@@ -203,7 +223,7 @@ _@NAME@_rules() {
 
 _arguments -s \
 @OPTIONS@
-    '1:grammar:_files' '2:input:_files'
+    '1:@FIRST@:_files' '2:@SECOND@:_files'
 """
 
 FISH = r"""# Completes the command line of @NAME@ in fish. scripts/build/completions.py wrote this file.
@@ -220,7 +240,7 @@ function __@NAME@_rules
             case '*'
                 set -l file (string replace -r '^~/' "$HOME/" -- $words[$at])
                 if test -f "$file"
-                    $words[1] -m print "$file" 2> /dev/null | string match -rg '^([A-Za-z_][A-Za-z0-9_-]*) @SIGN@ '
+                    @PROGRAM@ -m print "$file" 2> /dev/null | string match -rg '^([A-Za-z_][A-Za-z0-9_-]*) @SIGN@ '
                 end
         end
         set at (math $at + 1)
@@ -246,7 +266,9 @@ def for_bash(program):
     ]
     options = " ".join(",".join(it.typed()) for it in program.options)
     return filled(BASH if program.sign else BASH_TEXTS, NAME=program.name, SIGN=program.sign,
-                  VALUED=" | ".join(program.valued()), VALUES="\n".join(values), OPTIONS=options)
+                  VALUED=" | ".join(program.valued()), VALUES="\n".join(values), OPTIONS=options,
+                  PROGRAM=program.printing("1"), RULES=" | ".join(program.typed_for("RULE")),
+                  NUMBERS=" | ".join(program.typed_for("N")))
 
 
 def for_zsh(program):
@@ -258,21 +280,24 @@ def for_zsh(program):
         names = it.typed()
         others = "- 1" if it is HELP else " ".join(names)
         typed = ",".join(names) + ("=" if it.value else "")
-        action = f"({' '.join(it.values)})" if it.values else f"_{program.name}_rules" if it.letter == "s" else " "
+        action = f"({' '.join(it.values)})" if it.values else f"_{program.name}_rules" if it.value == "RULE" else " "
         return f"    '({others})'{{{typed}}}'[{text}]" + (f":{it.value.lower()}:{action}' \\" if it.value else "' \\")
     return filled(ZSH if program.sign else ZSH_TEXTS, NAME=program.name, SIGN=program.sign,
-                  VALUED="|".join(program.valued()), OPTIONS="\n".join(map(spec, program.options)))
+                  VALUED="|".join(program.valued()), OPTIONS="\n".join(map(spec, program.options)),
+                  PROGRAM=program.printing("words[1]"), FIRST=program.operands[0], SECOND=program.operands[1])
 
 
 def for_fish(program):
     """Returns the file for fish."""
     def line(it):
-        offered = " ".join(it.values) or (f"(__{program.name}_rules)" if it.letter == "s" else "")
+        offered = " ".join(it.values) or (f"(__{program.name}_rules)" if it.value == "RULE" else "")
         values = (" -x" if it.value else "") + (f" -a '{offered}'" if offered else "")
         name = (f"-s {it.letter} " if it.letter else "") + f"-l {it.name}" + (" -f" if it in (HELP, VERSION) else "")
         return f"complete -c {program.name} {name}{values} -d '{it.text}'"
     return filled(FISH if program.sign else FISH_TEXTS, NAME=program.name, SIGN=program.sign,
-                  VALUED=" ".join(program.valued()), OPTIONS="\n".join(map(line, program.options)))
+                  VALUED=" ".join(program.valued()), OPTIONS="\n".join(map(line, program.options)),
+                  PROGRAM=f"command (string replace -r '{program.name}$' {program.printer} -- $words[1])"
+                  if program.printer else "$words[1]")
 
 
 def files():

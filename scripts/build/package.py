@@ -22,7 +22,7 @@ import tempfile
 
 TOP = pathlib.Path(__file__).resolve().parents[2]
 NAME = "fanquber"
-PROGRAMS = ("pegi", "abnfi", "abnfx")
+PROGRAMS = ("pegi", "abnfi", "abnfx", "abnfd")
 LIBRARIES = {"libc.so.6", "ld-linux-x86-64.so.2"}
 # The one place of the version's number.
 VERSION_FILE = "crates/cli/src/command.rt"
@@ -39,7 +39,8 @@ Description: proved grammar tools: pegi runs PEG grammars, abnfi judges lines by
  abnfi reads a grammar in ABNF (RFC 5234, RFC 7405) and answers yes or no for
  each line of its input. Both also check a grammar and print it in one canonical
  form. What both write is proved to be a stated function of grammar and input.
- abnfx joins the grammars in ABNF that texts of RFCs give.
+ abnfx joins the grammars in ABNF that texts of RFCs give. abnfd compares the
+ lines that rules of two grammars in ABNF derive.
 """
 
 
@@ -81,7 +82,7 @@ def lay_out(folder, prefix):
     output("make", "-s", "put", f"DESTDIR={folder}", f"PREFIX={prefix}")
     sources = commit()[2]
     kit = output(*os.environ.get("RT", "rt").split(), "version").splitlines()[0]
-    text = f"pegi, abnfi and abnfx: each function is proved against its contract, from {sources}, by {kit}.\n"
+    text = f"pegi, abnfi, abnfx and abnfd: each function is proved against its contract, from {sources}, by {kit}.\n"
     (folder / prefix.strip("/") / f"share/doc/{NAME}/PROVED").write_text(text)
 
 

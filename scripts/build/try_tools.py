@@ -3,11 +3,11 @@
 
 usage: try_tools.py
 
-With no TOOL in the environment it runs an example of each program. TOOL is pegi, abnfi or abnfx; OPTIONS are further
-arguments of the program.
+With no TOOL in the environment it runs an example of each program. TOOL is pegi, abnfi, abnfx or abnfd; OPTIONS are
+further arguments of the program.
 
 - pegi and abnfi: GRAMMAR is a file. The program runs on the file INPUT, or on standard input if INPUT is not set.
-- abnfx: TEXTS are the files of the texts.
+- abnfx and abnfd: TEXTS are the files of the texts, or of both grammars.
 - CASES is a folder in place of INPUT or TEXTS. The program is built once and run on each file of it. What it prints is
   compared with the file of the same name that ends in .stdout; if there is none, it is shown.
 
@@ -23,9 +23,12 @@ import tempfile
 
 TOP = pathlib.Path(__file__).resolve().parents[2]
 RT = os.environ.get("RT", "rt").split()
-TOOLS = ("pegi", "abnfi", "abnfx")
+TOOLS = ("pegi", "abnfi", "abnfx", "abnfd")
+# The programs that take texts.
+TAKERS = ("abnfx", "abnfd")
 USAGE = """usage: make try TOOL=pegi|abnfi GRAMMAR=file [INPUT=file | CASES=folder] [OPTIONS='..']
-       make try TOOL=abnfx TEXTS='file ..' | CASES=folder [OPTIONS='..']"""
+       make try TOOL=abnfx TEXTS='file ..' | CASES=folder [OPTIONS='..']
+       make try TOOL=abnfd TEXTS='old new' [OPTIONS='..']"""
 # What `rt try` writes on standard error after the program's own lines: the last line has the program's status.
 ENDED = re.compile(r"(checked: .*\n|interpreter: .*\n)*run=ended status=(\d+) .*\n\Z")
 
@@ -73,6 +76,7 @@ def examples():
         ("pegi", ["examples/username/username.peg"], "examples/username/letter.txt"),
         ("abnfi", ["examples/rfc3339/rfc3339.abnf"], "examples/rfc3339/lines.txt", ["-s", "date-time"]),
         ("abnfx", ["crates/abnfx/data/pages.txt"]),
+        ("abnfd", ["crates/abnfd/data/old.abnf", "crates/abnfd/data/new.abnf"]),
     ]
 
 
@@ -82,8 +86,8 @@ def asked():
     tool, grammar, texts, given, cases = (os.environ.get(it, "") for it in names)
     if not any((tool, grammar, texts, given, cases)):
         return examples()
-    files = shlex.split(texts) if tool == "abnfx" else [grammar]
-    if tool not in TOOLS or (tool != "abnfx" and not grammar) or (tool == "abnfx" and not (texts or cases)):
+    files = shlex.split(texts) if tool in TAKERS else [grammar]
+    if tool not in TOOLS or not (texts or cases if tool in TAKERS else grammar):
         sys.exit(USAGE)
     for it in filter(None, (*files, given)):
         if not pathlib.Path(it).is_file():

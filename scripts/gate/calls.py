@@ -42,6 +42,8 @@ PASSED = {
     "toolrun: flush_err: discards",
     # Its contract speaks of a grammar's text, of which the function below knows nothing.
     "abnfexplain: explain_abnf_note: only forwards",
+    # It stands out of line, so that the machine's loop stays small.
+    "packrat: close_same: only forwards",
     # It reads a private field.
     "matchfailure: Desk.found: only forwards",
     # The contract of `start` says that the grammar is sound, and how its nodes are numbered.
@@ -52,9 +54,7 @@ PASSED = {
 # The parameters that only a contract reads, each with what the contract says by it.
 UNREAD = {
     # how many evaluations have begun is bounded by the numbers of nodes and of bytes
-    "matchfailure: one_more.length", "matchfailure: one_more.nodes", "packrat: counted.length",
-    "packrat: counted.nodes", "packrat: counted_known.length", "packrat: counted_known.nodes",
-    "packrat: counted_skips.length", "packrat: counted_skips.nodes",
+    "matchfailure: one_more.length", "matchfailure: one_more.nodes",
     # what the result says of the node that has these members or alternatives
     "pegnodes: by_alternatives.n", "pegnodes: by_members.n",
     # of which cells and in which of how many buckets the result is the last one
@@ -67,7 +67,7 @@ UNREAD = {
     "earley: complete_rest.places", "earley: keep_set.places", "earley: predict_row.row",
     "earleyitems: add_linked.room", "lazydfa: look.tables", "lazydfa: write.tables",
     # of which grammar, form or letters the result is true
-    "abnfhints: is_barren.hinted", "abnftexts: write_text.form", "prune: prune_name.alphabet",
+    "abnfhints: is_barren.hinted", "abnftexts: write_text.form", "lowering: prune_name.alphabet",
 }
 HEAD = re.compile(r"^( *)(?:pub(?:\(crate\))? )?(?:const )?fn (\w+)", re.M)
 OWNER = re.compile(r"^(impl|pub trait|trait)(?:<.*?>)? (?:(?:\w+::)*(\w+)(?:<.*>)? for )?&?(?:'\w+ )?(?:mut )?(\w+)")

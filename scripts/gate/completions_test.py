@@ -48,9 +48,12 @@ ROWS = (
     ("abnfi", "--letters u", {"utf8"}),
     ("abnfi", "--letters = utf8 g.abnf --rule = w", {"word"}),
     ("abnfi", "--v", {"--viable", "--version"}),
+    ("abnfi", "--li", {"--limit", "--line-number", "--line-buffered"}),
     ("abnfx", "-c g.p", {"g.peg"}),
     ("abnfx", "g.peg g.a", {"g.abnf"}),
     ("abnfx", "-c --", {"--list", "--help", "--version"}),
+    ("abnfd", "g.abnf g.abnf -t w", {"word"}),
+    ("abnfd", "-u u", {"utf8"}),
 )
 # The last of these words may be offered only where a row says so.
 EVERY = {it for _, _, wanted in ROWS for it in wanted}
@@ -69,9 +72,9 @@ def shown(program):
     found = set()
     for letter, name, value, said in re.findall(r"(?m)^  (?:-(\w), |    )--([\w-]+)(?: <(\w+)>)? +(.*)$", text):
         values = re.search(r" \[possible values: (.*)\]", said)
-        said = re.sub(r" \[(possible values|default: (run|bytes|answers|65536)\]).*", "", said)
+        said = re.sub(r" \[(possible values|default: (run|bytes|answers|65536|1000000)\]).*", "", said)
         found.add((letter, name, value, said, tuple(values[1].split(", ")) if values else ()))
-    return found, re.search(r"(?m)^  <(?:GRAMMAR|TEXT)>(?:\.\.\.)? +(.*)$", text)[1]
+    return found, re.search(r"(?m)^  <(?:GRAMMAR|TEXT|OLD)>(?:\.\.\.)? +(.*)$", text)[1]
 
 
 def faults_of_help(program):

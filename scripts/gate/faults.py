@@ -1,6 +1,6 @@
 #!/usr/bin/env python3
-"""Runs bin/pegi, bin/abnfi and bin/abnfx as users run them, with memory, writes and reads refused by a library
-(faults.c), and with a stack of 256 KB.
+"""Runs bin/pegi, bin/abnfi, bin/abnfx and bin/abnfd as users run them, with memory, writes and reads refused by a
+library (faults.c), and with a stack of 256 KB.
 
 usage: faults.py [SWEEP ..]
 
@@ -40,6 +40,10 @@ def abnf(name, grammar, given, texts, told=b"", status=0, words=()):
 
 def taken(name, text, texts, told=b"", status=0, words=()):
     return Run(name, "abnfx", list(words), text, b"", texts, told, status)
+
+
+def compared(name, old, new, texts, told=b"", status=0, words=()):
+    return Run(name, "abnfd", [*words, "old"], new, old, texts, told, status)
 
 
 # Names of runs of abnfi by a grammar that counts how often something nullable is repeated: they have no automaton.
@@ -109,6 +113,12 @@ TAKEN_LISTED = taken("the list of the rules of a text", TEXT, [b"grammar:3: 'a' 
                      b"grammar:13: 'B' is given at grammar:12\n"], TAKEN_TOLD, 1, words=["-l"])
 NONE_TAKEN = taken("a text without rules", b"Rules\n", [], b"no rules found\n", 1)
 
+COMPARED = compared("rules that differ", b's = 1*ALPHA "\\"\n', b't = 1*2ALPHA "\\"\nu = s\ns = "x"\n',
+                    [b'differ\n< "AAA\\x5C"\n> none\n'], b"new: rule 'u' defined but not used\n", 1, words=["-t", "t"])
+ALIKE = compared("rules that derive the same lines", b's = "a" s / "b"\n', b's = *"a" "b"\n', [b"same\n"])
+REJECTED = compared("grammars that are rejected", b"s = <any>\n", b"s : x\n", [],
+                    b"old: prose in rule 's'\nnew: line 1: syntax error\n", 2)
+
 # The runs in which each allocation fails.
 GROWING = [
     USERNAME,
@@ -138,6 +148,9 @@ GROWING = [
     TAKEN_PRINTED,
     TAKEN_LISTED,
     NONE_TAKEN,
+    COMPARED,
+    ALIKE,
+    REJECTED,
     STOP_EXPLAINED,
     REFUSED_EXPLAINED,
     HINTED,
@@ -147,7 +160,7 @@ GROWING = [
 
 # The runs whose writes fail.
 WRITTEN = [USERNAME, WORDS, NOTED, ABNF_NOTED, PRINTED, ABNF_PRINTED, CHECKED, ABNF_CHECKED, EXPLAINED, ABNF_EXPLAINED,
-           HINTED, TAKEN, TAKEN_PRINTED, TAKEN_LISTED, NONE_TAKEN]
+           HINTED, TAKEN, TAKEN_PRINTED, TAKEN_LISTED, NONE_TAKEN, COMPARED, ALIKE, REJECTED]
 
 
 class Tools:
@@ -172,6 +185,7 @@ class Tools:
         told.unlink(missing_ok=True)
         left.unlink(missing_ok=True)
         grammar.write_bytes(run.grammar)
+        (self.folder / "old").write_bytes(run.given)
         environment = {"LD_PRELOAD": str(self.library), "FAULT_TOLD": str(told), "FAULT_LEFT": str(left)}
         environment |= {f"FAULT_{it}": str(n) for it, n in faults.items()}
         ran = subprocess.run([TOP / "bin" / run.program, *run.words, grammar.name], cwd=self.folder, input=run.given,
@@ -283,13 +297,16 @@ def reads(tools):
 
 def text_reads(tools):
     """Each read of a text failing, and reads of one to three bytes."""
-    for run in (it for it in [TAKEN, TAKEN_PRINTED] if tools.has(it.program)):
+    unread = {"abnfx": [b"cannot read grammar\n"],
+              "abnfd": [b"old: cannot read the grammar\n", b"new: cannot read the grammar\n"]}
+    for run in (it for it in [TAKEN, TAKEN_PRINTED, COMPARED] if tools.has(it.program)):
         for most in (1, 2, 3):
             ended = tools.run(run, PIECE=most)
             tools.expect(run, ended, is_as_stated(run, ended), f"reads of {most} bytes")
         number = 1
         while (ended := tools.run(run, READ=number, PIECE=3)).refused:
-            tools.expect(run, ended, ended[:3] == (b"", b"cannot read grammar\n", 4), f"read {number} fails")
+            right = (ended.out, ended.status) == (b"", 4) and ended.err in unread[run.program]
+            tools.expect(run, ended, right, f"read {number} fails")
             number += 1
 
 
@@ -431,7 +448,7 @@ def main():
     wanted = words.parse_args().sweep or list(sweeps)
     with tempfile.TemporaryDirectory(prefix="faults-") as folder:
         tools = Tools(folder)
-        for program in ("pegi", "abnfi", "abnfx"):
+        for program in ("pegi", "abnfi", "abnfx", "abnfd"):
             if not tools.has(program):
                 print(f"faults: {program}: not built: skipped")
         built = tools.build()

@@ -4,7 +4,8 @@ pages of the libraries and the completions; if these are green `rt ci`; if that 
 them: those that `rt ci` built are put into bin/, and run on the folders of examples/, the examples of the manual pages
 and the rows of gate/runs/, on random cases against slow answers, by item sets alone, on grammars of a megabyte and
 lines of 16 MB that are made to cost much, and with memory, writes, reads and stack refused; then what shells complete,
-what is packed, the library for C, which is made over what `rt ci` proved, and the package for Python are tested.
+what is packed, answers that come line by line, the library for C, which is made over what `rt ci` proved, and the
+package for Python are tested.
 
 usage: gate.py
 
@@ -21,7 +22,7 @@ import sys
 sys.path.insert(0, str(pathlib.Path(__file__).resolve().parents[1]))  # scripts/, for what groups share
 from build.library import lacking
 
-PROGRAMS = ("pegi", "abnfi", "abnfx")
+PROGRAMS = ("pegi", "abnfi", "abnfx", "abnfd")
 # What is looked at before anything is proved, and what the programs are run by.
 BEFORE = (
     ("gate/names.py",), ("gate/doc_names.py",), ("gate/style.py",), ("gate/edit_index.py", "-q"),
@@ -30,11 +31,12 @@ BEFORE = (
 )
 BEHIND = (
     ("docs/run_examples.sh",), ("docs/man_examples.py",), ("gate/run_rows.py",),
-    ("oracles/random_cases.py", "-n", "5000", "-u", "-w", "-z", "-k", "-p", "-q", "-1", "-x"),
+    ("oracles/random_cases.py", "-n", "5000", "-u", "-w", "-z", "-k", "-p", "-q", "-b", "-1", "-x"),
     ("oracles/both_judges.py",),
     ("oracles/dense_lines.py",), ("oracles/slow_abnfx.py",), ("oracles/random_texts.py", "-n", "300"),
+    ("oracles/random_pairs.py", "-n", "300"),
     ("bench/hostile_grammars.py",), ("gate/faults.py",), ("gate/completions_test.py",), ("gate/package_test.py",),
-    ("gate/library_test.py",), ("gate/python_test.py",)
+    ("gate/line_buffered_test.py",), ("gate/library_test.py",), ("gate/python_test.py",)
 )
 TOP = pathlib.Path(__file__).resolve().parents[2]
 RT = os.environ.get("RT", "rt").split()

@@ -30,7 +30,7 @@ DEFINITION = re.compile(r"(?:(?:unfoldable|abbrev|pub|data|record) )+([^\s(){}:.
 # stand and whose words they speak.
 LANGUAGES = (
     {"abnfread", "abnfprint", "abnfexplain", "abnfcheck", "abnfrun", "flatgrammar", "lowering"},
-    {"pegread", "pegexplain", "pegnodes", "gramcheck", "pegrun", "pegmatch"},
+    {"pegread", "pegprint", "pegfaults", "pegexplain", "pegnodes", "gramcheck", "pegrun", "pegmatch"},
     {"diagnostics", "lexer", "rulenames", "ruletable", "toolrun"},
 )
 # Names that stand in crates of one language, or in crates that speak of something else each; agreed, and not to grow.
@@ -44,19 +44,21 @@ TWINS = set(
     run_text spots_of steps_of taken_at unit_of unmarked way_of
     """.split()
 )
-# The most crates of the workspace, and the most that a chain of uses has which ends in a program.
-MOST_CRATES = 50
+# The most crates of the workspace, and the most that a chain of uses has which ends in a program. A program is a crate
+# of its own, as `abnfd`. `derivedlines` holds what a program that lists lines will run.
+MOST_CRATES = 52
 LONGEST_CHAIN = 10
 # The programs, each with the parts of crates.txt of which it uses nothing, and the most crates below it.
 PROGRAMS = {
     "pegi": ({"ABNF", "RFCs"}, None),
     "abnfi": ({"peg", "RFCs"}, None),
     "abnfx": ({"peg"}, 15),
+    "abnfd": ({"peg", "RFCs"}, None),
 }
 # The most functions that a crate has, and the crates that have more: so many each. Tests count for nothing.
 LARGEST_CRATE = 105
-# lazydfa: `States` needs the transitions that `Automaton` has, and a crate of its own would make them public.
-LARGER = {"lazydfa": 114}
+# lazydfa: `States` and `expected` need what `Automaton` has, and a crate of their own would make it public.
+LARGER = {"lazydfa": 115}
 # The most entries that a folder has, and the folders that have more.
 LARGEST_FOLDER = 40
 WIDER = {"crates": MOST_CRATES, "docs/crates": MOST_CRATES}

@@ -44,7 +44,8 @@ def is_alike(example, copy):
 
 
 def main():
-    examples = sorted({it.parent for it in (TOP / "examples").glob("*/*.abnf")})
+    folders = sorted({it.parent for it in (TOP / "examples").glob("*/*.abnf")})
+    examples = [it for it in folders if (it / "run.sh").read_text().startswith("abnfi ")]
     with tempfile.TemporaryDirectory(prefix="judges-") as folder:
         wrong = [it.name for it in examples if not is_alike(it, pathlib.Path(folder) / it.name)]
     for name in wrong:

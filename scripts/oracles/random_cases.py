@@ -1,17 +1,17 @@
 #!/usr/bin/env python3
 """Compares bin/pegi and bin/abnfi with slow answers to random grammars and inputs (slow_peg.py, slow_abnf.py).
 
-usage: random_cases.py [-n COUNT] [-s SEED] [-u] [-w] [-z] [-k] [-p] [-q] [-1] [-x] [pegi | abnfi]
+usage: random_cases.py [-n COUNT] [-s SEED] [-u] [-w] [-z] [-k] [-p] [-q] [-b] [-1] [-x] [pegi | abnfi]
 
 A case is a unit that pegi tries, a line that abnfi judges, or a grammar that is refused. COUNT cases are compared, half
 of them by each program; 20000 if it is not given. Cases and their order follow from the seed alone. Prints how many
 cases were compared; at the first disagreement it prints the case and ends with status 1. A program that is not built is
 skipped. With -u half of the runs of abnfi have its option `-u utf8`; so it is with -w, -z and -k, and its options of
-these names. With -p most of them have its option `-p` or `-n`, with -q some its option `-q`. With -1 a third of the
-runs of pegi have its option `-1`. With -x half of the runs of both have the option `-x`, half of these with what
-explains their notes, with hints (slow_notes.py, slow_hints.py), how the run of pegi stops (slow_stops.py), and refused
-lines (slow_refused.py), the others of a text with a fault (slow_faults.py): a grammar's, of which some bytes are
-changed.
+these names. With -p most of them have its option `-p` or `-n`, with -q some its option `-q`, with -b half of them
+`--line-buffered`. With -1 a third of the runs of pegi have its option `-1`. With -x half of the runs of both have the
+option `-x`, half of these with what explains their notes, with hints (slow_notes.py, slow_hints.py), how the run of
+pegi stops (slow_stops.py), and refused lines (slow_refused.py), the others of a text with a fault (slow_faults.py): a
+grammar's, of which some bytes are changed.
 """
 import argparse
 import collections
@@ -137,7 +137,8 @@ def abnf_case(r, may):
     limit = r.choice([65536] * 8 + [5, 8])
     words = ["-l", str(limit)] + (["-s", judged] if judged else []) + ["-u", "utf8"] * is_utf8 + ["-w"] * is_viable
     is_quiet = "q" in may and r.random() < 0.2
-    words += ["-z"] * is_nul + ["-k"] * is_kept + ["-q"] * is_quiet
+    is_buffered = "b" in may and r.random() < 0.5
+    words += ["-z"] * is_nul + ["-k"] * is_kept + ["-q"] * is_quiet + ["--line-buffered"] * is_buffered
     longest = 40 if rules in random_abnf.SHAPES else 10
     end = b"\0" if is_nul else b"\n"
     given = random_abnf.given(r, rules, judged, LINES, longest, is_utf8, end)
@@ -212,13 +213,14 @@ def main():
     words.add_argument("-k", action="store_true", help="half of the runs of abnfi by `-k`")
     words.add_argument("-p", action="store_true", help="most of the runs of abnfi by `-p` or `-n`")
     words.add_argument("-q", action="store_true", help="some of the runs of abnfi by `-q`")
+    words.add_argument("-b", action="store_true", help="half of the runs of abnfi by `--line-buffered`")
     words.add_argument("-1", action="store_true", help="a third of the runs of pegi by `-1`")
     words.add_argument("-x", action="store_true", help="half of the runs of both by `-x`")
     words.add_argument("program", nargs="?", choices=["pegi", "abnfi"])
     given = words.parse_args()
     sys.setrecursionlimit(20000)
     count = given.n // 2 if given.program is None else given.n
-    may = [it for it in "uwzkpq1x" if getattr(given, it)]
+    may = [it for it in "uwzkpqb1x" if getattr(given, it)]
     right = True
     with tempfile.TemporaryDirectory(prefix="random_cases-") as folder:
         for name, make in (("pegi", lambda r: peg_case(r, may)),

@@ -3,9 +3,8 @@
 use Rattle.std.proofs.Common.{◌≡◌, ◌≢◌, ℕ, ◌+◌, ◌-◌, ◌<◌, ◌≤◌, Bool, true, false, List, [], ◌∷◌, ◌++◌, length}
 use Rattle.std.proofs.Common.{map, take, drop, get_or, Option, None, Some, inl, inr, refl, sym, ◌∙◌, subst, ap, arith}
 use Rattle.std.proofs.Common.{append_assoc, append-nil, not}
-use Rattle.std.specs.Option.{is_some}
-use Rattle.std.proofs.lemmas.Bool.{cases_eq, cases_order}
-use Rattle.std.proofs.lemmas.List.{take-map, length-map, drop_all}
+use Rattle.std.proofs.lemmas.Bool.{cases_eq, cases_lt, cases_order}
+use Rattle.std.proofs.lemmas.List.{take-map, length-map, length-take, drop_all}
 use Rattle.ruletable.specs.declared.fault.ReadFault.{ReadFault}
 use Rattle.ruletable.specs.declared.fault.ReadFault.TheVariants as faults
 use Rattle.abnfread.specs.AbnfReading.{Reads, IsFaultOf}
@@ -14,10 +13,13 @@ use Rattle.abnfblocks.specs.TextLines.{NumberedLine, numbered}
 use Rattle.abnfblocks.specs.declared.rfctext.text_line.TextLine.{TextLine}
 use Rattle.abnfblocks.specs.RuleCuts.{IsCut, cut_text, ends_cut, first_rule, full_size, lines_text, margin_at}
 use Rattle.abnfblocks.specs.RuleCuts.{rule_size}
-use Rattle.abnfblocks.specs.FoundRules.{AreFound, IsAbnf, IsAbnfCut, IsCutOutcome, IsFoundOf, IsLongestCut, IsNoAbnf}
+use Rattle.abnfblocks.specs.FoundRules.{AreFound, IsAbnf, IsAbnfCut, IsFoundOf, IsLongestCut, IsNoAbnf}
 use Rattle.abnfblocks.specs.FoundRules.{IsOutcome, IsShorter, none_left, no_rule, a_rule}
 use Rattle.abnfblocks.specs.RuleLines.{margin_of, begins_rule_line}
 use Rattle.abnfblocks.specs.declared.found.Found.{Found}
+use Rattle.abnfblocks.specs.RuleEnds.{AreTests, IsCutLimit, line_bound}
+use Rattle.abnfblocks.proofs.RuleEndLemmas.{tested-cut}
+use Rattle.abnfblocks.proofs.FaultLineLemmas.{fault-bars}
 use Rattle.abnfblocks.proofs.RuleCutLemmas.{cut-bound, full-cut, rest-rows, row-behind}
 
 -- a text with a fault reads as nothing
@@ -25,18 +27,8 @@ abbrev pub FaultsBar : Type 0
 FaultsBar = (text : List ℕ) (definitions : List Definition) (fault : ReadFault) → IsFaultOf text fault
     → fault ≢ faults.Memory → Reads text definitions → ⊥
 
-abbrev pub is_nothing : Option ReadFault → Bool
-is_nothing None = true
-is_nothing (Some fault) = false
-
 outcome-bars : FaultsBar → (text : List ℕ) (fault : ReadFault) → IsOutcome text (Some fault) → IsAbnf text → ⊥
 outcome-bars bar text fault (is_fault, other) (definitions, read) = bar text definitions fault is_fault other read
-
-pub nothing-is : (r : Option ReadFault) (b : Bool) → is_some r ≡ not b → is_nothing r ≡ b
-nothing-is None true e = refl
-nothing-is None false e = cc
-nothing-is (Some fault) true e = cc
-nothing-is (Some fault) false e = refl
 
 pub no-cut : (n : ℕ) (rows : List NumberedLine) (b : Bool) → b ≡ ends_cut rows n → b ≡ false → IsAbnfCut rows n → ⊥
 no-cut n rows b e f h =
@@ -48,6 +40,14 @@ pub first-margin : (lines : List TextLine) (d : TextLine) (m : ℕ) → 0 < leng
     → m ≡ margin_of (get_or lines 0 d).bytes.now → m ≡ margin_at (map numbered lines)
 first-margin [] d m lt e = absurd (omega (arith, lt))
 first-margin (line ∷ lines) d m lt e = e
+
+bound-within : (fault : ReadFault) (n : ℕ) → line_bound fault n ≤ n
+bound-within (faults.Syntax line) n = omega arith
+bound-within (faults.Depth line) n = omega arith
+bound-within (faults.NumberTooLarge line) n = omega arith
+bound-within (faults.CodePredicate line) n = omega arith
+bound-within faults.TooLong n = omega arith
+bound-within faults.Memory n = omega arith
 
 module _ (lines : List TextLine) (m : ℕ) (same : m ≡ margin_at (map numbered lines)) where
   abbrev rows : List NumberedLine
@@ -61,15 +61,26 @@ module _ (lines : List TextLine) (m : ℕ) (same : m ≡ margin_at (map numbered
       → IsOutcome (cut_text rows n) r
   outcome-at n r h = subst (λ (t : List ℕ). IsOutcome t r) (text-is n) h
 
-  pub cut-outcome : FaultsBar → (n : ℕ) (b : Bool) (r : Option ReadFault) → 0 < n → n ≤ length lines
-      → b ≡ ends_cut rows n → b ≡ true → IsOutcome (lines_text m (map numbered (take n lines))) r
-      → IsCutOutcome rows n (is_nothing r)
-  cut-outcome bar n b None some within e t h = (
+  pub cut-reads : (n : ℕ) (b : Bool) → 0 < n → n ≤ length lines → b ≡ ends_cut rows n → b ≡ true
+      → IsOutcome (lines_text m (map numbered (take n lines))) None → IsAbnfCut rows n
+  cut-reads n b some within e t h = (
     record { some = some; within = omega (arith, within, length-map lines numbered); ends = sym e ∙ t },
     outcome-at n None h,
   )
-  cut-outcome bar n b (Some fault) some within e t h =
-      λ k. outcome-bars bar (cut_text rows n) fault (outcome-at n (Some fault) h) k.1
+
+  pub fault-limit : FaultsBar → (n : ℕ) (fault : ReadFault)
+      → IsOutcome (lines_text m (map numbered (take n lines))) (Some fault)
+      → (line_bound fault n ≤ n) × ((k : ℕ) → line_bound fault n ≤ k → k ≤ n → IsAbnfCut rows k → ⊥)
+  fault-limit bar n fault h = (
+    bound-within fault n,
+    λ k le within (cut, read).
+        let here = outcome-at n (Some fault) h in
+        elim (cases_order k n) [
+          | inl e ↦ outcome-bars bar (cut_text rows n) fault here (subst (λ (j : ℕ). IsAbnf (cut_text rows j)) e read)
+          | inr (inl less) ↦ fault-bars (margin_at rows) rows n k cut.some less cut.within read.1 fault le here.0
+          | inr (inr more) ↦ absurd (omega arith)
+        ],
+  )
 
   module _ (n : ℕ) (some : 0 < length lines) (size : n ≡ full_size rows) where
     whole-cut : IsCut rows n
@@ -82,14 +93,14 @@ module _ (lines : List TextLine) (m : ℕ) (same : m ≡ margin_at (map numbered
       longest = λ k lt cut read. absurd (omega (arith, lt, size, cut-bound rows k cut));
     }
 
-    module _ (bar : FaultsBar) (fault : ReadFault) (k : ℕ) (shorter : IsShorter rows n k)
+    module _ (bar : FaultsBar) (fault : ReadFault) (k : ℕ) (shorter : IsShorter rows (line_bound fault n) k)
         (h : IsOutcome (lines_text m (map numbered (take n lines))) (Some fault)) where
       none-beyond : (i : ℕ) → k < i → IsCut rows i → IsAbnf (cut_text rows i) → ⊥
-      none-beyond i lt cut read = elim (cases_order i n) [
-        | inl e ↦ outcome-bars bar (cut_text rows n) fault (outcome-at n (Some fault) h)
-            (subst (λ (j : ℕ). IsAbnf (cut_text rows j)) e read)
-        | inr (inl less) ↦ shorter.1 i lt less (cut, read)
-        | inr (inr more) ↦ absurd (omega (arith, more, size, cut-bound rows i cut))
+      none-beyond i lt cut read = elim (cases_lt i (line_bound fault n)) [
+        | inl before ↦ shorter.1 i lt before (cut, read)
+        | inr le ↦ (
+            let bound = cut-bound rows i cut in
+            (fault-limit bar n fault h).1 i le (omega (arith, size)) (cut, read))
       ]
 
       pub shorter-reads : 0 < k → IsLongestCut rows k
@@ -104,19 +115,36 @@ module _ (lines : List TextLine) (m : ℕ) (same : m ≡ margin_at (map numbered
         fault_is = outcome-at n (Some fault) h;
       }
 
-pub none-more : (rows : List NumberedLine) (n limit : ℕ) → 0 < n
-    → ((k : ℕ) → n < k → k < limit → IsAbnfCut rows k → ⊥) → (IsAbnfCut rows n → ⊥)
-    → (k : ℕ) → n - 1 < k → k < limit → IsAbnfCut rows k → ⊥
-none-more rows n limit more none here k lt within h = elim (cases_eq k n) [
-  | inl e ↦ here (subst (λ (i : ℕ). IsAbnfCut rows i) e h)
-  | inr other ↦ none k (omega (arith, lt, other)) within h
+-- where so many lines are no cut that reads, they are the limit
+pub limit-here : (rows : List NumberedLine) (n : ℕ) → (IsAbnfCut rows n → ⊥) → IsCutLimit rows n (Some n)
+limit-here rows n none = (
+  omega arith,
+  λ k le within h. let e : k ≡ n = omega arith in
+      none (subst (λ (j : ℕ). IsAbnfCut rows j) e h),
+)
+
+pub limit-more : (rows : List NumberedLine) (n lower limit : ℕ)
+    → ((k : ℕ) → n < k → k < limit → IsAbnfCut rows k → ⊥) → IsCutLimit rows n (Some lower)
+    → (k : ℕ) → lower - 1 < k → k < limit → IsAbnfCut rows k → ⊥
+limit-more rows n lower limit none here k lt within h = elim (cases_lt n k) [
+  | inl more ↦ none k more within h
+  | inr le ↦ here.1 k (omega arith) le h
 ]
 
-pub cut-yes : (n : ℕ) (rows : List NumberedLine) (b : Bool) → b ≡ true → IsCutOutcome rows n b → IsAbnfCut rows n
-cut-yes n rows b e h = rw e at h
+pub tests-within : (rule : List TextLine) (m limit : ℕ) (tests : List Bool)
+    → AreTests m (map numbered (take (limit - 1) rule)) tests → length tests ≤ limit - 1
+tests-within rule m limit tests h =
+    let within = h.within in
+    omega (arith, length-map (take (limit - 1) rule) numbered, length-take (limit - 1) rule)
 
-pub cut-no : (n : ℕ) (rows : List NumberedLine) (b : Bool) → b ≡ false → IsCutOutcome rows n b → IsAbnfCut rows n → ⊥
-cut-no n rows b e h = rw e at h
+-- more lines than were tested
+pub untested-bars : (rule : List TextLine) (m limit : ℕ) (tests : List Bool) → m ≡ margin_at (map numbered rule)
+    → limit ≤ length rule → AreTests m (map numbered (take (limit - 1) rule)) tests → (k : ℕ) → length tests < k
+    → k < limit → IsAbnfCut (map numbered rule) k → ⊥
+untested-bars rule m limit tests margin within h k more less (cut, read) =
+    let size : length (map numbered (take (limit - 1) rule)) ≡ limit - 1 =
+    omega (arith, length-map (take (limit - 1) rule) numbered, length-take (limit - 1) rule) in
+    h.long k more (omega arith) (subst IsAbnf (sym (tested-cut rule m (limit - 1) k margin (omega arith))) read)
 
 module _ (lines : List TextLine) (i : ℕ) (before : List Found) (lt : i < length lines)
     (all : (others : List Found) → AreFound i (drop i (map numbered lines)) others

@@ -8,3 +8,7 @@ pub mod KeptLemmas
 pub mod CutPartLemmas
 pub mod MaskedLinesLemmas
 pub mod OpenTagLemmas
+pub mod LineEndLemmas
+pub mod LineTokenLemmas
+pub mod RuleEndLemmas
+pub mod FaultLineLemmas

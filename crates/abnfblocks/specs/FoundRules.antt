@@ -1,5 +1,5 @@
 -- The rules of lines, and the lines that begin a rule of which nothing reads.
-use Rattle.std.specs.Prelude.{◌≡◌, ◌≢◌, ℕ, ◌+◌, ◌<◌, true, false, Bool, List, [], ◌∷◌, map, Option, None, Some}
+use Rattle.std.specs.Prelude.{◌≡◌, ◌≢◌, ℕ, ◌+◌, ◌<◌, true, false, List, [], ◌∷◌, map, Option, None, Some}
 use Rattle.std.specs.List.{enumerate_from, filter}
 use Rattle.ruletable.specs.declared.fault.ReadFault.{ReadFault}
 use Rattle.ruletable.specs.declared.fault.ReadFault.TheVariants as faults
@@ -57,11 +57,6 @@ rule_starts i lines = map (λ p. p.0) (filter (λ p. opens_rule p.1) (enumerate_
 -- so many lines of a rule are a cut that reads
 abbrev pub IsAbnfCut : List NumberedLine → ℕ → Type 0
 IsAbnfCut rule n = IsCut rule n × IsAbnf (cut_text rule n)
-
--- whether that is so
-abbrev pub IsCutOutcome : List NumberedLine → ℕ → Bool → Type 0
-IsCutOutcome rule n true = IsAbnfCut rule n
-IsCutOutcome rule n false = IsAbnfCut rule n → ⊥
 
 -- n is 0 or a cut that reads, and none does of more lines and less than the limit
 abbrev pub IsShorter : List NumberedLine → ℕ → ℕ → Type 0

@@ -9,3 +9,5 @@ pub mod Furniture
 pub mod KeptSteps
 pub mod LineKinds
 pub mod TextLines
+pub mod LinkedLines
+pub mod RuleEnds

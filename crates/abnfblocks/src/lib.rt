@@ -1,6 +1,7 @@
 //! The rules of ABNF among the lines of a text.
 #![tactic(auto)]
 
+mod ends;
 mod found;
 mod look;
 mod reading;

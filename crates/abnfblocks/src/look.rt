@@ -1,36 +1,58 @@
 //! The longest cut of a rule that is ABNF.
-ghost use Rattle.std.specs.Prelude.{◌≡◌, ◌<◌, ◌≤◌, length, map, IfOk};
+ghost use Rattle.std.specs.Prelude.{◌≡◌, ◌<◌, ◌≤◌, false, length, map, IfOk};
 ghost use Rattle.abnfblocks.specs.TextLines.{numbered};
-ghost use Rattle.abnfblocks.specs.RuleCuts.{margin_at};
-ghost use Rattle.abnfblocks.specs.FoundRules.{IsCutOutcome, IsFoundOf, IsShorter};
+ghost use Rattle.abnfblocks.specs.RuleCuts.{cut_text, margin_at};
+ghost use Rattle.abnfblocks.specs.RuleEnds.{IsCutLimit, line_bound};
+ghost use Rattle.abnfblocks.specs.FoundRules.{IsAbnf, IsFoundOf, IsShorter};
 
+use crate::ends::may_end;
 use crate::found::Found;
 use crate::reading::fault_of;
 use crate::rfctext::TextLine;
 use crate::rule::{full_size, is_cut};
 use crate::rule_line::margin;
 use abnfread::one_reading;
-use ruletable::Memory;
+use ruletable::{Memory, ReadFault};
 use std::alloc::Global;
 
-// Returns whether so many lines of a rule are a cut, and read as ABNF without that margin.
-fn is_abnf_cut(
+// Returns the line of the fault of so many lines of a rule, or how many there are. No cut that has this line reads.
+fn fault_line(fault: ReadFault, size: usize) -> usize
+    ensures { result ≡ line_bound fault size }
+{
+    match fault {
+        ReadFault::Syntax { line }
+        | ReadFault::Depth { line }
+        | ReadFault::NumberTooLarge { line } => line.min(size),
+        _ => size,
+    }
+}
+
+// Returns `None` if so many lines of a rule are a cut, and read as ABNF without that margin; or else a limit: no cut
+// from there up to this one reads. The lines do not read where the test of their tokens is false.
+fn cut_limit(
     alloc: Global,
     margin_size: usize,
     rule: &[TextLine<'_>],
     size: usize,
-) -> Result<bool, Memory>
+    may_end_there: bool,
+) -> Result<Option<usize>, Memory>
     requires some { 0 < size }
     requires within { size ≤ length rule.now }
     requires margin { margin_size ≡ margin_at (map numbered rule.now) }
-    ensures { IfOk result (λ reads. IsCutOutcome (map numbered rule.now) size reads) }
+    requires bar { may_end_there ≡ false → IsAbnf (cut_text (map numbered rule.now) size) → ⊥ }
+    ensures { IfOk result (λ limit. IsCutLimit (map numbered rule.now) size limit) }
 {
+    if !may_end_there {
+        return Ok(Some(size));
+    }
     if !is_cut(rule, size) {
-        return Ok(false);
+        return Ok(Some(size));
     }
     one_reading();
-    let fault = fault_of(alloc, margin_size, &rule[..size])?;
-    Ok(fault.is_none())
+    match fault_of(alloc, margin_size, &rule[..size])? {
+        None => Ok(None),
+        Some(fault) => Ok(Some(fault_line(fault, size))),
+    }
 }
 
 // Returns the size of the longest cut of less than so many lines that reads, or 0.
@@ -40,18 +62,17 @@ fn shorter_cut(
     rule: &[TextLine<'_>],
     limit: usize,
 ) -> Result<usize, Memory>
-    requires some { 0 < limit }
     requires within { limit ≤ length rule.now }
     requires margin { margin_size ≡ margin_at (map numbered rule.now) }
     ensures { IfOk result (λ size. IsShorter (map numbered rule.now) limit size) }
 {
-    let mut size = limit - 1;
+    let tests = may_end(alloc, margin_size, &rule[..limit.saturating_sub(1)])?;
+    let mut size = tests.len();
     while size > 0 {
-        let reads = is_abnf_cut(alloc, margin_size, rule, size)?;
-        if reads {
-            return Ok(size);
+        match cut_limit(alloc, margin_size, rule, size, tests[size - 1])? {
+            None => return Ok(size),
+            Some(lower) => size = lower.saturating_sub(1),
         }
-        size -= 1;
     }
     Ok(0)
 }
@@ -74,7 +95,8 @@ pub(crate) fn look_at(alloc: Global, first: usize, rule: &[TextLine<'_>]) -> Res
             count: longest,
         }),
         Some(fault) => {
-            let count = shorter_cut(alloc, margin_size, rule, longest)?;
+            let limit = fault_line(fault, longest);
+            let count = shorter_cut(alloc, margin_size, rule, limit)?;
             if count > 0 {
                 return Ok(Found::Rule { first, count });
             }

@@ -1,16 +1,17 @@
 //! The checks of a grammar in ABNF.
-ghost use Rattle.std.specs.Prelude.{◌≡◌, ◌↔◌, ◌≤◌, ◌++◌, ℕ, Bool, List, length, map, IfOk, option_copied};
+ghost use Rattle.std.specs.Prelude.{◌≡◌, ◌↔◌, ◌≤◌, ◌++◌, ℕ, Bool, List, length, map, IfOk, MatchOption, option_copied};
 ghost use Rattle.ruletable.specs.Rules.{names_of};
 ghost use Rattle.abnfread.specs.Element.{Rule};
 ghost use Rattle.abnfread.specs.AbnfViews.{rules_of};
 ghost use Rattle.ruletable.specs.Notes.{said_of};
+ghost use Rattle.abnfcheck.specs.AbnfGrammar.{IsSoundGrammar};
 ghost use Rattle.abnfcheck.specs.AbnfNotes.{judged_in, AreNotes, IsRefused, IsSoundUnlessRefused};
 ghost use Rattle.abnfcheck.specs.AbnfUses.{rule_names};
 ghost use Rattle.abnfcheck.specs.NameIds.{IsIdAt};
 ghost use Rattle.abnfcheck.specs.WithCore.{with_core};
 
 use crate::abnf_notes::{is_refused, note_marks, notes_on};
-use crate::joined::join;
+use crate::joined::{AllRules, join};
 use crate::name_ids::name_ids;
 use crate::prose::rules_with_prose;
 use crate::sound_abnf::SoundAbnf;
@@ -58,16 +59,61 @@ pub fn check_abnf(
     ensures sound { IfOk result (λ c. IsSoundUnlessRefused (rules_of abnf.rules)
         (with_core abnf.rules abnf.core.rules) abnf.redefined.items (option_copied rule.entry) c.sound) }
 {
+    let JudgedAbnf { notes, all, judged } = judge_abnf(alloc, abnf, rule)?;
+    match judged {
+        Some(id) => Ok(Checked {
+            notes,
+            sound: Some(SoundAbnf::new(all.rules, id)),
+        }),
+        None => Ok(Checked { notes, sound: None }),
+    }
+}
+
+/// The result of the checks of a grammar, whose rules stand also if a note rejects it.
+#[derive(Drop)]
+pub struct JudgedAbnf {
+    /// The notes on it, in order.
+    pub notes: Vec<Note>,
+    /// Its rules and the core rules that it leaves alone.
+    pub all: AllRules,
+    /// The id of the judged rule, unless a note rejects the grammar.
+    pub judged: Option<usize>,
+}
+
+/// Checks a grammar as `check_abnf` does, and returns its rules whether or not a note rejects it. The notes are those
+/// of `check_abnf`.
+///
+/// # Errors
+/// `Memory` if an allocation fails; the grammar is dropped then.
+pub fn judge_abnf(alloc: Global, abnf: Abnf, rule: Option<&str>) -> Result<JudgedAbnf, Memory>
+    ensures notes { IfOk result (λ c. AreNotes (rules_of abnf.rules) (rules_of (with_core abnf.rules abnf.core.rules))
+        abnf.redefined.items abnf.extended.items (option_copied rule.entry) (map said_of c.notes.items)) }
+    ensures rules { IfOk result (λ c. c.all.rules ≡ with_core abnf.rules abnf.core.rules) }
+    ensures count { IfOk result (λ c. c.all.count ≡ length abnf.rules.rules) }
+    ensures judged { IfOk result (λ c. MatchOption c.judged
+        (IsRefused (rules_of abnf.rules) (rules_of c.all.rules) abnf.redefined.items
+        (judged_in (option_copied rule.entry) (rules_of c.all.rules)))
+        (λ id. (IsRefused (rules_of abnf.rules) (rules_of c.all.rules) abnf.redefined.items
+        (judged_in (option_copied rule.entry) (rules_of c.all.rules)) → ⊥)
+        × (id ≡ judged_in (option_copied rule.entry) (rules_of c.all.rules))
+        × IsSoundGrammar (record { rules = c.all.rules; judged = id }))) }
+{
     let count = abnf.rules.len();
     let rules = join(alloc, abnf.rules, abnf.core)?;
     let found = found_in(alloc, &rules, count, &abnf.redefined, &abnf.extended, rule)?;
     let notes = found.notes;
+    let all = AllRules { rules, count };
     if found.refused {
-        return Ok(Checked { notes, sound: None });
+        return Ok(JudgedAbnf {
+            notes,
+            all,
+            judged: None,
+        });
     }
-    Ok(Checked {
+    Ok(JudgedAbnf {
         notes,
-        sound: Some(SoundAbnf::new(rules, found.judged)),
+        all,
+        judged: Some(found.judged),
     })
 }
 

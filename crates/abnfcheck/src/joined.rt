@@ -18,10 +18,19 @@ fn take_body(alloc: Global, rules: &mut RuleTable<Elem>, id: usize) -> Elem
     mem::replace(rules.body_mut(id), Elem::Prose(Vec::new(alloc)))
 }
 
+/// The rules of a file, and then the core rules that it leaves alone (RFC 5234, appendix B.1).
+#[derive(Drop)]
+pub struct AllRules {
+    /// The rules, by id.
+    pub rules: RuleTable<Elem>,
+    /// How many of them the file has.
+    pub count: usize,
+}
+
 /// Returns the file's rules, then the core rules that it leaves alone.
 ///
 /// `Memory` if an allocation fails.
-pub fn join(
+pub(crate) fn join(
     alloc: Global,
     file: RuleTable<Elem>,
     core: RuleTable<Elem>,

@@ -17,9 +17,9 @@ mod rule_marks;
 mod sound_abnf;
 mod table_marks;
 
-pub use abnf_check::{Checked, check_abnf};
+pub use abnf_check::{Checked, JudgedAbnf, check_abnf, judge_abnf};
 pub use decided_law::{derivation_is_decided, furthest_is_found};
-pub use joined::join;
+pub use joined::AllRules;
 pub use notes_law::one_list_of_abnf_notes;
 pub use nullable_marks::nullable_rules;
 pub use productive_marks::productive;

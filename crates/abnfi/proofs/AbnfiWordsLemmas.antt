@@ -6,7 +6,7 @@ use Rattle.clap.specs.Words.{App, found_of, is_simple, is_simple_and_free, rows_
 use Rattle.clap.specs.declared.parser.matches.ArgMatches.{ArgMatches}
 use Rattle.abnfi.specs.AbnfiCommand.{AsksAbnfi, IsAbnfiApp, ReadsAbnfi, abnfi_app, alphabet_named, printed_named}
 use Rattle.abnfrun.specs.declared.options.AbnfOptions.{AbnfOptions}
-use Rattle.cli.proofs.AreWholeLemmas.{first_arg, flag_is, grammar_is, is_command, limit_is}
+use Rattle.cli.proofs.AreWholeLemmas.{first_arg, flag_is, grammar_is, is_command, limit_is, long_flag_is}
 use Rattle.cli.proofs.AskLemmas.{first_found, flag_found}
 use Rattle.cli.specs.Asked.{AreWhole}
 use Rattle.cli.specs.Command.{Names}
@@ -70,4 +70,8 @@ options_are m options by read =
           (flag_is c app.top.rules is m by.4 d 13 (codes "quiet") 113
           (record { named = λ n. cc; help = refl; version = refl })
           (record { within = omega arith; at = λ q. refl; only = refl })) read.quiet;
+      line_buffered = flag_found f (rows_of f) refl (codes "line-buffered") options.line_buffered
+          (long_flag_is c app.top.rules is m by.4 d 14 (codes "line-buffered")
+          (record { named = λ n. cc; help = refl; version = refl })
+          (record { within = omega arith; at = λ q. refl; only = refl })) read.line_buffered;
     }

@@ -8,7 +8,7 @@ use Rattle.clap.specs.declared.builder.value_parser.ValueParser.TheVariants as v
 use Rattle.clap.specs.declared.parser.matches.Found.{Found}
 use Rattle.abnfrun.specs.declared.options.AbnfOptions.{AbnfOptions}
 use Rattle.cli.specs.Asked.{IsFlagOf, is_flagged}
-use Rattle.cli.specs.Command.{AreModes, Names, flag_rule, long_named, tool_app}
+use Rattle.cli.specs.Command.{AreModes, Names, flag_rule, long_flag_rule, long_named, tool_app}
 use Rattle.letters.specs.declared.alphabet.Alphabet.{Alphabet}
 use Rattle.letters.specs.declared.alphabet.Alphabet.TheVariants.{Bytes, Utf8}
 use Rattle.linejudge.specs.declared.printed.Printed.{Printed}
@@ -68,12 +68,16 @@ keep_rule = flag_rule (codes "keep-ends") (code "k")
 abbrev pub quiet_rule : Rule
 quiet_rule = flag_rule (codes "quiet") (code "q")
 
--- `abnfi [-m MODE] [-l N] [-s RULE] [-u MODE] [-p WHAT] [-n] [-w] [-z] [-k] [-q] [-x] GRAMMAR [FILE]`
+-- `--line-buffered`
+abbrev pub buffered_rule : Rule
+buffered_rule = long_flag_rule (codes "line-buffered")
+
+-- `abnfi [-m MODE] [-l N] [-s RULE] [-u MODE] [-p WHAT] [-n] [-w] [-z] [-k] [-q] [--line-buffered] [-x] GRAMMAR [FILE]`
 abbrev pub abnfi_app : Names → Names → Names → App
 abnfi_app names alphabets printed =
-    with_rule (with_rule (with_rule (with_rule (with_rule (with_rule (with_rule (tool_app names (codes "abnfi"))
-    (long_named (letters_rule alphabets))) viable_rule) nul_rule) (long_named (print_rule printed))) number_rule)
-    keep_rule) quiet_rule
+    with_rule (with_rule (with_rule (with_rule (with_rule (with_rule (with_rule (with_rule
+    (tool_app names (codes "abnfi")) (long_named (letters_rule alphabets))) viable_rule) nul_rule)
+    (long_named (print_rule printed))) number_rule) keep_rule) quiet_rule) buffered_rule
 
 -- this is the command of the program
 abbrev pub IsAbnfiApp : App → Type 0
@@ -101,6 +105,7 @@ pub record ReadsAbnfi (f : Found) (options : AbnfOptions) : Type 0 where
   pub printed : options.printed ≡ printed_named (first_value f (codes "print"))
   pub numbered : IsFlagOf (one_text f (codes "line-number")) options.numbered
   pub quiet : IsFlagOf (one_text f (codes "quiet")) options.quiet
+  pub line_buffered : IsFlagOf (one_text f (codes "line-buffered")) options.line_buffered
 
 -- the matches ask for these options
 pub record AsksAbnfi (rows : List Row) (options : AbnfOptions) : Type 0 where
@@ -111,3 +116,4 @@ pub record AsksAbnfi (rows : List Row) (options : AbnfOptions) : Type 0 where
   pub printed : options.printed ≡ printed_named (first_of (codes "print") rows)
   pub numbered : options.numbered ≡ is_flagged (one_of (codes "line-number") rows)
   pub quiet : options.quiet ≡ is_flagged (one_of (codes "quiet") rows)
+  pub line_buffered : options.line_buffered ≡ is_flagged (one_of (codes "line-buffered") rows)

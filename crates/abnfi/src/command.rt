@@ -7,7 +7,7 @@ ghost use Rattle.clap.specs.Words.{first_value, found_of, rule_of};
 
 use abnfrun::{AbnfOptions, AbnfSettings, Alphabet, Printed, run_abnf};
 use clap::{Arg, ArgMatches, Command};
-use cli::{Program, add_flag, add_option, tool_command};
+use cli::{BufferedSink, Program, add_flag, add_long_flag, add_option, tool_command};
 use feed::Source;
 use ruletable::Sink;
 use std::alloc::{AllocError, Global};
@@ -40,11 +40,12 @@ Input:
   -k, --keep-ends       Judge each line with its line feed, or its NUL byte
 
 Output:
-  -p, --print <WHAT>  Choose what to print [default: answers] [possible values: answers, derived, refused, count, none]
-  -n, --line-number   Print the number of each line before it
-  -q, --quiet         Print nothing, and end at the first refused line
-  -w, --viable        Write how far a refused line goes: no N
-  -x, --explain       Explain messages in more lines
+  -p, --print <WHAT>   Choose what to print [default: answers] [possible values: answers, derived, refused, count, none]
+  -n, --line-number    Print the number of each line before it
+  -q, --quiet          Print nothing, and end at the first refused line
+      --line-buffered  Answer each line before more input is read
+  -w, --viable         Write how far a refused line goes: no N
+  -x, --explain        Explain messages in more lines
 
 Other options:
   -h, --help     Print this help
@@ -104,7 +105,8 @@ fn printed_of(matches: &ArgMatches<'_>) -> Printed
     }
 }
 
-/// The program `abnfi [-m MODE] [-l N] [-s RULE] [-u MODE] [-p WHAT] [-n] [-w] [-z] [-k] [-q] [-x] GRAMMAR [FILE]`.
+/// The program `abnfi [-m MODE] [-l N] [-s RULE] [-u MODE] [-p WHAT] [-n] [-w] [-z] [-k] [-q] [--line-buffered] [-x]
+/// GRAMMAR [FILE]`.
 pub(crate) struct Abnfi;
 
 impl Program for Abnfi {
@@ -128,7 +130,8 @@ impl Program for Abnfi {
         let command = add_option(command, printed)?;
         let command = add_flag(command, alloc, "line-number", 'n')?;
         let command = add_flag(command, alloc, "keep-ends", 'k')?;
-        add_flag(command, alloc, "quiet", 'q')
+        let command = add_flag(command, alloc, "quiet", 'q')?;
+        add_long_flag(command, alloc, "line-buffered")
     }
 
     fn options(matches: &ArgMatches<'_>) -> AbnfOptions {
@@ -140,10 +143,11 @@ impl Program for Abnfi {
             printed: printed_of(matches),
             numbered: matches.get_flag("line-number"),
             quiet: matches.get_flag("quiet"),
+            line_buffered: matches.get_flag("line-buffered"),
         }
     }
 
-    fn run<I: Source, O: Sink, E: Sink>(
+    fn run<I: Source, O: BufferedSink, E: Sink>(
         alloc: Global,
         grammar: &[u8],
         settings: &AbnfSettings<'_>,
@@ -151,6 +155,7 @@ impl Program for Abnfi {
         out: &mut O,
         err: &mut E,
     ) -> Status {
+        out.write_through(settings.options.line_buffered);
         run_abnf(alloc, grammar, settings, reader, out, err)
     }
 

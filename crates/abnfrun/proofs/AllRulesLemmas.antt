@@ -16,8 +16,8 @@ use Rattle.abnfread.specs.CoreRules.{core_list}
 use Rattle.abnfread.specs.Element.{Rule, Definition}
 use Rattle.abnfread.specs.AbnfViews.{rule_of, rules_of}
 use Rattle.abnfread.specs.declared.elem.Elem.{Elem}
-use Rattle.abnfcheck.specs.AbnfGrammar.{Grammar}
-use Rattle.abnfcheck.specs.AbnfNotes.{AreNotes, IsSoundUnlessRefused, judged_in}
+use Rattle.abnfcheck.specs.AbnfGrammar.{IsSoundGrammar}
+use Rattle.abnfcheck.specs.AbnfNotes.{AreNotes, IsRefused, judged_in}
 use Rattle.abnfcheck.specs.WithCore.{has_name, one_each, left_alone, with_core}
 use Rattle.abnfrun.specs.AbnfLanguage.{IsChecked, IsPrintable}
 use Rattle.abnfprint.specs.AbnfReadBack.{file_rules}
@@ -77,29 +77,36 @@ some_rules definitions = by (file_rules definitions)
     by [] = some_left Fold core_list (omega (arith, core_count))
     by (rule ∷ file) = omega arith
 
-pub is_checked : (text : List ℕ) (given : Option (List ℕ)) (file core : table.Rules Elem) (again early : List ℕ)
-    (notes : List Said) (sound : Option Grammar) →
+pub is_checked : (text : List ℕ) (given : Option (List ℕ)) (file core rules : table.Rules Elem) (again early : List ℕ)
+    (notes : List Said) (judged : Option ℕ) →
     ((definitions : List Definition) × Reads text definitions × IsTableOf definitions file again early)
-    → IsCoreTable core →
+    → IsCoreTable core → rules ≡ with_core file core.rules →
     AreNotes (rules_of file) (rules_of (with_core file core.rules)) again early given notes →
-    IsSoundUnlessRefused (rules_of file) (with_core file core.rules) again given sound
-    → IsChecked text given notes sound
-is_checked text given file core again early notes sound (ds, reads, t) c are ready = record {
+    MatchOption judged (IsRefused (rules_of file) (rules_of rules) again (judged_in given (rules_of rules)))
+    (λ id. (IsRefused (rules_of file) (rules_of rules) again (judged_in given (rules_of rules)) → ⊥)
+    × (id ≡ judged_in given (rules_of rules)) × IsSoundGrammar (record { rules = rules; judged = id }))
+    → IsChecked text given notes rules judged
+is_checked text given file core rules again early notes judged (ds, reads, t) c is are ready = record {
   definitions = ds;
   reads = reads;
-  are_notes = rw (all, t.kept, t.again, t.before) at are;
-  ready = by sound ready;
+  are_notes = rw (joined, t.kept, t.again, t.before) at are;
+  kept = all;
+  ready = by judged ready;
 }
   where
-    all : rules_of (with_core file core.rules) ≡ all_rules ds
-    all = all_same ds file core t.names t.kept c.listed
+    joined : rules_of (with_core file core.rules) ≡ all_rules ds
+    joined = all_same ds file core t.names t.kept c.listed
 
-    by : (sound : Option Grammar) →
-        IsSoundUnlessRefused (rules_of file) (with_core file core.rules) again given sound →
-        MatchOption sound (IsRefusedFor ds given) (λ g. (IsRefusedFor ds given → ⊥) × (rules_of g.rules ≡ all_rules ds)
-        × (g.judged ≡ judged_of ds given))
+    all : rules_of rules ≡ all_rules ds
+    all = ap rules_of is ∙ joined
+
+    by : (judged : Option ℕ) →
+        MatchOption judged (IsRefused (rules_of file) (rules_of rules) again (judged_in given (rules_of rules)))
+        (λ id. (IsRefused (rules_of file) (rules_of rules) again (judged_in given (rules_of rules)) → ⊥)
+        × (id ≡ judged_in given (rules_of rules)) × IsSoundGrammar (record { rules = rules; judged = id })) →
+        MatchOption judged (IsRefusedFor ds given) (λ id. (IsRefusedFor ds given → ⊥) × (id ≡ judged_of ds given))
     by None h = rw (all, t.kept, t.again) at h
-    by (Some g) h = (rw (all, t.kept, t.again) at h.0, ap rules_of h.1 ∙ all, h.2 ∙ ap (judged_in given) all)
+    by (Some id) h = (rw (all, t.kept, t.again) at h.0, h.1 ∙ ap (judged_in given) all)
 
 pub is_printable : (text : List ℕ) (file : table.Rules Elem) (again early : List ℕ) (notes : List Said) →
     ((definitions : List Definition) × Reads text definitions × IsTableOf definitions file again early)

@@ -1,12 +1,13 @@
 -- The answer to one line is the reply to the input that is that line.
 -- Serves: answers_as_a_run, open_abnf
 use Rattle.std.proofs.Common.{◌≡◌, ℕ, Bool, true, false, List, [], ◌∷◌, ◌++◌, refl, sym, ap, arith, ◌≤◌, ◌+◌, length}
-use Rattle.std.proofs.Common.{drop}
+use Rattle.std.proofs.Common.{drop, ◌∙◌}
 use Rattle.std.specs.Prelude.{Some, None, Option}
 use Rattle.std.proofs.lemmas.List.{append-nil, drop_all, length-append}
 use Rattle.abnfcheck.specs.AbnfGrammar.{Grammar}
 use Rattle.abnfrun.specs.AbnfExplainedNotes.{ExplainsAbnfNote}
 use Rattle.abnfread.specs.AbnfViews.{rules_of}
+use Rattle.abnfread.specs.declared.elem.Elem.{Elem}
 use Rattle.abnfrun.specs.AbnfAnswers.{AbnfStates, judges}
 use Rattle.abnfrun.specs.AbnfLanguage.{IsChecked}
 use Rattle.abnfrun.specs.AbnfNoted.{all_rules, judged_of, rule_given}
@@ -25,6 +26,7 @@ use Rattle.linejudge.specs.declared.reached.At.{At}
 use Rattle.linejudge.proofs.KeptLineLemmas.{kept_short}
 use Rattle.linejudge.proofs.LinesLemmas.{ends_quietly}
 use Rattle.ruletable.specs.Notes.{Said}
+use Rattle.ruletable.specs.Rules as table
 use Rattle.toolrun.specs.Input.{Input}
 use Rattle.toolrun.specs.Reply.{Reply}
 use Rattle.toolrun.specs.Explained.{ExplainedIf}
@@ -121,31 +123,43 @@ module _ (Told : List ℕ → Answer → Type 0) (asked : Bool) (Refusal : List 
       }
 
 -- a text that was checked, and whose grammar is refused
-pub refused_is_opened : (text : List ℕ) (settings : AbnfSettings) (notes : List Said) (sound : Option Grammar)
-    → IsChecked text (rule_given settings) notes sound → sound ≡ None → IsOpened text settings notes None
-refused_is_opened text settings notes sound is refused = record {
+pub refused_is_opened : (text : List ℕ) (settings : AbnfSettings) (notes : List Said) (rules : table.Rules Elem)
+    (judged : Option ℕ) → IsChecked text (rule_given settings) notes rules judged → judged ≡ None
+    → IsOpened text settings notes None
+refused_is_opened text settings notes rules id is without = let refused = rw without at is.ready in record {
   definitions = is.definitions;
   reads = is.reads;
   are_notes = is.are_notes;
-  ready = rw refused at is.ready;
+  ready = refused;
 }
 
 -- a text that was checked, and what judges lines by its grammar
-pub judge_is_opened : (text : List ℕ) (settings : AbnfSettings) (notes : List Said) (sound : Option Grammar)
-    (grammar : Grammar) (judge : OpenJudge) → IsChecked text (rule_given settings) notes sound → sound ≡ Some grammar
+pub judge_is_opened : (text : List ℕ) (settings : AbnfSettings) (notes : List Said) (rules : table.Rules Elem)
+    (judged : Option ℕ) (id : ℕ) (grammar : Grammar) (judge : OpenJudge)
+    → IsChecked text (rule_given settings) notes rules judged → judged ≡ Some id → grammar.rules ≡ rules
+    → grammar.judged ≡ id
     → judge ≡ record {
       grammar = grammar;
       letters = settings.options.letters;
       viable = settings.options.viable;
       limit = judged_size settings settings.limit;
     } → IsOpened text settings notes (Some judge)
-judge_is_opened text settings notes sound grammar judge is some made =
+judge_is_opened text settings notes rules known id grammar judge is some same at made =
     let ready = rw some at is.ready in
     rw made (record {
       definitions = is.definitions;
       reads = is.reads;
       are_notes = is.are_notes;
-      ready = (ready.0, record { rules = ready.1; judged = ready.2; letters = refl; viable = refl; limit = refl });
+      ready = (
+        ready.0,
+        record {
+          rules = ap rules_of same ∙ is.kept;
+          judged = at ∙ ready.1;
+          letters = refl;
+          viable = refl;
+          limit = refl;
+        },
+      );
     })
 
 -- the answer of an open grammar to a line is what a run of its text states for that line alone

@@ -52,5 +52,5 @@ pub record AreNotePlaces (text : List ℕ) (start : Option (List ℕ)) (found : 
   pub reads : Reads text definitions
   pub places : AreAbnfPlaces text found.places
   pub chains : AreNameChains (all_rules definitions) start found.chains
-  pub all : rules_of found.rules ≡ all_rules definitions
-  pub counted : found.count ≡ length (file_rules definitions)
+  pub all : rules_of found.all.rules ≡ all_rules definitions
+  pub counted : found.all.count ≡ length (file_rules definitions)

@@ -8,7 +8,6 @@ use Rattle.abnfread.specs.AbnfTable.{IsCoreTable, IsTableOf}
 use Rattle.abnfread.specs.AbnfViews.{rules_of}
 use Rattle.abnfread.specs.Element.{Definition, Rule}
 use Rattle.abnfread.specs.declared.elem.Elem.{Elem}
-use Rattle.abnfcheck.specs.AbnfGrammar.{Grammar}
 use Rattle.abnfprint.specs.AbnfReadBack.{file_rules}
 use Rattle.abnfrun.specs.AbnfNoted.{all_rules, judged_of, AreAgain, AreNotesOn, IsRefusedFor}
 
@@ -18,15 +17,15 @@ IsReadAs text rules core redefined early =
     ((definitions : List Definition) × Reads text definitions × IsTableOf definitions rules redefined early)
     × IsCoreTable core
 
--- the text's grammar with its notes, ready to judge lines where no note rejects it
-pub record IsChecked (text : List ℕ) (given : Option (List ℕ)) (notes : List Said) (sound : Option Grammar) : Type
-    0 where
+-- the text's rules with the core rules, the notes on them, and the id of the judged rule unless a note rejects them
+pub record IsChecked (text : List ℕ) (given : Option (List ℕ)) (notes : List Said) (rules : table.Rules Elem)
+    (judged : Option ℕ) : Type 0 where
   pub definitions : List Definition
   pub reads : Reads text definitions
   pub are_notes : AreNotesOn definitions given notes
-  pub ready : MatchOption sound (IsRefusedFor definitions given)
-      (λ g. (IsRefusedFor definitions given → ⊥) × (rules_of g.rules ≡ all_rules definitions)
-      × (g.judged ≡ judged_of definitions given))
+  pub kept : rules_of rules ≡ all_rules definitions
+  pub ready : MatchOption judged (IsRefusedFor definitions given)
+      (λ id. (IsRefusedFor definitions given → ⊥) × (id ≡ judged_of definitions given))
 
 -- the text's grammar, with the notes on the rules that it defines again
 pub record IsPrintable (text : List ℕ) (rules : List Rule) (again : List Said) : Type 0 where

@@ -60,7 +60,7 @@ abbrev pub printed_by : Bool → Printed → Printed
 printed_by quiet printed = cond quiet Nothing printed
 
 -- how settings cut an input into lines, at LF, or at NUL if they ask for it; whether that end is judged with its line;
--- what they print for the lines, and whether the run stops after a rejected one
+-- what they print for the lines; whether the run stops after a rejected one, and whether each line is answered at once
 abbrev pub form_of : AbnfSettings → LineForm
 form_of settings = record {
   limit = settings.limit;
@@ -69,6 +69,7 @@ form_of settings = record {
   printed = printed_by settings.options.quiet settings.options.printed;
   numbered = settings.options.numbered;
   stops = settings.options.quiet;
+  line_buffered = settings.options.line_buffered;
 }
 
 -- how many bytes settings let be judged of a line that has an end, and so many bytes before it

@@ -6,7 +6,8 @@ ghost use Rattle.abnfread.specs.AbnfReading.{IsFaultOf};
 ghost use Rattle.abnfread.specs.AbnfViews.{rules_of};
 ghost use Rattle.abnfprint.specs.CanonicalAbnf.{grammar_text};
 ghost use Rattle.abnfrun.specs.AbnfAnswers.{AbnfStates};
-ghost use Rattle.abnfrun.specs.AbnfExplainedNotes.{AreNotePlaces, ExplainsAbnfNote};
+ghost use Rattle.abnfcheck.specs.AbnfGrammar.{IsSoundGrammar};
+ghost use Rattle.abnfrun.specs.AbnfExplainedNotes.{AreAllRules, AreNotePlaces, ExplainsAbnfNote};
 ghost use Rattle.abnfrun.specs.AbnfTextHints.{AreTextHints};
 ghost use Rattle.abnfrun.specs.AbnfLanguage.{IsChecked, IsPrintable, IsReadAs};
 ghost use Rattle.abnfrun.specs.AbnfNoted.{AreRedefinitions};
@@ -17,7 +18,7 @@ use crate::hints::hints_of;
 use crate::line_judge::{LineJudge, Work, explainer_of, line_form, lines_have_answers, lowered};
 use crate::note_places::{explain_reached, note_places};
 use crate::options::{AbnfOptions, AbnfSettings};
-use abnfcheck::{SoundAbnf, check_abnf};
+use abnfcheck::{AllRules, JudgedAbnf, SoundAbnf, judge_abnf};
 use abnfexplain::explain_abnf_fault;
 use abnfprint::print_abnf;
 use abnfread::{Abnf, read_abnf};
@@ -47,7 +48,9 @@ impl Language for AbnfLanguage {
 
     type Grammar = Abnf;
 
-    type Judged = SoundAbnf;
+    type Rules = AllRules;
+
+    type Judged = usize;
 
     type Sound = SoundAbnf;
 
@@ -67,9 +70,15 @@ impl Language for AbnfLanguage {
 
     ghost is_read = { λ text abnf. IsReadAs text abnf.rules abnf.core abnf.redefined.items abnf.extended.items };
 
-    ghost is_checked = { IsChecked };
+    ghost are_rules = { λ text all. AreAllRules text all.rules all.count };
 
-    ghost is_ready = { λ text start notes abnf. IsChecked text start notes (Some abnf) };
+    ghost held = { λ places. places.all };
+
+    ghost is_checked = { λ text start notes all judged. IsChecked text start notes all.rules judged };
+
+    ghost belongs = { λ all id. IsSoundGrammar (record { rules = all.rules; judged = id }) };
+
+    ghost is_ready = { λ text start notes abnf. IsChecked text start notes abnf.rules (Some abnf.judged) };
 
     ghost is_printable = { λ text abnf again. IsPrintable text (rules_of abnf.rules) again };
 
@@ -85,8 +94,17 @@ impl Language for AbnfLanguage {
         explain_abnf_fault(alloc, text, fault)
     }
 
-    fn places(alloc: Global, text: &[u8], start: Option<&str>) -> Result<AbnfPlaces, Memory> {
-        note_places(alloc, text, start)
+    fn places(
+        alloc: Global,
+        text: &[u8],
+        rules: AllRules,
+        start: Option<&str>,
+    ) -> Result<AbnfPlaces, Memory> {
+        note_places(alloc, text, rules, start)
+    }
+
+    fn into_rules(places: AbnfPlaces) -> AllRules {
+        places.all
     }
 
     fn explain_note(
@@ -110,16 +128,17 @@ impl Language for AbnfLanguage {
         alloc: Global,
         grammar: Abnf,
         start: Option<&str>,
-    ) -> Result<Checked<SoundAbnf>, Memory> {
-        let abnfcheck::Checked { notes, sound } = check_abnf(alloc, grammar, start)?;
+    ) -> Result<Checked<AllRules, usize>, Memory> {
+        let JudgedAbnf { notes, all, judged } = judge_abnf(alloc, grammar, start)?;
         Ok(Checked {
             notes,
-            judged: sound,
+            rules: all,
+            judged,
         })
     }
 
-    fn ready(_alloc: Global, judged: SoundAbnf) -> Result<SoundAbnf, Memory> {
-        Ok(judged)
+    fn ready(_alloc: Global, rules: AllRules, judged: usize) -> Result<SoundAbnf, Memory> {
+        Ok(SoundAbnf::new(rules.rules, judged))
     }
 
     fn redefinitions(alloc: Global, grammar: &Abnf) -> Result<Vec<Note>, Memory> {

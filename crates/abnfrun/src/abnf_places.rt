@@ -2,10 +2,8 @@
 ghost use Rattle.std.specs.Prelude.{◌≡◌};
 ghost use Rattle.ruletable.specs.declared.table.NameCase.TheVariants.{Fold};
 
-use abnfcheck::NameChains;
-use abnfread::Elem;
+use abnfcheck::{AllRules, NameChains};
 use diagnostics::Places;
-use ruletable::RuleTable;
 
 /// Where a text defines and uses its rules, by which rules the judged one reaches a name, and the rules.
 #[derive(Drop)]
@@ -15,9 +13,7 @@ pub struct AbnfPlaces {
     /// The chains of names from the judged rule.
     pub chains: NameChains,
     /// The rules of the text, and then the core rules that it leaves alone.
-    pub rules: RuleTable<Elem>,
-    /// How many rules the text has.
-    pub count: usize,
+    pub all: AllRules,
     ghost places_fold: { places.names ≡ Fold },
-    ghost rules_fold: { rules.names ≡ Fold },
+    ghost rules_fold: { all.rules.names ≡ Fold },
 }

@@ -53,11 +53,11 @@ pub(crate) fn hints_of(
     ensures { IfOk result (λ told. (text : List ℕ) → AreNotePlaces text (option_copied settings.now.start) places.now
         → AreTextHints text settings.now told.items) }
 {
-    let judged = hinted_id(&places.rules, settings)?;
+    let judged = hinted_id(&places.all.rules, settings)?;
     let hinted = Hinted {
         places: &places.places,
-        rules: &places.rules,
-        count: places.count,
+        rules: &places.all.rules,
+        count: places.all.count,
         judged,
         letters: settings.options.letters,
         end: line_end(settings.options.nul),

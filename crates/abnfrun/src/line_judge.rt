@@ -1,5 +1,6 @@
 //! The lines of an input, judged by a grammar.
-ghost use Rattle.std.specs.Prelude.{◌≡◌, ◌≤◌, ◌+◌, ℕ, Bool, List, false, true, length, map, IfOk, IfSome, is_some};
+ghost use Rattle.std.specs.Prelude.{◌≡◌, ◌≤◌, ◌+◌, ℕ, Bool, List, None, false, true, length, map, IfOk, IfSome};
+ghost use Rattle.std.specs.Prelude.{is_some};
 ghost use Rattle.abnfread.specs.Element.{Rule};
 ghost use Rattle.abnfread.specs.AbnfViews.{rules_of};
 ghost use Rattle.abnfcheck.specs.Derivable.{AreLetters};
@@ -21,8 +22,7 @@ use flatgrammar::{Flat, Verdict};
 use lazydfa::Automaton;
 use letters::{Alphabet, CodePoint, Letter, decode, utf8_is_decided, utf8_len};
 use linejudge::{Answer, Judge, LineForm, Printed};
-use lowering::{items_tell, lower, values_are_letters};
-use prune::lower_viable;
+use lowering::{items_tell, lower, lower_viable, values_are_letters};
 use refusedlines::{Explainer, RefusedLine, explain_refused};
 use ruletable::Memory;
 use std::alloc::Global;
@@ -53,6 +53,8 @@ pub struct Work {
     alloc: Global,
     /// The two judges of symbols.
     pub(crate) engines: Engines,
+    /// The automaton of the flat grammar by which rejected lines are explained, once one was, if it has one.
+    pub(crate) explainer: Option<Automaton>,
     /// The code points of the line, if its symbols are code points.
     points: Vec<CodePoint>,
 }
@@ -60,10 +62,12 @@ pub struct Work {
 impl Work {
     /// Returns the memory that lines are judged in by a flat grammar.
     pub(crate) fn new(alloc: Global, flat: &Flat) -> Work
-        ensures { IfSome result.engines.automaton (λ a. a ≡ flat.now) }
+        ensures flat { IfSome result.engines.automaton (λ a. a ≡ flat.now) }
+        ensures none { result.explainer ≡ None }
     {
         Work {
             alloc,
+            explainer: None,
             engines: Engines {
                 chart: Chart::new(alloc),
                 automaton: automaton_of(alloc, flat),
@@ -130,6 +134,7 @@ fn judge_torn(judges: &LineJudge<'_>, work: &mut Work, line: &[u8]) -> Result<An
     requires within { length line.now ≤ judges.now.flat.now.limit }
     requires flat { IfSome work.old.engines.automaton (λ a. a ≡ judges.now.flat.now) }
     ensures flat { IfSome work.new.engines.automaton (λ a. a ≡ judges.now.flat.now) }
+    ensures explainer { work.new.explainer ≡ work.old.explainer }
     ensures answer { IfOk result (IsAnswerTo Alphabet.Utf8 judges.now.viable (rules_of judges.now.grammar.now.rules)
         judges.now.grammar.now.judged line.now) }
 {
@@ -148,6 +153,7 @@ fn judge_points(judges: &LineJudge<'_>, work: &mut Work, line: &[u8]) -> Result<
     requires within { length line.now ≤ judges.now.flat.now.limit }
     requires flat { IfSome work.old.engines.automaton (λ a. a ≡ judges.now.flat.now) }
     ensures flat { IfSome work.new.engines.automaton (λ a. a ≡ judges.now.flat.now) }
+    ensures explainer { work.new.explainer ≡ work.old.explainer }
     ensures answer { IfOk result (IsAnswerTo Alphabet.Utf8 judges.now.viable (rules_of judges.now.grammar.now.rules)
         judges.now.grammar.now.judged line.now) }
 {
@@ -178,7 +184,9 @@ fn explain_line(
     requires within { length line.bytes.now ≤ judges.now.flat.now.limit }
     requires explains { ExplainsLines (rules_of judges.now.grammar.now.rules) judges.now.grammar.now.judged
         judges.now.letters judges.now.flat.now.limit more.now }
+    requires more { IfSome work.old.explainer (λ a. a ≡ more.now) }
     ensures same { work.new.engines.automaton ≡ work.old.engines.automaton }
+    ensures more { IfSome work.new.explainer (λ a. a ≡ more.now) }
     ensures told { IfOk result (λ why. IsRefusalTold judges.now.letters (rules_of judges.now.grammar.now.rules)
         judges.now.grammar.now.judged line.entry.bytes.now line.entry.number why.items) }
 {
@@ -187,10 +195,14 @@ fn explain_line(
         letters: judges.letters,
         flat: more,
     };
+    if work.explainer.is_none() {
+        work.explainer = automaton_of(work.alloc, more);
+    }
     let mut why = Vec::new(work.alloc);
     explain_refused(
         work.alloc,
         &mut work.engines.chart,
+        &mut work.explainer,
         &explainer,
         line,
         &mut why,
@@ -209,7 +221,7 @@ impl Judge<Work> for LineJudge<'_> {
 
     ghost works_in = { λ j work. IfSome work.engines.automaton (λ a. a ≡ j.flat.now)
         × IfSome j.explainer (λ more. ExplainsLines (rules_of j.grammar.now.rules) j.grammar.now.judged j.letters
-        j.flat.now.limit more.now) };
+        j.flat.now.limit more.now × IfSome work.explainer (λ a. a ≡ more.now)) };
 
     fn judge(&self, work: &mut Work, line: &[u8]) -> Result<Answer, Memory> {
         match self.letters {
@@ -324,5 +336,6 @@ pub(crate) fn line_form(settings: &AbnfSettings<'_>) -> LineForm
         },
         numbered: settings.options.numbered,
         stops: settings.options.quiet,
+        line_buffered: settings.options.line_buffered,
     }
 }

@@ -9,54 +9,31 @@ ghost use Rattle.abnfrun.specs.AbnfExplainedNotes.{AreAllRules, AreNotePlaces, E
 ghost use Rattle.abnfrun.specs.AbnfNoted.{all_rules};
 
 use crate::abnf_places::AbnfPlaces;
-use abnfcheck::{NameChains, join, name_chains};
+use abnfcheck::{AllRules, NameChains, name_chains};
 use abnfexplain::{abnf_places, explain_abnf_note, push_chain};
-use abnfread::{Elem, read_abnf};
-use ruletable::{Memory, Note, NoteKind, RuleTable};
+use ruletable::{Memory, Note, NoteKind};
 use std::alloc::Global;
 
-/// The rules of a text with the core rules.
-#[derive(Drop)]
-struct AllRules {
-    /// The rules of the text, and then the core rules that it leaves alone.
-    rules: RuleTable<Elem>,
-    /// How many rules the text has.
-    count: usize,
-}
-
-// Returns the rules of a text, and then the core rules that it leaves alone. A text whose grammar has notes reads, so
-// only an allocation fails here.
-fn all_rules_of(alloc: Global, text: &[u8]) -> Result<AllRules, Memory>
-    ensures { IfOk result (λ all. AreAllRules text.now all.rules all.count) }
-{
-    match read_abnf(alloc, text) {
-        Ok(abnf) => {
-            let count = abnf.rules.len();
-            let rules = join(alloc, abnf.rules, abnf.core)?;
-            Ok(AllRules { rules, count })
-        }
-        Err(_) => Err(Memory),
-    }
-}
-
-/// Returns where a text says what explains notes on its grammar.
+/// Returns where a text says what explains notes on its grammar. It takes the text's rules, with the core rules that it
+/// leaves alone, and holds them.
 ///
-/// `Memory` if an allocation fails.
+/// `Memory` if an allocation fails; the rules are dropped then.
 pub(crate) fn note_places(
     alloc: Global,
     text: &[u8],
+    all: AllRules,
     start: Option<&str>,
 ) -> Result<AbnfPlaces, Memory>
-    ensures { IfOk result (λ places. AreNotePlaces text.now (option_copied start.entry) places) }
+    requires { AreAllRules text.now all.rules all.count }
+    ensures places { IfOk result (λ places. AreNotePlaces text.now (option_copied start.entry) places) }
+    ensures rules { IfOk result (λ places. places.all ≡ all) }
 {
     let places = abnf_places(alloc, text)?;
-    let AllRules { rules, count } = all_rules_of(alloc, text)?;
-    let chains = name_chains(alloc, &rules, start)?;
+    let chains = name_chains(alloc, &all.rules, start)?;
     Ok(AbnfPlaces {
         places,
         chains,
-        rules,
-        count,
+        all,
     })
 }
 

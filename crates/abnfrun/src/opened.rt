@@ -2,9 +2,12 @@
 ghost use Rattle.std.specs.Prelude.{◌≡◌, ◌≤◌, length, map, IfErr, IfOk};
 ghost use Rattle.abnfread.specs.AbnfReading.{IsFaultOf};
 ghost use Rattle.abnfread.specs.AbnfViews.{rules_of};
+ghost use Rattle.abnfrun.specs.AbnfExplainedNotes.{ExplainsAbnfNote};
 ghost use Rattle.abnfrun.specs.AbnfReply.{IsAnswerTo, judged_size};
+ghost use Rattle.abnfrun.specs.AbnfTextHints.{AreTextHints};
 ghost use Rattle.abnfrun.specs.OpenAbnf.{IsOpened};
 ghost use Rattle.ruletable.specs.Notes.{said_of};
+ghost use Rattle.toolrun.specs.ToldNotes.{HintedNotes};
 
 use crate::abnf_language::AbnfLanguage;
 use crate::line_judge::{LineJudge, Work, lowered};
@@ -16,7 +19,7 @@ use linejudge::{Answer, Judge};
 use ruletable::{Memory, Note, ReadFault};
 use std::alloc::Global;
 use std::marker::Model;
-use toolrun::{Checked, open};
+use toolrun::{Opened, open};
 
 /// An open grammar, read, checked and lowered once, that judges lines.
 ///
@@ -82,6 +85,8 @@ impl AbnfJudge {
 pub struct OpenedAbnf {
     /// The notes on the grammar, in order.
     pub notes: Vec<Note>,
+    /// Their text, as a run writes it: each explained, with hints after them, if settings ask for that.
+    pub diagnostics: Vec<u8>,
     /// Its judge of lines, unless notes reject it.
     pub judge: Option<AbnfJudge>,
 }
@@ -110,25 +115,38 @@ fn judge_by(
     })
 }
 
-/// Reads and checks a grammar's text, and returns the notes on it and what judges lines by it as settings ask: by the
-/// rule that they name, within their limit. They say what symbols are, whether the longest viable prefix is asked for,
-/// and whether lines have their ends; all else of them is not looked at. The text's fault if it is not a grammar, or if
-/// an allocation fails.
+/// Reads and checks a grammar's text. Returns the notes on it, their text, explained if settings ask for that, and what
+/// judges lines by it as settings ask: by the rule that they name, within their limit. They say what symbols are,
+/// whether the longest viable prefix is asked for, and whether lines have their ends. All else of them is ignored.
+/// Fails by the text's fault if it is not a grammar, or if an allocation fails.
 pub fn open_abnf(
     alloc: Global,
     text: &[u8],
     settings: &AbnfSettings<'_>,
 ) -> Result<OpenedAbnf, ReadFault>
     ensures opened { IfOk result (λ o. IsOpened text.now settings.now (map said_of o.notes.items) o.judge) }
+    ensures diagnostics { IfOk result (λ o. HintedNotes settings.now (ExplainsAbnfNote text.now)
+        (AreTextHints text.now settings.now) (map said_of o.notes.items) o.diagnostics.items) }
     ensures fault { IfErr result (λ f. IsFaultOf text.now f) }
 {
-    let Checked { notes, judged } = open::<AbnfLanguage>(alloc, text, settings.start)?;
-    let Some(grammar) = judged else {
-        return Ok(OpenedAbnf { notes, judge: None });
+    let Opened {
+        notes,
+        diagnostics,
+        rules,
+        judged,
+    } = open::<AbnfLanguage>(alloc, text, settings)?;
+    let Some(judged) = judged else {
+        return Ok(OpenedAbnf {
+            notes,
+            diagnostics,
+            judge: None,
+        });
     };
+    let grammar = SoundAbnf::new(rules.rules, judged);
     match judge_by(alloc, grammar, settings) {
         Ok(judge) => Ok(OpenedAbnf {
             notes,
+            diagnostics,
             judge: Some(judge),
         }),
         Err(Memory) => Err(ReadFault::Memory),

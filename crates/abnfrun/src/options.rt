@@ -21,6 +21,8 @@ pub struct AbnfOptions {
     pub numbered: bool,
     /// Whether nothing is printed, and the run ends after the first rejected line.
     pub quiet: bool,
+    /// Whether nothing is read while the end of a line is held.
+    pub line_buffered: bool,
 }
 
 /// The settings of a run of the ABNF tool.

@@ -15,7 +15,6 @@ pub mod AllSameLemmas
 pub mod PlacedRulesLemmas
 pub mod FatesLemmas
 pub mod JoinedLemmas
-pub mod LineEndLemmas
 pub mod LinkedTextLemmas
 pub mod LinkedTokenLemmas
 pub mod MovedWordLemmas

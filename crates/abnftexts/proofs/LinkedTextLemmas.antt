@@ -20,7 +20,8 @@ use Rattle.abnfread.specs.Element.{Definition}
 use Rattle.abnfread.specs.MarkedTokens.{marked, begins_rule, indent_at, margin, marks}
 use Rattle.abnfread.proofs.AbnfFirstLemmas.{letter-dark}
 use Rattle.abnfread.proofs.IndentLemmas.{margin-is}
-use Rattle.abnftexts.specs.LinkedTexts.{EndsLine, SpellsAtMargin, moved_definition}
+use Rattle.abnfblocks.specs.LinkedLines.{EndsLine}
+use Rattle.abnftexts.specs.LinkedTexts.{SpellsAtMargin, moved_definition}
 use Rattle.abnftexts.proofs.LinkedTokenLemmas.{tells-first, tells-second}
 use Rattle.abnftexts.proofs.MovedWordLemmas.{words_behind, grammar-behind, grammar-linked, shallow-behind}
 use Rattle.abnftexts.proofs.MovedWordLemmas.{shallow-linked}

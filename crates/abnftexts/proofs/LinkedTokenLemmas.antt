@@ -20,51 +20,20 @@ use Rattle.abnfread.specs.AbnfWords.{Said, End, Word, word}
 use Rattle.abnfread.specs.Numerals.{says_values, says_range}
 use Rattle.abnfread.specs.MarkedTokens.{marked, begins_rule, indented, indent_from, indent_at, is_first, marks}
 use Rattle.abnfread.proofs.AbnfSliceLemmas.{first-last}
-use Rattle.abnftexts.specs.LinkedTexts.{EndsLine, lf, behind_byte, moved_span}
-use Rattle.abnftexts.proofs.LineEndLemmas.{LeftLine, no_text, some_text, longest-on, stands-line, white-line, white-on}
-use Rattle.abnftexts.proofs.LineEndLemmas.{white-through}
+use Rattle.abnfblocks.specs.LinkedLines.{EndsLine, lf, behind_byte, moved_span}
+use Rattle.abnfblocks.proofs.LineEndLemmas.{LeftLine, no_text, some_text, stands-line, white-line, white-on}
+use Rattle.abnfblocks.proofs.LineTokenLemmas.{indent-append, indent-front, line-length, moved_token, next-on}
+use Rattle.abnfblocks.proofs.LineTokenLemmas.{tokens-moved, tokens-white}
 use Rattle.abnftexts.proofs.MovedWordLemmas.{moved_said, moved_word, with_gap, words_behind}
 
 line-indent : {a : List ℕ} → EndsLine a → (i : Option ℕ) → indent_from i a ≡ Some 0
 line-indent lf i = refl
 line-indent (behind_byte {b} l) i = line-indent l (indented i b)
 
-indent-append : (i : Option ℕ) (xs ys : List ℕ) → indent_from i (xs ++ ys) ≡ indent_from (indent_from i xs) ys
-indent-append i [] ys = refl
-indent-append i (x ∷ xs) ys = indent-append (indented i x) xs ys
-
 -- a position after a line's end, and one before it
 pub indent-behind : {a : List ℕ} (b : List ℕ) (n : ℕ) → EndsLine a → indent_at (a ++ b) (length a + n) ≡ indent_at b n
 indent-behind {a} b n l = ap (indent_from (Some 0)) (take-append-add a b n) ∙ indent-append (Some 0) a (take n b)
     ∙ ap (λ (i : Option ℕ). indent_from i (take n b)) (line-indent l (Some 0))
-
-indent-front : (a b : List ℕ) (n : ℕ) → n ≤ length a → indent_at (a ++ b) n ≡ indent_at a n
-indent-front a b n le = ap (indent_from (Some 0)) (take-append-le n a b le)
-
--- the token, so many bytes further on
-abbrev moved_token : ℕ → Tok AbnfKind → Tok AbnfKind
-moved_token n (tok k z p) = tok k z (moved_span n p)
-
-next-moved : (n : ℕ) {total : ℕ} {t r : List ℕ} (x : Tok AbnfKind) → Next White First total t x r
-    → Next White First (n + total) t (moved_token n x) r
-next-moved n (tok k z p) h = record {
-  token = h.token;
-  white = h.white;
-  first = h.first;
-  cut = h.cut;
-  place = (let e = h.place in omega arith);
-  size = (let e = h.size in omega arith);
-}
-
-ends-moved : (n : ℕ) (x : Tok AbnfKind) (e : Bool) → ends_list (lexing.kind_of x) ≡ e
-    → ends_list (lexing.kind_of (moved_token n x)) ≡ e
-ends-moved n (tok k z p) e h = h
-
-tokens-moved : (n : ℕ) {total : ℕ} {t : List ℕ} {ts : List (Tok AbnfKind)}
-    → lexing.AreTokens White First ends_list total t ts
-    → lexing.AreTokens White First ends_list (n + total) t (map (moved_token n) ts)
-tokens-moved n (last_one {x} h e) = last_one (next-moved n x h) (ends-moved n x true e)
-tokens-moved n (one_more {x} h e more) = one_more (next-moved n x h) (ends-moved n x false e) (tokens-moved n more)
 
 kind-moved : (n : ℕ) {k : AbnfKind} {z : List ℕ} {p : Span} {s : Said} → SaysKind k z p s
     → SaysKind k z (moved_span n p) (moved_said n s)
@@ -107,25 +76,6 @@ pub record TellsBehind (text : List ℕ) (place : ℕ) (t : List ℕ) (ws : List
   pub are_tokens : lexing.AreTokens White First ends_list (length text) t tokens
   pub say : SayAll (marks text (Some 0) place tokens) ws
 
-tokens-white : {total : ℕ} {t m : List ℕ} {ts : List (Tok AbnfKind)} → White t m
-    → lexing.AreTokens White First ends_list total m ts → lexing.AreTokens White First ends_list total t ts
-tokens-white w (last_one h e) = last_one (record {
-  token = h.token;
-  white = white-through w h.white;
-  first = h.first;
-  cut = h.cut;
-  place = h.place;
-  size = h.size;
-}) e
-tokens-white w (one_more h e more) = one_more (record {
-  token = h.token;
-  white = white-through w h.white;
-  first = h.first;
-  cut = h.cut;
-  place = h.place;
-  size = h.size;
-}) e more
-
 gap-behind : (n m j : ℕ) → j < n → not (n + m == j) ≡ true
 gap-behind n m j lt = grind (arith, nat_tests)
 
@@ -136,10 +86,6 @@ say-gap : (text : List ℕ) (n j m : ℕ) (ts : List (Tok AbnfKind)) {ws : List 
 say-gap text n j m [] lt say_none = say_none
 say-gap text n j m (tok k z p ∷ ts) lt (say_more (says h) more) =
     say_more (says-so (gap-behind n p.start j lt) refl h) more
-
-pub line-length : {t : List ℕ} → EndsLine t → 1 ≤ length t
-line-length lf = omega arith
-line-length (behind_byte l) = omega arith
 
 -- what a text says after one that LF ends, of which u is left, and is white space
 pub tells-second : {a b u : List ℕ} {ts : List (Tok AbnfKind)} {ws : List Word} (j : ℕ) → EndsLine a
@@ -180,18 +126,6 @@ pub first-same : (a b : List ℕ) (k : AbnfKind) (z : List ℕ) (p : Span) → p
     → is_first (a ++ b) (Some 0) (tok k z p) ≡ is_first a (Some 0) (tok k z p)
 first-same a b k z p le =
     ap (λ (i : Option ℕ). not (ends_list k) && begins_rule (Some 0) i) (indent-front a b p.start le)
-
-next-on : (a b : List ℕ) {t r : List ℕ} {k : AbnfKind} {z : List ℕ} {p : Span}
-    (h : Next White First (length a) t (tok k z p) r) → EndsLine t → EndsLine h.token → Longest Stands k h.token r
-    → Next White First (length (a ++ b)) (t ++ b) (tok k z p) (r ++ b)
-next-on a b {t} {r} {z = z} h l lt longest = record {
-  token = h.token ++ b;
-  white = white-on b (some_text l) h.white;
-  first = found (longest-on b lt longest);
-  cut = ap (λ (v : List ℕ). v ++ b) h.cut ∙ append_assoc z r b;
-  place = (let e = h.place in omega (arith, length-append h.token b, length-append a b));
-  size = h.size;
-}
 
 -- what a marked token says
 pub record WordSaid (k : AbnfKind) (z : List ℕ) (p : Span) (g f : Bool) (w : Word) : Type 0 where

@@ -16,7 +16,8 @@ use Rattle.abnfread.specs.Element.{Element, Elements, Definition}
 use Rattle.abnfread.proofs.AbnfMachineLemmas.{grammar-runs}
 use Rattle.abnfread.proofs.AbnfSpellingLemmas.{runs-grammar}
 use Rattle.abnfread.proofs.OpenBracketLemmas.{step-opens, shallow-front, shallow-next}
-use Rattle.abnftexts.specs.LinkedTexts.{moved_span, moved_definition}
+use Rattle.abnfblocks.specs.LinkedLines.{moved_span}
+use Rattle.abnftexts.specs.LinkedTexts.{moved_definition}
 
 -- what a name says that stands so many bytes further on
 abbrev pub moved_said : ℕ → Said → Said

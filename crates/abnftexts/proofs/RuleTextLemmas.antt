@@ -12,7 +12,8 @@ use Rattle.abnfread.specs.MarkedTokens.{indented}
 use Rattle.abnfblocks.specs.RuleLines.{begins_letter, begins_by, behind_margin, behind_name, margin_of}
 use Rattle.abnfblocks.specs.RuleCuts.{cut_line, lines_text, opens_rule}
 use Rattle.abnftexts.specs.GivenRules.{RuleGiven}
-use Rattle.abnftexts.specs.LinkedTexts.{EndsLine, lf, behind_byte, SpellsAtMargin, moved_definition}
+use Rattle.abnfblocks.specs.LinkedLines.{EndsLine, lf, behind_byte}
+use Rattle.abnftexts.specs.LinkedTexts.{SpellsAtMargin, moved_definition}
 use Rattle.abnftexts.specs.SpelledRules.{unplaced}
 use Rattle.abnftexts.specs.TextRules.{given_by}
 use Rattle.abnftexts.proofs.LinkedTextLemmas.{reads-spells}

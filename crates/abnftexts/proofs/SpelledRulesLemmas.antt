@@ -20,7 +20,8 @@ use Rattle.abnftexts.specs.GivenRules.{RuleGiven, fates_of}
 use Rattle.abnftexts.specs.JoinedRules.{joined_order}
 use Rattle.abnftexts.specs.JoinedGrammar.{AreTextsJoined, GrammarJoined, comment_before, first_number, gap_before}
 use Rattle.abnftexts.specs.JoinedGrammar.{goes_behind_it, printed_behind, rule_printed, standing_rules}
-use Rattle.abnftexts.specs.LinkedTexts.{EndsLine, lf, behind_byte, SpellsAtMargin, moved_definition}
+use Rattle.abnfblocks.specs.LinkedLines.{EndsLine, lf, behind_byte}
+use Rattle.abnftexts.specs.LinkedTexts.{SpellsAtMargin, moved_definition}
 use Rattle.abnftexts.specs.RulesGathered.{NamedText, RuleLines}
 use Rattle.abnftexts.specs.SpelledRules.{AreSpelled, no_rules, next_rule, joined_places, joined_rules}
 use Rattle.abnftexts.specs.SpelledRules.{as_written, unplaced}

@@ -9,7 +9,7 @@ use Rattle.abnfblocks.specs.RuleLines.{margin_of}
 use Rattle.abnfblocks.specs.TextLines.{NumberedLine}
 use Rattle.abnftexts.specs.GivenRules.{RuleGiven}
 use Rattle.abnftexts.specs.JoinedGrammar.{has_stayed, standing}
-use Rattle.abnftexts.specs.LinkedTexts.{EndsLine, lf, behind_byte}
+use Rattle.abnfblocks.specs.LinkedLines.{EndsLine, lf, behind_byte}
 use Rattle.abnftexts.specs.NamedRules.{AreLinesNamed, no_lines, next_line, ArePlacesNamed, rules_end, places_end}
 use Rattle.abnftexts.specs.NamedRules.{one_place, IsPlaceNamed, is_named, stays, IsRuleNamed, same_rule, read_again}
 use Rattle.abnftexts.specs.NamedRules.{AreRulesNamed, no_more_places, no_more_rules, one_rule, bare_line, with_prose}

@@ -1,7 +1,5 @@
 -- Texts of ABNF one after another, and what they spell together (RFC 5234, sections 2.1 and 2.2).
-use Prim.Native.Char.{code}
-use Rattle.std.specs.Prelude.{ℕ, ◌+◌, List, [], ◌∷◌, Some}
-use Rattle.ruletable.specs.declared.span.Span.{Span}
+use Rattle.std.specs.Prelude.{ℕ, List, Some}
 use Rattle.lexer.specs.GrammarLimits.{max_open}
 use Rattle.lexer.specs.TokenLists.{Tok}
 use Rattle.abnfread.specs.declared.kind.AbnfKind.{AbnfKind}
@@ -10,16 +8,9 @@ use Rattle.abnfread.specs.AbnfSpelling.{Grammar}
 use Rattle.abnfread.specs.AbnfWords.{Word}
 use Rattle.abnfread.specs.Element.{Definition}
 use Rattle.abnfread.specs.MarkedTokens.{AreTokens, marks}
-
--- LF ends the text
-pub data EndsLine : List ℕ → Type 0 where
-  lf : EndsLine (code "\n" ∷ [])
-  behind_byte : {b : ℕ} {bytes : List ℕ} → EndsLine bytes → EndsLine (b ∷ bytes)
+use Rattle.abnfblocks.specs.LinkedLines.{moved_span}
 
 -- a definition whose name stands so many bytes further on
-abbrev pub moved_span : ℕ → Span → Span
-moved_span n span = record { start = n + span.start; end = n + span.end }
-
 abbrev pub moved_definition : ℕ → Definition → Definition
 moved_definition n d = record { adds = d.adds; name = d.name; span = moved_span n d.span; body = d.body }
 

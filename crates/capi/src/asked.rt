@@ -97,6 +97,7 @@ impl COptions for AbnfOptions {
             printed: Printed::Answers,
             numbered: false,
             quiet: false,
+            line_buffered: false,
         }
     }
 }

@@ -6,7 +6,7 @@ ghost use Rattle.capi.specs.OpenCall.{code_told, text_told};
 use crate::judge::{CJudge, put_judge};
 use crate::place::{CRunner, put_runner};
 use crate::runs::runner_by;
-use crate::told::{text_of_fault, text_of_notes};
+use crate::told::text_of_fault;
 use abnfrun::{AbnfLanguage, AbnfSettings, OpenedAbnf, open_abnf};
 use pegrun::{OpenedPeg, PegLanguage, PegSettings, open_peg};
 use ruletable::Memory;
@@ -24,16 +24,19 @@ pub(crate) fn open_judge(
     ensures { IsAbnfOpening grammar.now settings.now (text_told result) place.new.judge.held
         (code_told result (is_some place.new.judge.held)) }
 {
-    let OpenedAbnf { notes, judge } = match open_abnf(alloc, grammar, settings) {
+    let OpenedAbnf {
+        diagnostics,
+        judge,
+        ..
+    } = match open_abnf(alloc, grammar, settings) {
         Ok(opened) => opened,
         Err(fault) => return text_of_fault::<AbnfLanguage>(alloc, grammar, settings, fault),
     };
-    let text = text_of_notes::<AbnfLanguage>(alloc, grammar, settings, notes)?;
     let Some(judge) = judge else {
-        return Ok(text);
+        return Ok(diagnostics);
     };
     put_judge(Box::new(alloc, judge)?, place);
-    Ok(text)
+    Ok(diagnostics)
 }
 
 /// Opens a grammar of peg(1), and returns the diagnostics on it. Stores its runner in an empty `CRunner`, unless a
@@ -48,14 +51,17 @@ pub(crate) fn open_runner(
     ensures { IsPegOpening grammar.now settings.now (text_told result) place.new.runner.held
         (code_told result (is_some place.new.runner.held)) }
 {
-    let OpenedPeg { notes, runner } = match open_peg(alloc, grammar, settings) {
+    let OpenedPeg {
+        diagnostics,
+        runner,
+        ..
+    } = match open_peg(alloc, grammar, settings) {
         Ok(opened) => opened,
         Err(fault) => return text_of_fault::<PegLanguage>(alloc, grammar, settings, fault),
     };
-    let text = text_of_notes::<PegLanguage>(alloc, grammar, settings, notes)?;
     let Some(peg) = runner else {
-        return Ok(text);
+        return Ok(diagnostics);
     };
     put_runner(Box::new(alloc, runner_by(peg, settings))?, place);
-    Ok(text)
+    Ok(diagnostics)
 }

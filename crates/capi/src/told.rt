@@ -1,16 +1,14 @@
 //! The messages on a grammar that C opens.
-ghost use Rattle.std.specs.Prelude.{◌≡◌, false, map, IfOk};
+ghost use Rattle.std.specs.Prelude.{◌≡◌, false};
 ghost use Rattle.capi.specs.BufferRun.{IsLaid};
 ghost use Rattle.capi.specs.OpenCall.{IsFaultTold, code_told, text_told};
-ghost use Rattle.ruletable.specs.Notes.{said_of};
-ghost use Rattle.toolrun.specs.ToldNotes.{HintedNotes};
 
 use crate::buffer::lay;
 use crate::front::text_of_first;
 use crate::result::CResult;
-use ruletable::{Memory, Note, ReadFault};
+use ruletable::{Memory, ReadFault};
 use std::alloc::Global;
-use toolrun::{First, Language, Settings, Status, Told, told_hints};
+use toolrun::{First, Language, Settings, Status};
 
 /// Returns the fault of a grammar's text, with the lines that explain it if the settings ask for them. Returns `Memory`
 /// if an allocation fails.
@@ -33,26 +31,6 @@ pub(crate) fn text_of_fault<L: Language>(
         Vec::new(alloc)
     };
     text_of_first(alloc, &First::Fault { fault, why })
-}
-
-/// Returns the notes on a grammar as a run writes them. If the settings ask for that, each is explained, and hints
-/// follow. Returns `Memory` if an allocation fails.
-pub(crate) fn text_of_notes<L: Language>(
-    alloc: Global,
-    grammar: &[u8],
-    settings: &Settings<'_, L::Options>,
-    notes: Vec<Note>,
-) -> Result<Vec<u8>, Memory>
-    ensures { IfOk result (λ text. HintedNotes settings.now (L.explains_note grammar.now)
-        (L.are_hints grammar.now settings.now) (map said_of notes.items) text.items) }
-{
-    if !settings.explain {
-        return text_of_first(alloc, &First::Notes(notes));
-    }
-    match told_hints::<L>(alloc, grammar, settings, notes.as_slice()) {
-        Told::Whole(text) => Ok(text),
-        Told::Part(_) => Err(Memory),
-    }
 }
 
 /// Copies the diagnostics on a grammar into a buffer, cut to the length of the buffer. Returns the result of the call

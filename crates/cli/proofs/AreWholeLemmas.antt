@@ -28,7 +28,7 @@ use Rattle.clap.proofs.SimpleLemmas.{is_false, is_nil, plain_fields}
 use Rattle.clap.proofs.WalkLemmas.{both}
 use Rattle.cli.proofs.EntryLemmas.{IsAlone, default_reads, no_auto, some_reads}
 use Rattle.cli.specs.Asked.{IsFlagText, IsLimitText}
-use Rattle.cli.specs.Command.{flag_rule, grammar_rule, limit_rule, long_named}
+use Rattle.cli.specs.Command.{flag_rule, grammar_rule, limit_rule, long_flag_rule, long_named}
 
 is_none : {X : Type 0} (o : Option X) → not (is_some o) ≡ true → o ≡ None
 is_none None e = refl
@@ -240,12 +240,11 @@ limit_is c rs is m p d k has =
       limit_text read.0.now read.2,
     )
 
-pub flag_is : (c : Command) (rs : List Rule) → IsCommand c rs → (m : ArgMatches) → IsParsedFrom c m → (d : Arg) (k : ℕ)
-    → (id : Text) (letter : ℕ) → IsOwn id → HasAt rs k (flag_rule id letter)
-    → IsFlagText (one_text (found_of m) id)
-flag_is c rs is m p d k id letter own has =
-    let by = arg_of c rs is k d (flag_rule id letter) has own in
-    elim (some_reads c m p k d by.alone vp.Bool (ap (λ (r : Rule). r.parser) by.rule)) [
+bool_is : (c : Command) (rs : List Rule) → IsCommand c rs → (m : ArgMatches) → IsParsedFrom c m → (d : Arg) (k : ℕ)
+    → (r : Rule) → r.parser ≡ Some vp.Bool → IsOwn r.id → HasAt rs k r → IsFlagText (one_text (found_of m) r.id)
+bool_is c rs is m p d k r bool own has =
+    let by = arg_of c rs is k d r has own in
+    elim (some_reads c m p k d by.alone vp.Bool (ap (λ (r : Rule). r.parser) by.rule ∙ bool)) [
       | inl none ↦ inl (subst (λ w. one_text (found_of m) w ≡ None) by.id none)
       | inr got ↦ inr (elim (bool_text got.0.now got.2) [
         | inl as_true ↦
@@ -254,6 +253,15 @@ flag_is c rs is m p d k id letter own has =
             inr (subst (λ w. one_text (found_of m) w ≡ Some got.0.now) by.id got.1 ∙ ap (λ t. Some t) as_false)
       ])
     ]
+
+pub flag_is : (c : Command) (rs : List Rule) → IsCommand c rs → (m : ArgMatches) → IsParsedFrom c m → (d : Arg) (k : ℕ)
+    → (id : Text) (letter : ℕ) → IsOwn id → HasAt rs k (flag_rule id letter)
+    → IsFlagText (one_text (found_of m) id)
+flag_is c rs is m p d k id letter = bool_is c rs is m p d k (flag_rule id letter) refl
+
+pub long_flag_is : (c : Command) (rs : List Rule) → IsCommand c rs → (m : ArgMatches) → IsParsedFrom c m → (d : Arg)
+    (k : ℕ) → (id : Text) → IsOwn id → HasAt rs k (long_flag_rule id) → IsFlagText (one_text (found_of m) id)
+long_flag_is c rs is m p d k id = bool_is c rs is m p d k (long_flag_rule id) refl
 
 pub grammar_is : (c : Command) (rs : List Rule) → IsCommand c rs → (m : ArgMatches) → IsParsedFrom c m → (d : Arg)
     (k : ℕ) → HasAt rs k grammar_rule

@@ -4,5 +4,5 @@ mod EntryLemmas
 pub mod AreWholeLemmas
 pub mod AskLemmas
 mod InputLemmas
-mod JobStatesLemmas
+pub mod JobStatesLemmas
 mod SizesLemmas

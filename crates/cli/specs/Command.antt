@@ -55,6 +55,10 @@ flag_rule id letter = record (new_rule id) {
   parser = Some vp.Bool;
 }
 
+-- a flag of this long name, which has no letter
+abbrev pub long_flag_rule : Text → Rule
+long_flag_rule id = record (new_rule id) { long = Some id; action = Some SetTrue; parser = Some vp.Bool }
+
 -- the first word that is no option
 abbrev pub grammar_rule : Rule
 grammar_rule = record (new_rule (codes "grammar")) { value_names = 1; action = Some Set; required = true }

@@ -4,3 +4,4 @@ pub mod Inputs
 pub mod Jobs
 pub mod Parsing
 pub mod LimitWords
+pub mod WrittenOut

@@ -1,8 +1,8 @@
 //! The commands of the programs: the options that both tools have, and those that a program adds.
 ghost use Rattle.std.specs.Prelude.{◌≡◌, IfOk, false};
 ghost use Rattle.clap.specs.Words.{app_of, rule_of, with_rule};
-ghost use Rattle.cli.specs.Command.{AreModes, file_rule, flag_rule, grammar_rule, limit_rule, long_named};
-ghost use Rattle.cli.specs.Command.{mode_rule, program_app, tool_app};
+ghost use Rattle.cli.specs.Command.{AreModes, file_rule, flag_rule, grammar_rule, limit_rule, long_flag_rule};
+ghost use Rattle.cli.specs.Command.{long_named, mode_rule, program_app, tool_app};
 
 use clap::{Arg, ArgAction, Command, value_parser};
 use std::alloc::{AllocError, Global};
@@ -81,6 +81,21 @@ pub fn add_flag<'a>(
         .action(ArgAction::SetTrue)
         .value_parser(value_parser!(bool));
     add_option(command, flag)
+}
+
+/// Adds a flag that has a long name, which is its id, and no letter. `AllocError` if an allocation fails.
+pub fn add_long_flag<'a>(
+    command: Command<'a>,
+    alloc: Global,
+    name: &'a str,
+) -> Result<Command<'a>, AllocError>
+    ensures { IfOk result (λ c. app_of c ≡ with_rule (app_of command.entry) (long_flag_rule name.entry.now)) }
+{
+    let flag = Arg::new(alloc, name)
+        .long(name)
+        .action(ArgAction::SetTrue)
+        .value_parser(value_parser!(bool));
+    command.arg(flag)
 }
 
 /// Returns the command of a program, which has `--version` alone. `-h` writes the help. `AllocError` if an allocation

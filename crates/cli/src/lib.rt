@@ -5,6 +5,7 @@
 mod command;
 mod fault;
 mod input;
+mod output;
 mod program;
 mod reading;
 mod settings;
@@ -12,11 +13,12 @@ mod sizes;
 mod start;
 mod tool;
 
-pub use command::{add_flag, add_option, program_command, tool_command};
+pub use command::{add_flag, add_long_flag, add_option, program_command, tool_command};
 pub use fault::refuse_invalid_utf8;
 pub use input::{Input, Inputless, open_source};
+pub use output::{BufferedSink, Output};
 pub use program::{Program, parse};
-pub use reading::{Job, Unready, end_unready, read_job};
+pub use reading::{Job, Unready, end_unready, read_grammar, read_job};
 pub use settings::{Asked, read_words, settings_of};
 pub use sizes::plain_words;
 pub use start::{end_without_memory, start_program, words_of};

@@ -12,6 +12,7 @@ ghost use Rattle.toolrun.specs.Status.{code_of};
 ghost use Rattle.toolrun.specs.Stream.{passed};
 ghost use Rattle.toolrun.specs.declared.settings.Settings.{Settings as AllSettings};
 
+use crate::output::BufferedSink;
 use clap::{ArgMatches, Command, Error};
 use feed::Source;
 use ruletable::Sink;
@@ -46,7 +47,7 @@ pub trait Program {
         ensures { reads (found_of matches.now) result };
 
     /// Runs a grammar's text on what a reader gives.
-    fn run<I: Source, O: Sink, E: Sink>(
+    fn run<I: Source, O: BufferedSink, E: Sink>(
         alloc: Global,
         grammar: &[u8],
         settings: &Settings<'_, Self::Options>,

@@ -41,7 +41,7 @@ pub enum Unready {
 }
 
 /// Reads a grammar's file: one byte more than a grammar may have is enough to show that it is too long.
-fn read_grammar<R: Files + AllocGlobal>(rt: &R, path: &str) -> io::Result<Vec<u8>> {
+pub fn read_grammar<R: Files + AllocGlobal>(rt: &R, path: &str) -> io::Result<Vec<u8>> {
     let mut bytes = Vec::new(rt.alloc());
     fs::open(rt, path)?
         .take(MAX_GRAMMAR as u64 + 1)

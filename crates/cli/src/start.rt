@@ -2,6 +2,7 @@
 ghost use Rattle.std.specs.Prelude.{◌≡◌, false};
 
 use crate::fault::refuse_invalid_utf8;
+use crate::output::Output;
 use clap::Command;
 use ruletable::{Sink, SinkOf};
 use std::alloc::{AllocError, Global};
@@ -39,15 +40,15 @@ where
     O: Write + Drop,
     E: Write + Drop,
     C: FnOnce(Global) -> Result<Command<'a>, AllocError>,
-    F: FnOnce(&[String], &mut SinkOf<BufWriter<O>>, &mut SinkOf<E>) -> ExitCode,
+    F: FnOnce(&[String], &mut Output<O>, &mut SinkOf<E>) -> ExitCode,
     requires command { C.IsAlwaysCallable command }
-    requires run { (words : _) (out : _) (err : _) → ⟦<SinkOf<BufWriter<O>> as Sink>⟧.failed out.now ≡ false →
+    requires run { (words : _) (out : _) (err : _) → ⟦<Output<O> as Sink>⟧.failed out.now ≡ false →
         ⟦<SinkOf<E> as Sink>⟧.failed err.now ≡ false → F.pre run words out err }
 {
     let Ok(buffered) = BufWriter::new(rt.alloc(), output) else {
         return end_without_memory(rt);
     };
-    let mut out = SinkOf::new(buffered);
+    let mut out = Output::new(buffered);
     let mut err = SinkOf::new(errors);
     match words_of(rt) {
         Ok(words) => run(words.as_slice(), &mut out, &mut err),

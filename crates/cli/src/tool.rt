@@ -8,6 +8,7 @@ ghost use Rattle.toolrun.specs.Right.{Comes};
 ghost use Rattle.toolrun.specs.Status.{code_of};
 ghost use Rattle.toolrun.specs.Stream.{no_input, passed};
 
+use crate::output::BufferedSink;
 use crate::program::Program;
 use crate::reading::{end_unready, read_job};
 use feed::Source;
@@ -23,7 +24,7 @@ use toolrun::Status;
 /// - A file that cannot be read: `cannot read the grammar`, `Fault`.
 /// - If an allocation fails in parsing the words or reading the file: `out of memory`, `NoMemory`.
 /// - Where a writer fails it holds a prefix of its text, and the status is at least `Fault`.
-pub fn tool_main<P: Program, R: Files + AllocGlobal, I: Source, O: Sink, E: Sink>(
+pub fn tool_main<P: Program, R: Files + AllocGlobal, I: Source, O: BufferedSink, E: Sink>(
     rt: &R,
     words: &[String],
     reader: &mut I,

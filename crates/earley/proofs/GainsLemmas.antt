@@ -2,7 +2,7 @@
 -- Serves: judge
 use Rattle.std.proofs.Common.{◌≡◌, ◌⊎◌, inl, inr, ⊎_elim, ℕ, List, [], Some, slice_get, slice_index_or, refl, sym, ◌∙◌}
 use Rattle.std.proofs.Common.{subst}
-use Rattle.bitrows.specs.RowSets.{Rows, HasAt, AddsAt}
+use Rattle.earley.specs.RowSets.{Rows, HasAt, AddsAt}
 use Rattle.flatgrammar.specs.Blocks.{spot}
 use Rattle.flatgrammar.specs.declared.block.Spot.{Spot}
 use Rattle.flatgrammar.specs.declared.flat_item.Item.{Item}

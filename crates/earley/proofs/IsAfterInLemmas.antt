@@ -3,7 +3,7 @@
 use Rattle.std.proofs.Common.{◌≡◌, ◌↔◌, inl, inr, ⊎_elim, ℕ, zero, suc, ◌+◌, ◌<◌, ◌≤◌, List, [], ◌∷◌, length, take}
 use Rattle.std.proofs.Common.{slice_get, slice_index_or, Some, None, Contains, refl, sym, subst, arith}
 use Rattle.std.proofs.lemmas.Bool.{cases_lt}
-use Rattle.bitrows.specs.RowSets.{Rows, HasAt, AddsAt}
+use Rattle.earley.specs.RowSets.{Rows, HasAt, AddsAt}
 use Rattle.earleyitems.specs.ItemSets.{IsAdvanced, waiting_in}
 use Rattle.flatgrammar.specs.Blocks.{spot}
 use Rattle.flatgrammar.specs.Places.{In}

@@ -8,3 +8,7 @@ pub mod RowItemsLemmas
 pub mod RowSpotsLemmas
 pub mod RowStepLemmas
 pub mod RowWorklistLemmas
+pub mod LenLemmas
+pub mod RowMembersLemmas
+pub mod RowSetsLemmas
+pub mod WordInLemmas

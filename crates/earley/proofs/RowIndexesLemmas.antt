@@ -5,7 +5,7 @@ use Rattle.std.proofs.Common.{length, slice_index_or, Contains, refl, sym, ap, s
 use Rattle.std.proofs.lemmas.Bool.{cases_lt}
 use Rattle.std.proofs.lemmas.List.{get_or-set_same, get_or-set_other}
 use Rattle.std.specs.Prelude.{replicate}
-use Rattle.bitrows.specs.RowSets.{HasAt}
+use Rattle.earley.specs.RowSets.{HasAt}
 use Rattle.flatgrammar.proofs.CallOfLemmas.{equal_or}
 use Rattle.earley.specs.RowIndexes.{rows_at, HasAlone, Indexes, AreIndexedBelow, AreIndexed}
 use Rattle.earley.specs.declared.row_index.FilledSets.{FilledSets}

@@ -10,7 +10,7 @@ use Rattle.std.proofs.lemmas.List.Sums.{sum_by-cons}
 use Rattle.std.specs.List.{sum_by, AllPairs}
 use Rattle.std.specs.List.Sorted.{IsStrictlyIncreasing}
 use Rattle.std.specs.Prelude.{replicate}
-use Rattle.bitrows.specs.RowSets.{HasAt}
+use Rattle.earley.specs.RowSets.{HasAt}
 use Rattle.earleyitems.proofs.BlockLemmas.{in_right, in_either, different_both}
 use Rattle.flatgrammar.proofs.CallOfLemmas.{some_same, equal_or}
 use Rattle.flatgrammar.proofs.InLemmas.{in_left}

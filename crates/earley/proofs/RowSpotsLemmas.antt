@@ -5,7 +5,7 @@ use Rattle.std.proofs.Common.{slice_get, slice_index_or, sym, ◌∙◌, ap, sub
 use Rattle.std.proofs.lemmas.Bool.{cases_lt}
 use Rattle.std.proofs.lemmas.List.{length-map}
 use Rattle.std.proofs.lemmas.Option.{slice_get-get_or}
-use Rattle.bitrows.specs.RowSets.{HasSome}
+use Rattle.earley.specs.RowSets.{HasSome}
 use Rattle.flatgrammar.proofs.CallOfLemmas.{get_below, get_map, some_same}
 use Rattle.flatgrammar.proofs.InLemmas.{at_end, before_end, in_left}
 use Rattle.flatgrammar.specs.Blocks.{item_at}

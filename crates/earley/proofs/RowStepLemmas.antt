@@ -8,7 +8,7 @@ use Rattle.std.proofs.Common.{◌∙◌, ap, subst, arith}
 use Rattle.std.proofs.Common.{ltb}
 use Rattle.std.proofs.lemmas.Bool.{cases_lt, ltb-true}
 use Rattle.std.proofs.lemmas.Option.{slice_get-get_or}
-use Rattle.bitrows.specs.RowSets.{Rows, HasAt, AddsAt}
+use Rattle.earley.specs.RowSets.{Rows, HasAt, AddsAt}
 use Rattle.earleyitems.proofs.ExpandLemmas.{take_one}
 use Rattle.earleyitems.specs.ItemSets.{IsPredicted, IsAdvanced, IsCompleted, waiting_in, waiting_or}
 use Rattle.earleyitems.specs.Charts.{IsWhole, IsFirst, IsAfter}

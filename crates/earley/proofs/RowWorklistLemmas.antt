@@ -6,7 +6,7 @@ use Rattle.std.proofs.Common.{[], ◌∷◌, ◌++◌, length, slice_get, slice_
 use Rattle.std.proofs.Common.{subst}
 use Rattle.std.specs.List.Sorted.{IsStrictlyIncreasing}
 use Rattle.std.specs.Prelude.{replicate}
-use Rattle.bitrows.specs.RowSets.{Rows, HasAt, TakesAt, no_items}
+use Rattle.earley.specs.RowSets.{Rows, HasAt, TakesAt, no_items}
 use Rattle.earleyitems.proofs.IsBuiltLemmas.{built_more, after_holds, whole_holds}
 use Rattle.earleyitems.proofs.IsWorkedLemmas.{passed_holds, none_hold, worked_closed}
 use Rattle.earleyitems.proofs.ScanLastLemmas.{predicted_holds, completed_holds}

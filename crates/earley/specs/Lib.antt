@@ -2,3 +2,5 @@ pub mod PlaceTables
 pub mod RowItems
 pub mod RowCharts
 pub mod RowIndexes
+pub mod RowMembers
+pub mod RowSets

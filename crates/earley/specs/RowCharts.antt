@@ -1,6 +1,6 @@
 -- Charts of rows.
 use Rattle.std.specs.Prelude.{◌≡◌, ◌⊎◌, ℕ, List, map, length, Option, Some, None, slice_get}
-use Rattle.bitrows.specs.RowSets.{Rows}
+use Rattle.earley.specs.RowSets.{Rows}
 use Rattle.earleyitems.specs.ChartSets.{pair}
 use Rattle.earleyitems.specs.Worklist.{IsWork}
 use Rattle.flatgrammar.specs.Flat.{Place, at}

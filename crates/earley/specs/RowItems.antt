@@ -1,6 +1,6 @@
 -- Item sets as rows: of each place, by number, its origins.
 use Rattle.std.specs.Prelude.{◌≡◌, ◌↔◌, ◌⊎◌, ℕ, ◌+◌, ◌<◌, List, [], ◌∷◌, ◌++◌, length, map, Some, slice_get, Contains}
-use Rattle.bitrows.specs.RowSets.{Rows, HasAt, HasSome}
+use Rattle.earley.specs.RowSets.{Rows, HasAt, HasSome}
 use Rattle.earleyitems.specs.ItemSets.{IsAdvanced, waiting_in}
 use Rattle.flatgrammar.specs.Blocks.{item_at, spot}
 use Rattle.flatgrammar.specs.NodeSteps.{IfSomeSet}

@@ -3,13 +3,18 @@
 
 mod chart;
 mod place_table;
+mod row;
 mod row_chart;
 mod row_fill;
 mod row_index;
+mod row_set;
 mod row_sets;
 mod row_spots;
 mod row_step;
 mod verdict;
+mod words;
 
 pub use chart::{Chart, judge};
+pub use row::BitRow;
+pub use row_set::{RowSet, empty_rows};
 pub use verdict::viable;

@@ -1,7 +1,7 @@
 //! Fills the sets of a line as rows.
 ghost use Rattle.std.specs.Prelude.{◌≡◌, ◌↔◌, ◌+◌, ◌<◌, ◌≤◌, ◌^◌, ◌++◌, ◌∷◌, ℕ, [], IsTrue, IfOk, IfSome, length, map};
 ghost use Rattle.std.specs.Prelude.{slice_get, slice_index_or, Contains, Some};
-ghost use Rattle.bitrows.specs.RowSets.{HasAt};
+ghost use Rattle.earley.specs.RowSets.{HasAt};
 ghost use Rattle.earleyitems.specs.ChartSets.{set_at, IsSet};
 ghost use Rattle.earleyitems.specs.Charts.{IsWhole, IsFirst, IsBuilt};
 ghost use Rattle.earleyitems.specs.ScannedItems.{IsScannedItem};
@@ -19,7 +19,7 @@ use crate::row_fill::{fill_rows, row_of};
 use crate::row_index::{FilledSets, keep_set, no_sets};
 use crate::row_sets::{KeptRows, RowChart, kept_rows};
 use crate::row_step::{advance_call, predict_root};
-use bitrows::{BitRow, RowSet};
+use crate::{BitRow, RowSet};
 use flatgrammar::{Item, Spot, Tables, reads, whole_root};
 use letters::Letter;
 use ruletable::Memory;

@@ -1,6 +1,6 @@
 //! Fills a set of rows.
 ghost use Rattle.std.specs.Prelude.{◌≡◌, ◌↔◌, ◌<◌, ◌^◌, ℕ, List, true, IfOk, length, Contains};
-ghost use Rattle.bitrows.specs.RowSets.{HasAt};
+ghost use Rattle.earley.specs.RowSets.{HasAt};
 ghost use Rattle.earleyitems.specs.Closed.{HoldAll};
 ghost use Rattle.flatgrammar.specs.Blocks.{AreExact};
 ghost use Rattle.flatgrammar.specs.NodeSteps.{flat_of};
@@ -13,7 +13,7 @@ ghost use Rattle.earley.specs.RowItems.{IsRowItem};
 use crate::place_table::PlaceTable;
 use crate::row_index::FilledSets;
 use crate::row_step::work_row;
-use bitrows::{BitRow, RowSet};
+use crate::{BitRow, RowSet};
 use ruletable::Memory;
 use std::alloc::Global;
 

@@ -1,11 +1,11 @@
 //! The filled sets of a line, indexed by dotted rule.
 ghost use Rattle.std.specs.Prelude.{◌≡◌, ◌↔◌, ◌⊎◌, ◌+◌, ◌<◌, ◌≤◌, ◌^◌, ◌++◌, ◌∷◌, ℕ, [], length};
 ghost use Rattle.std.specs.Prelude.{IsTrue, IfOk, Contains};
-ghost use Rattle.bitrows.specs.RowSets.{HasAt};
+ghost use Rattle.earley.specs.RowSets.{HasAt};
 ghost use Rattle.earley.specs.RowIndexes.{Indexes, AreIndexedBelow, AreIndexed};
 
 use crate::row_sets::KeptRows;
-use bitrows::{BitRow, empty_rows};
+use crate::{BitRow, empty_rows};
 use ruletable::Memory;
 use std::alloc::Global;
 

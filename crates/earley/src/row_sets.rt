@@ -5,7 +5,7 @@ ghost use Rattle.flatgrammar.specs.declared.block.Spot.{Spot as code_spot};
 ghost use Rattle.earley.specs.RowItems.{row_items};
 
 use crate::place_table::PlaceTable;
-use bitrows::{BitRow, RowSet};
+use crate::{BitRow, RowSet};
 use ruletable::Memory;
 
 /// A filled set.

@@ -1,9 +1,9 @@
 //! The dotted rules of the items of a set that is kept as rows.
 ghost use Rattle.std.specs.Prelude.{◌↔◌, ℕ, length, Contains, IsTrue, IfOk};
-ghost use Rattle.bitrows.specs.RowSets.{HasSome};
+ghost use Rattle.earley.specs.RowSets.{HasSome};
 ghost use Rattle.earley.specs.RowItems.{AreSpotsBelow};
 
-use bitrows::BitRow;
+use crate::BitRow;
 use flatgrammar::Spot;
 use ruletable::Memory;
 use std::alloc::Global;

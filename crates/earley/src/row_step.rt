@@ -1,6 +1,6 @@
 //! Prediction, advance and completion for the items of a row.
 ghost use Rattle.std.specs.Prelude.{◌≡◌, ◌↔◌, ◌<◌, ℕ, List, [], IsTrue, IfOk, length, Contains};
-ghost use Rattle.bitrows.specs.RowSets.{HasAt};
+ghost use Rattle.earley.specs.RowSets.{HasAt};
 ghost use Rattle.earleyitems.specs.ItemSets.{IsPredicted, IsCompleted};
 ghost use Rattle.earleyitems.specs.Worklist.{AdvancesNullable, IsWork};
 ghost use Rattle.flatgrammar.specs.Blocks.{begin_count};
@@ -14,7 +14,7 @@ ghost use Rattle.earley.specs.RowItems.{Gains, IsAfterCall, IsCompletedBy, IsFor
 use crate::place_table::{Call, PlaceTable};
 use crate::row_index::FilledSets;
 use crate::row_sets::KeptRows;
-use bitrows::{BitRow, RowSet};
+use crate::{BitRow, RowSet};
 use ruletable::Memory;
 
 /// Predicts a root that is reached: adds the numbers of a row to the dotted rules where it starts.

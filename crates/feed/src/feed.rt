@@ -1,5 +1,6 @@
 //! A window that slides over a reader.
-ghost use Rattle.std.specs.Prelude.{◌≡◌, ℕ, List, ◌+◌, ◌<◌, ◌≤◌, [], ◌++◌, length, take, drop, false, IfOk, OnOk};
+ghost use Rattle.std.specs.Prelude.{◌≡◌, ℕ, List, ◌+◌, ◌<◌, ◌≤◌, [], ◌++◌, length, take, drop, false};
+ghost use Rattle.std.specs.Prelude.{IfNone, IfOk, IfSome, OnOk};
 ghost use Rattle.std.specs.Borrow.{sem};
 ghost use Rattle.std.specs.List.{refill};
 ghost use Rattle.circular_buffer.specs.Buffer.{buffer};
@@ -86,6 +87,7 @@ impl<'a, R: Source> Feed<'a, R> {
         ensures grows { Grows R.remaining self.old self.new }
         ensures told { IsTrueOfReader R.remaining R.failed R.ended self.new }
         ensures goes { flow_of self.new ≡ Flow.Open → length (bytes_of self.old) < length (bytes_of self.new) }
+        ensures few { length (bytes_of self.new) ≤ length (bytes_of self.old) + length buffer.old }
     {
         let room = self.free();
         if self.left == 0 {
@@ -114,6 +116,7 @@ impl<'a, R: Source> Feed<'a, R> {
         ensures grows { Grows R.remaining self.old self.new }
         ensures told { IsTrueOfReader R.remaining R.failed R.ended self.new }
         ensures goes { flow_of self.new ≡ Flow.Open → length (bytes_of self.old) < length (bytes_of self.new) }
+        ensures few { length (bytes_of self.new) ≤ length (bytes_of self.old) + 32 }
     {
         let mut few = [0u8; 32];
         self.pull(&mut few);
@@ -129,9 +132,42 @@ impl<'a, R: Source> Feed<'a, R> {
         ensures grows { Grows R.remaining self.old self.new }
         ensures told { IsTrueOfReader R.remaining R.failed R.ended self.new }
         ensures goes { flow_of self.new ≡ Flow.Open → length (bytes_of self.old) < length (bytes_of self.new) }
+        ensures few { length (bytes_of self.new) ≤ length (bytes_of self.old) + 4096 }
     {
         let mut many = [0u8; 4096];
         self.pull(&mut many);
+    }
+
+    /// Reads once, unless the window is full, or the reader ended or failed: then it returns which. It asks for at most
+    /// 4096 bytes, for no more than there is room for, and for none after the greatest length of an input.
+    #[inline(always)]
+    pub fn read_more(&mut self) -> Option<Held>
+        requires { IsTrueOfReader R.remaining R.failed R.ended self.old }
+        ensures loan { SameLoan self.old self.new }
+        ensures grows { Grows R.remaining self.old self.new }
+        ensures told { IsTrueOfReader R.remaining R.failed R.ended self.new }
+        ensures few { length (bytes_of self.new) ≤ length (bytes_of self.old) + 4096 }
+        ensures held { IfSome result (λ held. (self.new ≡ self.old) × IsHeld self.new held
+            × (length (bytes_of self.new) ≤ capacity_of self.new)) }
+        ensures went { IfNone result ((length (bytes_of self.old) < capacity_of self.old)
+            × (flow_of self.old ≡ Flow.Open)
+            × (flow_of self.new ≡ Flow.Open → length (bytes_of self.old) < length (bytes_of self.new))) }
+    {
+        let room = self.free();
+        if room == 0 {
+            return Some(Held::Full);
+        }
+        match self.flow {
+            Flow::Open => {}
+            Flow::Ended => return Some(Held::End),
+            Flow::Broken => return Some(Held::Fault),
+        }
+        if room <= 32 {
+            self.pull_few();
+        } else {
+            self.pull_many();
+        }
+        None
     }
 
     /// Reads until the window is full, the reader ends or fails, and returns which. It asks for no more bytes than
@@ -146,19 +182,8 @@ impl<'a, R: Source> Feed<'a, R> {
         ensures within { length (bytes_of self.new) ≤ capacity_of self.new }
     {
         loop {
-            let room = self.free();
-            if room == 0 {
-                return Held::Full;
-            }
-            match self.flow {
-                Flow::Open => {}
-                Flow::Ended => return Held::End,
-                Flow::Broken => return Held::Fault,
-            }
-            if room <= 32 {
-                self.pull_few();
-            } else {
-                self.pull_many();
+            if let Some(held) = self.read_more() {
+                return held;
             }
         }
     }

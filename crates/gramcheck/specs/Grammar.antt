@@ -1,6 +1,7 @@
 -- What contracts see of a sound grammar.
 use Rattle.std.specs.Prelude.{ℕ, List}
 use Rattle.ruletable.specs.Rules as table
+use Rattle.pegread.specs.Pattern.{Rule}
 use Rattle.pegread.specs.declared.expr.Expr.{Expr}
 use Rattle.pegread.specs.PegViews.{rules_of}
 use Rattle.pegnodes.specs.KeyLists.{Marks, node_marks, tail_marks}
@@ -20,9 +21,8 @@ pub record Grammar : Type 0 where
   pub ranks : List ℕ
   pub keys : Marks
 
--- the same of a grammar whose keys are not found yet
+-- the id of the start rule, the numbered nodes, of each rule the node that spells its body, and of each node its rank
 pub record Ranked : Type 0 where
-  pub rules : table.Rules Expr
   pub start : ℕ
   pub nodes : List Node
   pub bodies : List ℕ
@@ -31,6 +31,12 @@ pub record Ranked : Type 0 where
 -- the nodes spell the rules' bodies, and every left step between them lowers the rank
 abbrev pub IsSoundGrammar : Grammar → Type 0
 IsSoundGrammar g = IsRanked (rules_of g.rules) g.start (shapes_of g.nodes) g.bodies g.ranks
+
+-- the nodes are those of the rules, one after the other; they spell the rules' bodies, and every left step between them
+-- lowers the rank
+pub record IsRankedFor (rules : List Rule) (r : Ranked) : Type 0 where
+  pub ranked : IsRanked rules r.start (shapes_of r.nodes) r.bodies r.ranks
+  pub numbered : AreNumbered rules (shapes_of r.nodes) r.bodies
 
 -- what is no key is asked for at one position at most, or only where a key is that determines it
 abbrev pub HasKeys : Grammar → Type 0

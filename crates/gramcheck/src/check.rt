@@ -6,7 +6,7 @@ ghost use Rattle.ruletable.specs.Rules.{find_in};
 ghost use Rattle.pegread.specs.PegViews.{rules_of};
 ghost use Rattle.gramcheck.specs.Checked.{is_refused, IsStart};
 ghost use Rattle.gramcheck.specs.Defined.{IsGiven};
-ghost use Rattle.gramcheck.specs.Grammar.{IsNumbered, IsSoundGrammar};
+ghost use Rattle.gramcheck.specs.Grammar.{IsNumbered, IsRankedFor, IsSoundGrammar};
 ghost use Rattle.pegnodes.specs.NodeCounts.{node_counts};
 ghost use Rattle.pegnodes.specs.NodeLists.{AreNumbered};
 ghost use Rattle.pegnodes.specs.Nodes.{shapes_of};
@@ -15,7 +15,7 @@ ghost use Rattle.gramcheck.specs.Sound.{IsRanked};
 
 use crate::analysis::analysed;
 use crate::notes::{notes, refused};
-use crate::ranked::RankedPeg;
+use crate::ranked::RankedNodes;
 use crate::sound::SoundPeg;
 use pegnodes::{Cut, cut_grammar};
 use pegread::{Expr, Peg};
@@ -58,10 +58,10 @@ pub fn check_peg(alloc: Global, peg: Peg, start: Option<&str>) -> Result<Checked
     ensures numbered { IfOk result (λ c. IfSome c.sound IsNumbered) }
     ensures nodes { IfOk result (λ c. IfSome c.sound (λ g. length g.nodes ≡ node_counts (rules_of peg.rules))) }
 {
-    let Checked { notes, sound } = judge_peg(alloc, peg, start)?;
+    let Checked { notes, sound } = judge_peg(alloc, &peg, start)?;
     match sound {
         Some(ranked) => {
-            let sound = ranked.ready(alloc)?;
+            let sound = ranked.ready(alloc, peg.rules)?;
             Ok(Checked {
                 notes,
                 sound: Some(sound),
@@ -72,16 +72,21 @@ pub fn check_peg(alloc: Global, peg: Peg, start: Option<&str>) -> Result<Checked
 }
 
 /// Checks a grammar as `check_peg` does, and makes no table that only a run needs: where no note rejects the grammar,
-/// `RankedPeg::ready` makes them. The notes are those of `check_peg`.
+/// `RankedNodes::ready` makes them. The notes are those of `check_peg`.
 ///
 /// # Errors
-/// `Memory` if an allocation fails; the grammar is dropped then.
-pub fn judge_peg(alloc: Global, peg: Peg, start: Option<&str>) -> Result<Checked<RankedPeg>, Memory>
-    ensures notes { IfOk result (λ c. AreNotes (rules_of peg.rules) (names_at (rules_of peg.rules) peg.redefined.items)
-        (option_copied start.entry) (map said_of c.notes.items)) }
+/// `Memory` if an allocation fails.
+pub fn judge_peg(
+    alloc: Global,
+    peg: &Peg,
+    start: Option<&str>,
+) -> Result<Checked<RankedNodes>, Memory>
+    ensures notes { IfOk result (λ c. AreNotes (rules_of peg.now.rules)
+        (names_at (rules_of peg.now.rules) peg.now.redefined.items) (option_copied start.entry)
+        (map said_of c.notes.items)) }
     ensures sound { IfOk result (λ c. MatchOption c.sound (is_refused (map said_of c.notes.items) ≡ true)
-        (λ g. (is_refused (map said_of c.notes.items) ≡ false) × (g.rules ≡ peg.rules)
-        × IsStart (option_copied start.entry) (rules_of peg.rules) g.start)) }
+        (λ r. (is_refused (map said_of c.notes.items) ≡ false) × IsRankedFor (rules_of peg.now.rules) r
+        × IsStart (option_copied start.entry) (rules_of peg.now.rules) r.start)) }
 {
     let judged = judge(alloc, &peg.rules, &peg.redefined, start)?;
     if refused(&judged.notes) {
@@ -91,7 +96,7 @@ pub fn judge_peg(alloc: Global, peg: Peg, start: Option<&str>) -> Result<Checked
         });
     }
     let first = start_id(&peg.rules, start)?;
-    let ranked = RankedPeg::new(peg.rules, first, judged.cut, judged.ranks);
+    let ranked = RankedNodes::new(first, judged.cut, judged.ranks);
     Ok(Checked {
         notes: judged.notes,
         sound: Some(ranked),

@@ -23,7 +23,7 @@ pub use laws::{
 };
 pub use notes::{one_list_of_notes, redefinitions};
 pub use nullable::nullable_rules;
-pub use ranked::RankedPeg;
+pub use ranked::RankedNodes;
 pub use ranked_laws::{
     exactly_one_outcome, exactly_one_outcome_of_start, ranks_fall, some_outcome_of_ranked,
 };

@@ -1,18 +1,16 @@
-//! Grammars that no note rejects, before they are made ready to run.
+//! The nodes of grammars that no note rejects, before the grammars are made ready to run.
 ghost use Rattle.std.specs.Prelude.{◌≡◌, ◌<◌, List, length, IfOk};
 ghost use Rattle.fixpoint.specs.NumberMarks.{AreBelow};
 ghost use Rattle.pegread.specs.Pattern.{Rule};
 ghost use Rattle.pegread.specs.PegViews.{rules_of};
-ghost use Rattle.gramcheck.specs.Grammar.{IsNumbered, IsSoundGrammar};
+ghost use Rattle.gramcheck.specs.Grammar.{IsNumbered, IsRankedFor, IsSoundGrammar};
 ghost use Rattle.gramcheck.specs.Printing.{ArePrintMarks};
 ghost use Rattle.pegnodes.specs.Bodies.{AreBodies, IsBuilt};
 ghost use Rattle.pegnodes.specs.ByteTables.{AreByteTables};
 ghost use Rattle.pegnodes.specs.KeyLists.{marks_of, node_marks, tail_marks};
 ghost use Rattle.pegnodes.specs.KeyMarks.{AreMarks};
-ghost use Rattle.pegnodes.specs.NodeLists.{AreNumbered};
 ghost use Rattle.pegnodes.specs.Nodes.{shapes_of};
 ghost use Rattle.pegnodes.specs.Slots.{AreCuts};
-ghost use Rattle.gramcheck.specs.Sound.{IsRanked};
 
 use crate::printing::print_marks;
 use crate::sound::{SoundPeg, Tables};
@@ -22,14 +20,12 @@ use ruletable::{Memory, RuleTable};
 use std::alloc::Global;
 use std::marker::Model;
 
-/// A grammar that no note rejects. It has none of the tables that a run needs.
+/// The nodes of a grammar that no note rejects, without the tables that a run needs.
 ///
 /// The ranks show that the grammar is well-formed (Ford 2004, section 3.6): a left step leads to a node of lower rank,
 /// so no evaluation goes in a circle.
 #[derive(Drop)]
-pub struct RankedPeg {
-    /// The rules, by id.
-    rules: RuleTable<Expr>,
+pub struct RankedNodes {
     /// The id of the start rule.
     start: usize,
     /// The rules' bodies, cut into numbered nodes.
@@ -38,65 +34,49 @@ pub struct RankedPeg {
     ranks: Vec<usize>,
 }
 
-impl Model for RankedPeg {
+impl Model for RankedNodes {
     ghost use Rattle.gramcheck.specs.Grammar.{Ranked};
-    ghost use Rattle.gramcheck.specs.Sound.{IsRanked};
-    ghost use Rattle.pegnodes.specs.NodeLists.{AreNumbered};
-    ghost use Rattle.pegnodes.specs.Nodes.{shapes_of};
     ghost use Rattle.pegnodes.specs.contracts.node.Node as n;
-    ghost use Rattle.pegread.specs.PegViews.{rules_of};
-    ghost use Rattle.pegread.specs.contracts.expr.Expr as e;
     ghost use Rattle.std.specs.Coded.{codes};
 
     ghost Value = { Ranked };
 
-    ghost coded = { Prim.hlevel (codes, e.the_row.coded, n.the_row.coded) };
+    ghost coded = { Prim.hlevel (codes, n.the_row.coded) };
 
     ghost view = { λ p. record {
-      rules = p.rules;
       start = p.start;
       nodes = p.cut.nodes.items;
       bodies = p.cut.bodies.items;
       ranks = p.ranks.items;
     } };
-
-    ghost invariant = { λ p. IsRanked (rules_of p.rules) p.start (shapes_of p.cut.nodes.items) p.cut.bodies.items
-        p.ranks.items × AreNumbered (rules_of p.rules) (shapes_of p.cut.nodes.items) p.cut.bodies.items };
 }
 
-impl RankedPeg {
-    /// Returns the grammar of these rules and nodes, with the ranks of its nodes.
-    pub(crate) fn new(
-        rules: RuleTable<Expr>,
-        start: usize,
-        cut: Cut,
-        ranks: Vec<usize>,
-    ) -> RankedPeg
-        requires ranked { IsRanked (rules_of rules) start (shapes_of cut.nodes.items) cut.bodies.items ranks.items }
-        requires numbered { AreNumbered (rules_of rules) (shapes_of cut.nodes.items) cut.bodies.items }
-        ensures rules { result.rules ≡ rules }
-        ensures start { result.start ≡ start }
+impl RankedNodes {
+    /// Returns these nodes, with their ranks, for the start rule of that id.
+    pub(crate) fn new(start: usize, cut: Cut, ranks: Vec<usize>) -> RankedNodes
+        ensures { result ≡ record {
+          start = start;
+          nodes = cut.nodes.items;
+          bodies = cut.bodies.items;
+          ranks = ranks.items;
+        } }
     {
-        RankedPeg {
-            rules,
-            start,
-            cut,
-            ranks,
-        }
+        RankedNodes { start, cut, ranks }
     }
 
-    /// Makes the grammar ready to run from its start rule.
+    /// Makes the grammar of these rules ready to run from its start rule.
     ///
     /// # Errors
     /// `Memory` if an allocation fails; the grammar is dropped then.
-    pub fn ready(self, alloc: Global) -> Result<SoundPeg, Memory>
-        ensures rules { IfOk result (λ g. g.rules ≡ self.rules) }
+    pub fn ready(self, alloc: Global, rules: RuleTable<Expr>) -> Result<SoundPeg, Memory>
+        requires { IsRankedFor (rules_of rules) self }
+        ensures rules { IfOk result (λ g. g.rules ≡ rules) }
         ensures start { IfOk result (λ g. g.start ≡ self.start) }
         ensures sound { IfOk result IsSoundGrammar }
         ensures numbered { IfOk result IsNumbered }
     {
         let tables = tables_of(alloc, &self.cut, self.start)?;
-        Ok(SoundPeg::new(self.rules, self.start, self.cut, self.ranks, tables))
+        Ok(SoundPeg::new(rules, self.start, self.cut, self.ranks, tables))
     }
 }
 

@@ -230,6 +230,17 @@ over_kept tables old new states more kept grown within parts s x j at are = reco
   at = subst (λ v. IsAt tables new more s x j v) (sym (below_kept old new kept parts are)) at;
 }
 
+pub settled_kept : (tables : code_flat.Tables) (old new : List Cont) (states more : List State) → AreKept old new
+    → AreGrown states more → ((s : ℕ) (state : State) → slice_get states s ≡ Some state → (id : ℕ)
+    → Contains state.tops.items id → id ≤ length old) → (parts : List ℕ) (s : ℕ) (x : List ℕ) (j : ℕ)
+    → IsSettled tables old states parts s x j → IsSettled tables new more parts s x j
+unfolding over_kept at_kept
+settled_kept tables old new states more kept grown within parts s x j is = record {
+  over = over_kept tables old new states more kept grown within parts s x j
+      (at_kept tables old new states more kept grown within s x j (below_of old parts) is.over.at) is.over.parts_are;
+  plain = is.plain;
+}
+
 -- a part is pushed
 pub over_pushed : (tables : code_flat.Tables) (old new : List Cont) (states : List State) → AreKept old new
     → (parts pushed : List ℕ) (part s : ℕ) (x : List ℕ) (j : ℕ) → pushed ≡ parts ++ part ∷ [] → AreParts old parts

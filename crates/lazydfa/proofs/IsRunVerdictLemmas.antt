@@ -3,7 +3,7 @@
 use Rattle.std.proofs.Common.{◌≡◌, ℕ, ◌<◌, Bool, true, false, List, [], ◌∷◌, length, refl, sym, ◌∙◌, ap}
 use Rattle.std.proofs.Common.{subst, arith, inl, map, get_or, if◌then◌else◌}
 use Rattle.std.proofs.lemmas.Option.{slice_get-get_or, slice_get-map}
-use Rattle.std.specs.Prelude.{slice_get, Option, Some, None, IfSome, option_map}
+use Rattle.std.specs.Prelude.{slice_get, Some, option_map}
 use Rattle.flatgrammar.specs.Flat.{Flat, Place, Concat}
 use Rattle.flatgrammar.specs.FlatVerdicts.{IsFlatVerdict}
 use Rattle.flatgrammar.specs.FlatViews.{node_of}
@@ -64,7 +64,7 @@ end_verdict tables conts states s x j below at_j plain end reached n is_n false 
 -- the flat grammar's verdict
 module _ (tables : code_flat.Tables) (roots : GiveRoots (flat_of tables) tables.roots.items)
     (uncounted : AreUncounted (flat_of tables)) (one : IsOne (flat_of tables)) (x : List ℕ) where
-  verdict_of_run : (verdict : Verdict) → IsRunVerdict (flat_of tables) (last_of tables) x verdict
+  pub verdict_of_run : (verdict : Verdict) → IsRunVerdict (flat_of tables) (last_of tables) x verdict
       → IsFlatVerdict (flat_of tables) x verdict
   verdict_of_run Yes accepts =
       accepted_holds (flat_of tables) uncounted x (last_of tables) (tells_last tables roots) one.0 one.1 accepts
@@ -81,11 +81,6 @@ module _ (tables : code_flat.Tables) (roots : GiveRoots (flat_of tables) tables.
           (item_reached (flat_of tables) uncounted x (last_of tables) (tells_last tables roots) item);
     },
   )
-
-  pub run_verdict : (flat : Flat) → flat_of tables ≡ flat → (told : Option Verdict)
-      → IfSome told (IsRunVerdict (flat_of tables) (last_of tables) x) → IfSome told (IsFlatVerdict flat x)
-  run_verdict flat is None h = h
-  run_verdict flat is (Some verdict) h = subst (λ v. IsFlatVerdict v x verdict) is (verdict_of_run verdict h)
 
 -- a list of one
 one_member : (ms : List ℕ) → length ms ≡ 1 → (body : ℕ) × (ms ≡ body ∷ [])

@@ -8,7 +8,6 @@ use Rattle.std.specs.Prelude.{slice_get, Some, if◌then◌else◌}
 use Rattle.flatgrammar.specs.NodeSteps.{flat_of}
 use Rattle.flatgrammar.specs.TableViews.{GiveRoots}
 use Rattle.flatgrammar.specs.declared.tables.Tables as code_flat
-use Rattle.flatgrammar.specs.declared.verdict.Verdict.{Verdict}
 use Rattle.flatgrammar.specs.declared.verdict.Verdict.TheVariants.{Yes, No}
 use Rattle.lazydfa.specs.declared.conts.Cont.{Cont}
 use Rattle.lazydfa.specs.declared.cache.State.{State}
@@ -17,9 +16,10 @@ use Rattle.lazydfa.specs.declared.cache.Cell.TheVariants.{To}
 use Rattle.lazydfa.specs.Conts.{last_of}
 use Rattle.lazydfa.specs.Cached.{AreCached, IsCell}
 use Rattle.letterclasses.specs.ClassBounds.{AreClasses, IsClassOf}
+use Rattle.lazydfa.specs.declared.glide.Track.{Track}
 use Rattle.lazydfa.specs.declared.memo.Memo.{Memo}
 use Rattle.lazydfa.specs.Hops.{IsEndAt, IsHopTo, IsTaken, StaysBy, StaysOver, last_word}
-use Rattle.lazydfa.specs.Memos.{IsEndOf, IsMemo, IsOver, IsSettled, IsTrack}
+use Rattle.lazydfa.specs.Memos.{IsEndOf, IsMemo, IsOver, IsSettled, IsRunStop, IsTrack}
 use Rattle.lazydfa.specs.RunVerdicts.{IsReached, IsRunVerdict}
 use Rattle.lazydfa.specs.StackParts.{below_of}
 use Rattle.lazydfa.proofs.ContsLemmas.{kept_same}
@@ -239,18 +239,31 @@ module _ (tables : code_flat.Tables) (samples : List ℕ) (memo : Memo) (x : Lis
       (sym (row_is track.state 0 (length samples + 1) row (omega arith) first) ∙ ap (λ v. row / v) (sym wide))
       track.runs
 
-  -- .. and ended tells the verdict at the end of the line
-  pub end_told : IsMemo tables samples memo → (row j n : ℕ) (ended : Bool) → j ≡ length x → n ≡ length x
-      → IsTrack tables samples memo x (record { row = row; at = j }) → IsEndOf samples memo row ended
-      → (verdict : Verdict) → verdict ≡ (if ended then Yes else No n)
-      → IsRunVerdict (flat_of tables) (last_of tables) x verdict
-  end_told is_memo row j n ended end is_n track ends verdict is =
-      subst (λ v. IsRunVerdict (flat_of tables) (last_of tables) x v) (sym is)
-      (end_verdict tables memo.cache.conts.items.items memo.cache.states.items track.state x j
-      (below_of memo.cache.conts.items.items memo.parts.items) track.runs.over.at
-      (plain_below memo.cache.conts.items.items memo.parts.items track.runs.over.at.state.ended track.runs.plain) end
-      track.reached n is_n ended (ends tables is_memo track.state track.row track.runs.over.at.state
-      track.runs.over.at.is))
+  -- .. and over another memo, if the state does
+  pub stays_at : (new : Memo) (track : Track) → IsTrack tables samples memo x track
+      → IsSettled tables new.cache.conts.items.items new.cache.states.items new.parts.items
+      (track.row / (length samples + 1)) x track.at → IsTrack tables samples new x track
+  stays_at new track t runs = record {
+    state = t.state;
+    row = t.row;
+    runs = let first : track.row ≡ t.state * (length samples + 1) + 0 = let r = t.row in omega (arith, r) in
+        subst (λ v. IsSettled tables new.cache.conts.items.items new.cache.states.items new.parts.items v x track.at)
+        (row_is t.state 0 (length samples + 1) track.row (omega arith) first) runs;
+    reached = t.reached;
+  }
+
+  -- .. and where a run stops after all symbols, ended says the verdict
+  pub stop_verdict : IsMemo tables samples memo → (stop : Track) → IsRunStop tables samples memo x stop
+      → length x ≤ stop.at → (ended : Bool) → IsEndOf samples memo stop.row ended
+      → IsRunVerdict (flat_of tables) (last_of tables) x (if ended then Yes else No stop.at)
+  stop_verdict is_memo stop is le ended ends =
+      let within = is.within in
+      let end : stop.at ≡ length x = omega (arith, within, le) in
+      end_verdict tables memo.cache.conts.items.items memo.cache.states.items is.tracks.state x stop.at
+      (below_of memo.cache.conts.items.items memo.parts.items) is.tracks.runs.over.at
+      (plain_below memo.cache.conts.items.items memo.parts.items is.tracks.runs.over.at.state.ended
+      is.tracks.runs.plain) end is.tracks.reached stop.at end ended (ends tables is_memo is.tracks.state
+      is.tracks.row is.tracks.runs.over.at.state is.tracks.runs.over.at.is)
 
 pub row_state : (s row stride n : ℕ) → stride ≡ n + 1 → row ≡ s * (n + 1) → row / stride ≡ s
 row_state s row stride n wide place =

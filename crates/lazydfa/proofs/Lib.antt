@@ -12,5 +12,7 @@ pub mod IsOverLemmas
 pub mod AreHopsLemmas
 pub mod IsTrackLemmas
 pub mod IsRunVerdictLemmas
+pub mod TopSpotLemmas
+pub mod ExpectedLemmas
 pub mod AreUncountedLemmas
 pub mod StateSetsLemmas

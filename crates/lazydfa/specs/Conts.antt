@@ -5,7 +5,9 @@ use Rattle.std.specs.Prelude.{length, reverse, slice_get, Option, Some, None, Co
 use Rattle.flatgrammar.specs.Flat.{Place, at, Set}
 use Rattle.flatgrammar.specs.Blocks.{begin_count, item_at, spot}
 use Rattle.flatgrammar.specs.NodeSteps.{IfSomeSet}
+use Rattle.flatgrammar.specs.Places.{In}
 use Rattle.flatgrammar.specs.TableViews.{call_of, done_of, read_of}
+use Rattle.flatgrammar.specs.declared.block.Spot.{Spot}
 use Rattle.flatgrammar.specs.declared.tables.Tables as code_flat
 use Rattle.lazydfa.specs.declared.conts.Cont.{Cont}
 
@@ -148,3 +150,10 @@ pub record IsTransition (tables : code_flat.Tables) (c : ℕ) (first : List Cont
       × GoesOn tables (ReadsFrom tables c first tops) stack)
   pub ended_is : (ended ≡ true) ↔ ((stack : List Place) × GoesOn tables (ReadsFrom tables c first tops) stack
       × EndsAlone tables stack)
+
+-- the dotted rules on top of the stacks of ids
+pub record AreTopsOf (conts : List Cont) (ids : List ℕ) (spots : List Spot) : Type 0 where
+  pub sound : (s : Spot) → In s spots → (id : ℕ) × Contains ids id × (below : List Place)
+      × (stack_of conts id ≡ at s.node s.step ∷ below)
+  pub whole : (s : Spot) (id : ℕ) (below : List Place) → Contains ids id
+      → stack_of conts id ≡ at s.node s.step ∷ below → In s spots

@@ -1,5 +1,6 @@
 pub mod Cached
 pub mod Conts
+pub mod ExpectedSets
 pub mod Hops
 pub mod Memos
 pub mod RunVerdicts

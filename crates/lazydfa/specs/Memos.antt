@@ -82,9 +82,17 @@ IsEndOf samples memo row ended = (tables : code_flat.Tables) → IsMemo tables s
     → row ≡ s * (length samples + 1) → (got : State) → slice_get memo.cache.states.items s ≡ Some got
     → ended ≡ got.ended
 
--- what the letter after the first j leads to
-abbrev pub IsStepTaken : code_flat.Tables → Memo → List ℕ → ℕ → Step → Type 0
-IsStepTaken tables memo x j (To t) = RunsAt tables memo t x (j + 1)
+-- what the letter after the first j leads to from a state
+abbrev pub IsStepTaken : code_flat.Tables → Memo → ℕ → List ℕ → ℕ → Step → Type 0
+IsStepTaken tables memo s x j (To t) = RunsAt tables memo t x (j + 1)
     × IsReached (flat_of tables) (last_of tables) x (j + 1)
-IsStepTaken tables memo x j Dead = (m : ℕ) → j < m → IsReached (flat_of tables) (last_of tables) x m → ⊥
-IsStepTaken tables memo x j Over = Unit {0}
+IsStepTaken tables memo s x j Dead = RunsAt tables memo s x j
+    × ((m : ℕ) → j < m → IsReached (flat_of tables) (last_of tables) x m → ⊥)
+IsStepTaken tables memo s x j Over = Unit {0}
+
+-- where a run stops: at the end of the line, or where one more letter leads to nothing
+pub record IsRunStop (tables : code_flat.Tables) (samples : List ℕ) (memo : Memo) (x : List ℕ) (stop : Track) : Type 0
+  where
+    pub within : stop.at ≤ length x
+    pub tracks : IsTrack tables samples memo x stop
+    pub dead : stop.at < length x → (m : ℕ) → stop.at < m → IsReached (flat_of tables) (last_of tables) x m → ⊥

@@ -6,6 +6,7 @@ ghost use Rattle.flatgrammar.specs.FlatVerdicts.{DerivesLine, IsFlatVerdict};
 ghost use Rattle.flatgrammar.specs.FlatViews.{node_of};
 ghost use Rattle.flatgrammar.specs.NodeSteps.{flat_of};
 ghost use Rattle.letterclasses.specs.Stacks.{AreUncounted};
+ghost use Rattle.lazydfa.specs.ExpectedSets.{IsExpected};
 ghost use Rattle.lazydfa.specs.RunVerdicts.{IsOne};
 
 use crate::budget::{Budget, ROOM};
@@ -13,8 +14,9 @@ use crate::cache::Cache;
 use crate::chains::Chains;
 use crate::close::Ids;
 use crate::conts::Conts;
+use crate::expected::{Expected, spots_of};
 use crate::memo::Memo;
-use crate::run::{ClassTable, run};
+use crate::run::{ClassTable, run, verdict_at};
 use flatgrammar::{Flat, Node, Tables, Verdict};
 use letterclasses::{Classes, find_classes};
 use letters::Letter;
@@ -91,17 +93,6 @@ fn is_one(tables: &Tables) -> bool
     match tables.nodes.get(tables.whole) {
         Some(Node::Concat(members)) => members.len() == 1,
         _ => false,
-    }
-}
-
-// Returns whether a verdict is yes.
-#[inline(always)]
-fn is_yes(verdict: Verdict) -> bool
-    ensures { IsTrue result ↔ (verdict ≡ Verdict.Yes) }
-{
-    match verdict {
-        Verdict::Yes => true,
-        Verdict::No(_) => false,
     }
 }
 
@@ -184,7 +175,8 @@ impl Automaton {
             (map L.number line.now))) }
     {
         match self.viable(line)? {
-            Some(verdict) => Ok(Some(is_yes(verdict))),
+            Some(Verdict::Yes) => Ok(Some(true)),
+            Some(Verdict::No(_)) => Ok(Some(false)),
             None => Ok(None),
         }
     }
@@ -199,6 +191,35 @@ impl Automaton {
             low: &self.classes.low,
             samples: &self.classes.samples,
         };
-        run(self.alloc, &self.tables, classes, &mut self.memo, line)
+        let Some(stop) = run(self.alloc, &self.tables, classes, &mut self.memo, line)? else {
+            return Ok(None);
+        };
+        let verdict = verdict_at(&self.memo, classes.samples, stop, line.len());
+        Ok(Some(verdict))
+    }
+
+    /// Returns what can follow the longest viable prefix of a line, by one run over the line; `None` and `Memory` as
+    /// `judge`.
+    pub fn expected<L: Letter>(&mut self, line: &[L]) -> Result<Option<Expected>, Memory>
+        ensures same { self.new ≡ self.old }
+        ensures told { IfOk result (λ told. IfSome told (IsExpected self.old (map L.number line.now))) }
+    {
+        let classes = ClassTable {
+            low: &self.classes.low,
+            samples: &self.classes.samples,
+        };
+        let Some(stop) = run(self.alloc, &self.tables, classes, &mut self.memo, line)? else {
+            return Ok(None);
+        };
+        let cache = &self.memo.cache;
+        let Some(state) = cache.states.get(stop.row / (classes.samples.len() + 1)) else {
+            return Ok(None);
+        };
+        let spots = spots_of(self.alloc, &cache.conts, &state.tops)?;
+        Ok(Some(Expected {
+            after: stop.at,
+            spots,
+            ends: state.ended,
+        }))
     }
 }

@@ -7,6 +7,7 @@ mod cache;
 mod chains;
 mod close;
 mod conts;
+mod expected;
 mod fill;
 mod glide;
 mod hops;
@@ -18,4 +19,5 @@ mod states;
 mod transition;
 
 pub use automaton::Automaton;
+pub use expected::Expected;
 pub use states::States;

@@ -1,11 +1,12 @@
 //! The run over a line.
 ghost use Rattle.std.specs.Prelude.{◌≡◌, ◌↔◌, ◌≤◌, ◌<◌, ◌+◌, ℕ, true, List, [], IsTrue, IfOk, IfSome, length};
-ghost use Rattle.std.specs.Prelude.{slice_get, Some, Contains, map, if◌then◌else◌};
+ghost use Rattle.std.specs.Prelude.{slice_get, Some, Contains, map};
 ghost use Rattle.flatgrammar.specs.NodeSteps.{flat_of};
 ghost use Rattle.flatgrammar.specs.TableViews.{GiveRoots};
+ghost use Rattle.flatgrammar.specs.declared.tables.Tables.{Tables as the_tables};
 ghost use Rattle.lazydfa.specs.Conts.{AreKept, AreOlder, last_of};
 ghost use Rattle.lazydfa.specs.Cached.{IsCache, IsCell, Grows, IsStart, IsStartAt};
-ghost use Rattle.lazydfa.specs.Memos.{IsEndOf, IsMemo, IsStepTaken, IsTrack, RunsAt, RunsOver};
+ghost use Rattle.lazydfa.specs.Memos.{IsEndOf, IsMemo, IsStepTaken, IsRunStop, IsTrack, RunsAt, RunsOver};
 ghost use Rattle.letterclasses.specs.ClassBounds.{AreClasses, IsClassOf};
 ghost use Rattle.lazydfa.specs.declared.cache.State.{State};
 ghost use Rattle.lazydfa.specs.RunVerdicts.{IsRunVerdict};
@@ -176,7 +177,7 @@ fn take_step(
     ensures memo { IfOk result (λ step. IsMemo tables.now samples.now memo.new) }
     ensures taken { IfOk result (λ step. (x : List ℕ) (j c : ℕ) → slice_get x j ≡ Some c →
         IsClassOf (flat_of tables.now) samples.now c class → RunsAt tables.now memo.old state x j →
-        IsStepTaken tables.now memo.new x j step) }
+        IsStepTaken tables.now memo.new state x j step) }
 {
     match cell_of(alloc, tables, samples, &mut memo.cache, state, class)? {
         Cell::To(t) => {
@@ -209,18 +210,6 @@ fn prepare(memo: &mut Memo, letters: usize)
     memo.cache.budget.earn(letters);
 }
 
-// Returns the verdict of a run that came to a line's end.
-#[inline(always)]
-fn verdict_at_end(ended: bool, letters: usize) -> Verdict
-    ensures { result ≡ (if ended then Verdict.Yes else Verdict.No letters) }
-{
-    if ended {
-        Verdict::Yes
-    } else {
-        Verdict::No(letters)
-    }
-}
-
 // Returns whether the state of a row has ended.
 #[inline(always)]
 fn ends_at(memo: &Memo, samples: &[u32], row: usize) -> bool
@@ -229,6 +218,22 @@ fn ends_at(memo: &Memo, samples: &[u32], row: usize) -> bool
     match end_of(&memo.hops, samples.len(), row) {
         Some(ended) => ended,
         None => has_ended(&memo.cache, row / (samples.len() + 1)),
+    }
+}
+
+/// Returns the verdict on a line of so many symbols, by where a run over it stopped.
+#[inline(always)]
+pub(crate) fn verdict_at(memo: &Memo, samples: &[u32], stop: Track, letters: usize) -> Verdict
+    ensures { (tables : the_tables) (x : List ℕ) → IsMemo tables samples.now memo.now → letters ≡ length x →
+        IsRunStop tables samples.now memo.now x stop → IsRunVerdict (flat_of tables) (last_of tables) x result }
+{
+    if stop.at < letters {
+        return Verdict::No(stop.at);
+    }
+    if ends_at(memo, samples, stop.row) {
+        Verdict::Yes
+    } else {
+        Verdict::No(stop.at)
     }
 }
 
@@ -250,14 +255,14 @@ fn go_on<L: Letter>(
     memo: &mut Memo,
     line: &[L],
     from: Track,
-) -> Result<Option<Verdict>, Memory>
+) -> Result<Option<Track>, Memory>
     requires roots { GiveRoots (flat_of tables.now) tables.now.roots.items }
     requires classes { AreClasses (flat_of tables.now) classes.low.now classes.samples.now }
     requires memo { IsMemo tables.now classes.samples.now memo.old }
     requires within { from.at ≤ length line.now }
     requires tracks { IsTrack tables.now classes.samples.now memo.old (map L.number line.now) from }
     ensures memo { IfOk result (λ told. IsMemo tables.now classes.entry.samples.now memo.new) }
-    ensures told { IfOk result (λ told. IfSome told (IsRunVerdict (flat_of tables.now) (last_of tables.now)
+    ensures stops { IfOk result (λ told. IfSome told (IsRunStop tables.now classes.entry.samples.now memo.new
         (map L.number line.now))) }
 {
     let low = classes.low;
@@ -278,18 +283,18 @@ fn go_on<L: Letter>(
                 track = glide(memo, low, samples, line, next);
             }
             Step::Dead => {
-                return Ok(Some(Verdict::No(track.at)));
+                return Ok(Some(track));
             }
             Step::Over => {
                 return Ok(None);
             }
         }
     }
-    Ok(Some(verdict_at_end(ends_at(memo, samples, track.row), line.len())))
+    Ok(Some(track))
 }
 
-/// Runs over a line. Returns `Yes` if the augmented start may end after it, or else the length of its longest viable
-/// prefix in symbols; `None` if that exceeds a bound. `Memory` if an allocation fails.
+/// Runs over a line. Returns where that stops: at the end of the line, or after its longest viable prefix; `None` if it
+/// exceeds a bound. `Memory` if an allocation fails.
 #[inline(always)]
 fn follow<L: Letter>(
     alloc: Global,
@@ -297,12 +302,12 @@ fn follow<L: Letter>(
     classes: ClassTable<'_>,
     memo: &mut Memo,
     line: &[L],
-) -> Result<Option<Verdict>, Memory>
+) -> Result<Option<Track>, Memory>
     requires roots { GiveRoots (flat_of tables.now) tables.now.roots.items }
     requires classes { AreClasses (flat_of tables.now) classes.low.now classes.samples.now }
     requires memo { IsMemo tables.now classes.samples.now memo.old }
     ensures memo { IfOk result (λ told. IsMemo tables.now classes.entry.samples.now memo.new) }
-    ensures told { IfOk result (λ told. IfSome told (IsRunVerdict (flat_of tables.now) (last_of tables.now)
+    ensures stops { IfOk result (λ told. IfSome told (IsRunStop tables.now classes.entry.samples.now memo.new
         (map L.number line.now))) }
 {
     let samples = classes.samples;
@@ -314,7 +319,7 @@ fn follow<L: Letter>(
     if track.at < line.len() {
         return go_on(alloc, tables, classes, memo, line, track);
     }
-    Ok(Some(verdict_at_end(ends_at(memo, samples, track.row), line.len())))
+    Ok(Some(track))
 }
 
 /// Runs over a line as `follow` does. If an allocation fails, it empties the memo and returns `Memory`.
@@ -325,12 +330,12 @@ pub(crate) fn run<L: Letter>(
     classes: ClassTable<'_>,
     memo: &mut Memo,
     line: &[L],
-) -> Result<Option<Verdict>, Memory>
+) -> Result<Option<Track>, Memory>
     requires roots { GiveRoots (flat_of tables.now) tables.now.roots.items }
     requires classes { AreClasses (flat_of tables.now) classes.low.now classes.samples.now }
     requires memo { IsMemo tables.now classes.samples.now memo.old }
     ensures memo { IsMemo tables.now classes.entry.samples.now memo.new }
-    ensures told { IfOk result (λ told. IfSome told (IsRunVerdict (flat_of tables.now) (last_of tables.now)
+    ensures stops { IfOk result (λ told. IfSome told (IsRunStop tables.now classes.entry.samples.now memo.new
         (map L.number line.now))) }
 {
     match follow(alloc, tables, classes, memo, line) {

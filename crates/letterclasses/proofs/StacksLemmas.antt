@@ -182,6 +182,10 @@ module _ (flat : Flat) where
               under = g.under;
             }
 
+        pub top_held : {j : ℕ} {p : Place} {below : List Place} → Reach flat last x j (p ∷ below)
+            → (i : ℕ) × Holds flat x j p i
+        top_held h = let g = chain_under h in (g.origin, g.held)
+
         pub reached_item : {j : ℕ} (a : List Place) → Reach flat last x j a → HasItem flat x j
         reached_item [] h = absurd (chain_under h)
         reached_item (p ∷ below) h = let g = chain_under h in record { place = p; origin = g.origin; held = g.held }
@@ -303,6 +307,15 @@ module _ (flat : Flat) where
             by : (below : List Place) → IsAt j h.place below → (a : List Place) × Reach flat last x j a
             by below (inl g) = (h.place ∷ below, g)
             by below (inr g) = popped_reach below g.1
+
+        -- what reads is on top of some stack
+        pub reader_reached : {j i : ℕ} {p r : Place} {set : Set} → Holds flat x j p i → Reads flat p set r
+            → (below : List Place) × Reach flat last x j (p ∷ below)
+        reader_reached {j} {i} {p} {r} {set} h rd = let b = base_of h in by b.below (climb_up h b.below b.begun)
+          where
+            by : (below : List Place) → IsAt j p below → (below : List Place) × Reach flat last x j (p ∷ below)
+            by below (inl g) = (below, g)
+            by below (inr g) = absurd (tells.no_read p r set g.0 rd)
 
         pub holds_accepted : {j : ℕ} (body : ℕ) → slice_get flat.nodes flat.whole ≡ Some (Concat (body ∷ []))
             → Holds flat x j (at flat.whole 1) 0 → Accepts flat last x j

@@ -2,7 +2,7 @@
 -- Serves: next_line (follows, still, filled, fits, short), run_lines
 use Rattle.std.proofs.Common.{◌≡◌, ◌≢◌, ℕ, suc, ◌+◌, ◌<◌, ◌≤◌, ◌==◌, Bool, true, false, Some, None, List, [], ◌∷◌, ◌++◌}
 use Rattle.std.proofs.Common.{length, drop, take, refl, sym, ◌∙◌, ap, arith, append_assoc, length-append, length-take}
-use Rattle.std.proofs.Common.{get_or, drop-cons, if◌then◌else◌}
+use Rattle.std.proofs.Common.{Option, append-nil, inl, inr, get_or, drop-cons, if◌then◌else◌}
 use Rattle.std.proofs.Math.Seq.{drop-append_seam}
 use Rattle.std.proofs.lemmas.Bool.{eqb-true, eq-eqb}
 use Rattle.std.proofs.lemmas.Bool.Decides.{nat_tests}
@@ -10,7 +10,9 @@ use Rattle.std.proofs.lemmas.Grind.{common_steps}
 use Rattle.std.proofs.lemmas.List.{get_or-take, take-append-drop, take-append-le}
 use Rattle.std.proofs.lemmas.List.Elements.{All-from_get_or, All-get_or}
 use Rattle.memchr.specs.Find.{IsFirstByte, Nowhere, NoneBefore, is_byte, Passes}
-use Rattle.feed.specs.Feed.{IsHeld, bytes_of, capacity_of, flow_of}
+use Rattle.ruletable.proofs.AppendsLemmas.{Consumes-join}
+use Rattle.feed.proofs.GrowsLemmas.{Consumes-same}
+use Rattle.feed.specs.Feed.{Grows, IsHeld, SameFeed, bytes_of, capacity_of, flow_of}
 use Rattle.feed.specs.declared.feed.Feed.{Feed}
 use Rattle.feed.specs.declared.held.Flow.TheVariants.{Ended}
 use Rattle.feed.specs.declared.held.Held.{Held}
@@ -25,6 +27,45 @@ use Rattle.linejudge.specs.declared.line.LineForm.{LineForm}
 nil_of : (xs : List ℕ) → length xs ≡ 0 → xs ≡ []
 nil_of [] e = refl
 nil_of (x ∷ xs) e = absurd (omega arith)
+
+-- a feed that stays as it was
+pub grows_none : {R : Type 0} {remaining : R → Option (List ℕ)} (f : Feed R) → Grows remaining f f
+grows_none f = record {
+  more = [];
+  bytes = sym (append-nil (bytes_of f));
+  gives = Consumes-same _;
+  allowance = omega arith;
+  capacity = refl;
+  stays = inr (refl, refl, refl);
+}
+
+-- a feed that grew twice
+pub grows_twice : {R : Type 0} {remaining : R → Option (List ℕ)} (f g h : Feed R) → Grows remaining f g
+    → Grows remaining g h → Grows remaining f h
+grows_twice f g h first then_ = record {
+  more = first.more ++ then_.more;
+  bytes = then_.bytes ∙ ap (λ t. t ++ then_.more) first.bytes ∙ append_assoc (bytes_of f) first.more then_.more;
+  gives = Consumes-join _ _ _ first.more then_.more first.gives then_.gives;
+  allowance = omega (arith, first.allowance, then_.allowance, length-append first.more then_.more);
+  capacity = then_.capacity ∙ first.capacity;
+  stays = elim first.stays [
+    | inl may ↦ inl may
+    | inr same ↦ elim then_.stays [
+      | inl may ↦ inl (sym same.0 ∙ may)
+      | inr still ↦ inr (still.0 ∙ same.0, rw (same.1, still.1) refl, still.2 ∙ same.2)
+    ]
+  ];
+}
+
+pub same_feed : {R : Type 0} (f : Feed R) → SameFeed f f
+same_feed f = record {
+  bytes = refl;
+  capacity = refl;
+  flow = refl;
+  allowance = refl;
+  reader = refl;
+  loan = refl;
+}
 
 -- where no end was found
 pub none_found : (end : ℕ) (xs : List ℕ) → Nowhere (Passes (is_byte end) xs) 0 (length xs) → HasNoEnd end xs

@@ -169,6 +169,13 @@ IsShort room (Whole k) = k < room
 IsShort room (Last k) = k < room
 IsShort room _ = ⊤
 
+-- How the bytes that are held grow where each line is answered at once: read by read, each of at most 4096 bytes, and
+-- before each read no line's end is held. So nothing is read before all lines that are whole have been answered.
+pub data ReadsForLine (end : ℕ) (first : List ℕ) : List ℕ → Type 0 where
+  no_read : ReadsForLine end first first
+  one_read : (held more : List ℕ) → ReadsForLine end first held → HasNoEnd end held → length more ≤ 4096
+      → ReadsForLine end first (held ++ more)
+
 -- what stands at the front where so many bytes and no line's end are held
 abbrev pub line_without : Held → ℕ → Line
 line_without held.Full len = Overlong

@@ -1,10 +1,10 @@
 //! The next line at the front of what a feed holds.
-ghost use Rattle.std.specs.Prelude.{◌≡◌, ℕ, List, ◌+◌, ◌≤◌, ◌<◌, ◌^◌, ◌++◌, length};
+ghost use Rattle.std.specs.Prelude.{◌≡◌, ℕ, List, ◌+◌, ◌≤◌, ◌<◌, ◌^◌, ◌++◌, IsTrue, false, length};
 ghost use Rattle.feed.specs.Feed.{Grows, IsTrueOfReader, SameFeed, SameLoan, bytes_of, capacity_of, flow_of};
 ghost use Rattle.toolrun.specs.Agrees.{Agrees};
 ghost use Rattle.toolrun.specs.Input.{Input};
 ghost use Rattle.linejudge.specs.InputLines.{HasNoEnd, IsNext, IsShort, LiesWithin, is_over, kept_size};
-ghost use Rattle.linejudge.specs.InputLines.{line_without, taken_at};
+ghost use Rattle.linejudge.specs.InputLines.{ReadsForLine, line_without, taken_at};
 
 use crate::printed::Printed;
 use crate::reached::At;
@@ -25,6 +25,8 @@ pub struct LineForm {
     pub numbered: bool,
     /// Whether the run ends after the first rejected line.
     pub stops: bool,
+    /// Whether nothing is read while the end of a line is held, so that each line is answered at once.
+    pub line_buffered: bool,
 }
 
 impl LineForm {
@@ -74,9 +76,39 @@ fn without_end(held: Held, len: usize) -> Line
     }
 }
 
+/// Finds the line at the front, as `next_line` does, and reads no further than to a line's end: before each read none
+/// is held. It stands apart, so that `next_line` stays small.
+#[inline(never)]
+fn line_at_once<R: Source>(feed: &mut Feed<'_, R>, form: LineForm) -> Line
+    requires { IsTrueOfReader R.remaining R.failed R.ended feed.old }
+    ensures loan { SameLoan feed.old feed.new }
+    ensures grows { Grows R.remaining feed.old feed.new }
+    ensures told { IsTrueOfReader R.remaining R.failed R.ended feed.new }
+    ensures follows { (before : List ℕ) (input : Input) → capacity_of feed.new ≡ form.limit + 1 →
+        Agrees (before ++ bytes_of feed.new) (flow_of feed.new) input →
+        IsNext form input (length before) result ×
+        (length (before ++ bytes_of feed.new) ≤ taken_at form.limit input (length before)) }
+    ensures still { (HasNoEnd form.end (bytes_of feed.old) → ⊥) → SameFeed feed.old feed.new }
+    ensures reads { ReadsForLine form.end (bytes_of feed.old) (bytes_of feed.new) }
+    ensures fits { LiesWithin (length (bytes_of feed.new)) result }
+    ensures short { IsShort (capacity_of feed.new) result }
+{
+    loop {
+        // its contract says that no more is held than there is room for
+        let len = feed.len();
+        if let Some(k) = feed.find(form.end) {
+            return Line::Whole(k);
+        }
+        if let Some(held) = feed.read_more() {
+            return without_end(held, len);
+        }
+    }
+}
+
 /// Finds the line at the front, where the lines have that form. It reads nothing if the end of a line is held. Else it
-/// reads until the window is full, the input ends or a read fails. The window has room for one byte more than a line
-/// may have; a line that is returned has fewer bytes than there is room for.
+/// reads until the window is full, the input ends or a read fails; with `form.line_buffered` only until the end of a
+/// line is held. The window has room for one byte more than a line may have; a line that is returned has fewer bytes
+/// than there is room for.
 pub fn next_line<R: Source>(feed: &mut Feed<'_, R>, form: LineForm) -> Line
     requires { IsTrueOfReader R.remaining R.failed R.ended feed.old }
     ensures loan { SameLoan feed.old feed.new }
@@ -87,12 +119,17 @@ pub fn next_line<R: Source>(feed: &mut Feed<'_, R>, form: LineForm) -> Line
         IsNext form input (length before) result ×
         (length (before ++ bytes_of feed.new) ≤ taken_at form.limit input (length before)) }
     ensures still { (HasNoEnd form.end (bytes_of feed.old) → ⊥) → SameFeed feed.old feed.new }
-    ensures filled { HasNoEnd form.end (bytes_of feed.old) → (before : List ℕ) (input : Input) →
+    ensures reads { IsTrue form.line_buffered → ReadsForLine form.end (bytes_of feed.old) (bytes_of feed.new) }
+    ensures filled { form.line_buffered ≡ false → HasNoEnd form.end (bytes_of feed.old) → (before : List ℕ)
+        (input : Input) →
         capacity_of feed.new ≡ form.limit + 1 → Agrees (before ++ bytes_of feed.new) (flow_of feed.new) input →
         length (before ++ bytes_of feed.new) ≡ taken_at form.limit input (length before) }
     ensures fits { LiesWithin (length (bytes_of feed.new)) result }
     ensures short { IsShort (capacity_of feed.new) result }
 {
+    if form.line_buffered {
+        return line_at_once(feed, form);
+    }
     // its contract says that no more is held than there is room for
     let _ = feed.len();
     if let Some(k) = feed.find(form.end) {

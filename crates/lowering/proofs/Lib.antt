@@ -13,3 +13,12 @@ pub mod RuleDerivesLemmas
 pub mod RuleNodeLemmas
 pub mod SpellAllLemmas
 pub mod TellsLemmas
+pub mod AreNullAlikeLemmas
+pub mod ArePrunedLemmas
+pub mod ContextLemmas
+pub mod HasItemLemmas
+pub mod KeepsLemmas
+pub mod LiveLemmas
+pub mod NothingLemmas
+pub mod PruneLemmas
+pub mod PruneRulesLemmas

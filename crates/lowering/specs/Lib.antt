@@ -4,3 +4,4 @@ pub mod Numbers
 pub mod Sizes
 pub mod ToldBeginnings
 pub mod Verdicts
+pub mod Pruned

@@ -1,6 +1,6 @@
 -- How a grammar's nodes are written: the expression of a leaf, and the rule in whose body a node stands.
 use Rattle.std.specs.Prelude.{ℕ, zero, suc, nat_lt, List, [], ◌∷◌, Option, Some, if◌then◌else◌}
-use Rattle.pegread.specs.Canon.{text_of}
+use Rattle.pegprint.specs.Canon.{text_of}
 use Rattle.pegread.specs.Pattern as e
 use Rattle.pegread.specs.Pattern.{Rule}
 use Rattle.pegnodes.specs.Nodes.{Shape, Any, Bytes, Set}

@@ -27,6 +27,7 @@ use Rattle.packrat.specs.declared.frames.Wait.{Wait}
 use Rattle.packrat.specs.declared.frames.Wait.TheVariants.{First, Last, Turned}
 use Rattle.packrat.specs.LoopTurns.{Turn, Ask, Answer, turn_of}
 use Rattle.packrat.specs.declared.machine.Next.{Next}
+use Rattle.packrat.specs.declared.machine.Next.TheVariants as next
 use Rattle.packrat.specs.MachineSteps.{Level, State, Asks, Works, start_at, store}
 use Rattle.packrat.specs.Onward.{IsWell, IsNear, IsHere, ReachesEnd, PassesOn, tail_of, member_of}
 use Rattle.packrat.specs.declared.onward.Entering.{Entering}
@@ -184,3 +185,8 @@ module _ (g : Grammar) (x : List ℕ) (more : Bool) where
 abbrev pub LowersLeft : Grammar → List ℕ → Option Next → List Frame → ℕ → ℕ → Type 0
 LowersLeft g x (Some next) frames begun before = left g x (turn_of next) frames begun < before
 LowersLeft g x None frames begun before = Unit {0}
+
+-- the loop goes on with a child, or with a result that no frame awaits
+abbrev pub IsUnawaited : Next → List Frame → Type 0
+IsUnawaited (next.Ask n p) frames = Unit {0}
+IsUnawaited (next.Answer given) frames = frames ≡ []

@@ -1,5 +1,5 @@
 -- What the machine's loop has left: a number that each turn lowers.
-use Rattle.std.specs.Prelude.{ℕ, suc, ◌+◌, ◌*◌, ◌-◌, max, List, [], ◌∷◌, length}
+use Rattle.std.specs.Prelude.{ℕ, suc, ◌+◌, ◌*◌, ◌-◌, ◌^◌, ◌≤◌, max, List, [], ◌∷◌, length}
 use Rattle.gramcheck.specs.Grammar.{Grammar}
 use Rattle.pegnodes.specs.Nodes.{Shape, shapes_of}
 use Rattle.memo.specs.declared.spot.Spot.{Spot}
@@ -49,6 +49,10 @@ module _ (g : Grammar) (x : List ℕ) where
   -- there are no more pairs
   abbrev pub most_begun : ℕ
   most_begun = length g.nodes * (length x + 1)
+
+  -- so many pairs, and those that one step more begins, fit in 64 bits
+  abbrev pub FitsBegun : Type 0
+  FitsBegun = most_begun + 2 ^ 33 ≤ 2 ^ 64
 
   -- what is left: the pairs that are not begun yet, and the cost of the turn and of the frames
   unfoldable pub left : Turn → List Frame → ℕ → ℕ

@@ -1,5 +1,5 @@
 //! The machine: it evaluates by a loop over frames in place of recursion, and stores the keys alone.
-ghost use Rattle.std.specs.Prelude.{◌≡◌, ℕ, ◌+◌, ◌-◌, ◌*◌, ◌^◌, ◌<◌, ◌≤◌, Bool, true, List, [], ◌∷◌, length};
+ghost use Rattle.std.specs.Prelude.{◌≡◌, ◌+◌, ◌^◌, ◌<◌, ◌≤◌, Bool, true, List, [], ◌∷◌, length};
 ghost use Rattle.std.specs.Prelude.{slice_get, Some, IfOk, OnOk, IfSome, IfNone};
 ghost use Rattle.gramcheck.specs.Grammar.{HasKeys, IsSoundGrammar};
 ghost use Rattle.pegmatch.specs.Answers.{WasEnough};
@@ -8,17 +8,16 @@ ghost use Rattle.packrat.specs.declared.events.link.Link.{Link};
 ghost use Rattle.memo.specs.KeyLog.{spots_of};
 ghost use Rattle.memo.specs.Parts.{IsIn};
 ghost use Rattle.memo.specs.declared.spot.Spot.{Spot};
-ghost use Rattle.pegnodes.specs.KeyLists.{Marks, node_marks};
-ghost use Rattle.packrat.specs.ByteGives.{operands_on, turns_closed};
+ghost use Rattle.pegnodes.specs.KeyLists.{Marks};
 ghost use Rattle.packrat.specs.Skipped.{AreSkipped};
-ghost use Rattle.packrat.specs.Turned.{AreDecided, AreFree, AreTurnedFrames, IsKeyed};
+ghost use Rattle.packrat.specs.Turned.{AreFree, IsKeyed};
 ghost use Rattle.packrat.specs.LoopTurns.{Ask, Answer, turn_of};
-ghost use Rattle.packrat.specs.TurnsLeft.{left, most_begun};
+ghost use Rattle.packrat.specs.TurnsLeft.{left, most_begun, FitsBegun};
 ghost use Rattle.packrat.specs.Begins.{IsRepeated, repeated_of};
 ghost use Rattle.packrat.specs.Known.{IsKnown, IsTaken, taken_of};
 ghost use Rattle.packrat.specs.Onward.{AfterStart, IsWell};
 ghost use Rattle.packrat.specs.Stands.{Stands, IsClosed, AreOn, IsEvaluated, LowersLeft, key_of};
-ghost use Rattle.packrat.specs.Stands.{AreWaiting, IsWaitHead, IsEntered, IsJoined, GivenBy, AreGiven};
+ghost use Rattle.packrat.specs.Stands.{AreWaiting, IsWaitHead, IsEntered, IsJoined, IsUnawaited};
 ghost use Rattle.packrat.specs.View.{weight};
 ghost use Rattle.packrat.specs.declared.frames.Wait.{Wait};
 
@@ -28,7 +27,7 @@ use crate::frames::{Frame, Frames, Wait};
 use crate::known::{Known, Taken};
 use crate::onward::{Begun, Entering, Onward, Repeated, Start, begin_node, go_on};
 use crate::skips::Skips;
-use crate::turns::{Turns, find_turns, is_fresh};
+use crate::turns::{Turns, find_turns, is_fresh, put_operands, put_turned, put_turns, wait_turned};
 use gramcheck::SoundPeg;
 use memo::{Found, Given, KeyLog, Spot};
 use pegnodes::Node;
@@ -51,7 +50,7 @@ pub(crate) struct Machine {
     /// The tasks under way.
     pub(crate) frames: Frames,
     /// How many pairs of a node and a position were begun.
-    pub(crate) begun: u128,
+    pub(crate) begun: u64,
 }
 
 // Returns the memoized result of a node at a position, if there is one. Most keys are new, which takes no call to see.
@@ -123,6 +122,25 @@ fn close(
     Ok(())
 }
 
+// Ends a task that returns its first child's result, likewise. Few of these are keys, so it stands out of line.
+#[inline(never)]
+fn close_same(
+    log: &mut KeyLog,
+    peg: &SoundPeg,
+    window: &[u8],
+    spot: Spot,
+    key: bool,
+    given: Given,
+) -> Result<(), Memory>
+    requires well { IsWell peg.now window.now spot }
+    requires rows { log.old.rows ≡ length peg.now.nodes }
+    ensures rows { OnOk result (log.new.rows ≡ length peg.now.nodes) }
+    ensures closed { OnOk result ((more : Bool) (marks : Marks) (links : List Link) → key ≡ key_of marks spot →
+        IsClosed peg.now window.now more marks links spot given log.old.stored log.new.stored) }
+{
+    close(log, peg, window, spot, key, given)
+}
+
 // Pushes a frame that awaits a task's last child, with the head of the task's events so far. An unmemoized tail call
 // without events pushes none.
 #[inline(always)]
@@ -188,73 +206,6 @@ fn joined(events: &mut EventLog, first: usize, given: Given) -> Result<Given, Me
     }
 }
 
-// Stores the results of a repetition's operand in the iterations, if the operand is a key.
-#[inline(always)]
-fn put_operands(log: &mut KeyLog, peg: &SoundPeg, window: &[u8], turns: Turns) -> Result<(), Memory>
-    requires sound { IsSoundGrammar peg.now }
-    requires rows { log.old.rows ≡ length peg.now.nodes }
-    requires operand { turns.operand < length peg.now.nodes }
-    ensures rows { OnOk result (log.new.rows ≡ length peg.now.nodes) }
-    ensures spots { OnOk result (spots_of log.new.stored ≡ operands_on (node_marks peg.now.keys turns.operand)
-        turns.operand turns.from (turns.end - turns.from) (spots_of log.old.stored)) }
-    ensures keeps { OnOk result ((more : Bool) (links : List Link) →
-        AreDecided peg.now window.now more peg.now.keys turns →
-        AreGiven peg.now window.now more links log.old.stored →
-        AreGiven peg.now window.now more links log.new.stored) }
-{
-    if peg.is_key_node(turns.operand) {
-        if turns.from < turns.end {
-            log.put_steps(turns.operand, turns.from, turns.end)?;
-        }
-    }
-    Ok(())
-}
-
-// Stores the result of a repetition that ends after its iterations, at their positions and there, if it is a key.
-#[inline(always)]
-fn put_turns(
-    log: &mut KeyLog,
-    peg: &SoundPeg,
-    window: &[u8],
-    turns: Turns,
-    given: Given,
-) -> Result<(), Memory>
-    requires rows { log.old.rows ≡ length peg.now.nodes }
-    requires star { turns.star < length peg.now.nodes }
-    ensures rows { OnOk result (log.new.rows ≡ length peg.now.nodes) }
-    ensures spots { OnOk result (spots_of log.new.stored ≡ turns_closed (node_marks peg.now.keys turns.star)
-        turns.star turns.from (turns.end + 1 - turns.from) (spots_of log.old.stored)) }
-    ensures keeps { OnOk result ((more : Bool) (links : List Link) →
-        ((p : ℕ) → turns.from ≤ p → p < turns.from + (turns.end + 1 - turns.from) →
-        GivenBy peg.now window.now more links (Spot.Pair turns.star p) given) →
-        AreGiven peg.now window.now more links log.old.stored →
-        AreGiven peg.now window.now more links log.new.stored) }
-{
-    if peg.is_key_node(turns.star) {
-        log.put_run(turns.star, turns.from, turns.end, given)?;
-    }
-    Ok(())
-}
-
-// Pushes a frame that awaits the result of a repetition after its iterations. One that is no key pushes none.
-#[inline(always)]
-fn wait_turned(frames: &mut Frames, peg: &SoundPeg, turns: Turns) -> Result<(), Memory>
-    requires some { turns.from < turns.end }
-    ensures { OnOk result (AreTurnedFrames (node_marks peg.now.keys turns.star) turns frames.old frames.new) }
-{
-    if peg.is_key_node(turns.star) {
-        frames.push(Frame {
-            spot: Spot::Pair {
-                node: turns.star,
-                place: turns.from,
-            },
-            key: true,
-            wait: Wait::Turned(turns.end - 1),
-        })?;
-    }
-    Ok(())
-}
-
 impl Machine {
     // Begins a task that is neither a choice nor a repetition, and goes to a child or returns a result.
     #[inline(always)]
@@ -269,6 +220,7 @@ impl Machine {
         requires well { IsWell peg.now window.now spot }
         requires rows { self.old.log.rows ≡ length peg.now.nodes }
         requires few { self.old.begun ≤ most_begun peg.now window.now }
+        requires fits { FitsBegun peg.now window.now }
         ensures rows { OnOk result (self.new.log.rows ≡ length peg.now.nodes) }
         ensures stands { (more : Bool) → AfterStart peg.now window.now more spot start → (root : Spot) →
             key ≡ key_of peg.now.keys spot → (key ≡ true → IsIn spot (spots_of self.old.log.stored) → ⊥) →
@@ -281,7 +233,7 @@ impl Machine {
             left peg.now window.now (turn_of turn) self.new.frames self.new.begun
             < left peg.now window.now (Ask spot) self.old.frames self.old.begun) }
     {
-        self.begun = counted(peg.nodes(), window.len(), self.begun, spot);
+        self.begun = counted(self.begun, spot);
         match start {
             Start::Gives(found) => {
                 let given = Given { found, events: 0 };
@@ -329,7 +281,7 @@ impl Machine {
         requires is { IsRepeated peg.now window.now more repeated }
         ensures free { IfSome result (λ t. AreFree peg.now window.now more peg.now.keys (spots_of self.now.log.stored)
             (repeated_of repeated) t) }
-        ensures fits { IfSome result (λ t. self.now.begun + t.pairs < 2 ^ 128) }
+        ensures fits { IfSome result (λ t. self.now.begun + t.pairs < 2 ^ 64) }
     {
         if !is_fresh(&self.log, peg, repeated.star, repeated.place) {
             return None;
@@ -345,7 +297,7 @@ impl Machine {
             repeated.operand,
             repeated.place,
         )?;
-        if u128::MAX - self.begun < turns.pairs {
+        if turns.pairs > u128::from(u64::MAX - self.begun) {
             return None;
         }
         Some(turns)
@@ -364,7 +316,7 @@ impl Machine {
         requires rows { self.old.log.rows ≡ length peg.now.nodes }
         requires free { AreFree peg.now window.now more peg.now.keys (spots_of self.old.log.stored)
             (Spot.Pair turns.star turns.from) turns }
-        requires fits { self.old.begun + turns.pairs < 2 ^ 128 }
+        requires fits { self.old.begun + turns.pairs < 2 ^ 64 }
         ensures rows { OnOk result (self.new.log.rows ≡ length peg.now.nodes) }
         ensures stands { (root : Spot) → Stands peg.now window.now more peg.now.keys root
             (Ask (Spot.Pair turns.star turns.from)) self.old.frames
@@ -375,7 +327,7 @@ impl Machine {
             left peg.now window.now (turn_of turn) self.new.frames self.new.begun
             < left peg.now window.now (Ask (Spot.Pair turns.star turns.from)) self.old.frames self.old.begun) }
     {
-        self.begun += turns.pairs;
+        self.begun += turns.pairs as u64;
         put_operands(&mut self.log, peg, window, turns)?;
         if turns.whole {
             let last = Spot::Pair {
@@ -418,6 +370,7 @@ impl Machine {
         requires well { IsWell peg.now window.now spot }
         requires rows { self.old.log.rows ≡ length peg.now.nodes }
         requires few { self.old.begun ≤ most_begun peg.now window.now }
+        requires fits { FitsBegun peg.now window.now }
         ensures rows { OnOk result (self.new.log.rows ≡ length peg.now.nodes) }
         ensures stands { (more : Bool) → WasEnough window.now more 0 →
             AreSkipped peg.now window.now more peg.now.keys spot skips → (root : Spot) →
@@ -431,7 +384,7 @@ impl Machine {
             left peg.now window.now (turn_of turn) self.new.frames self.new.begun
             < left peg.now window.now (Ask spot) self.old.frames self.old.begun) }
     {
-        self.begun = counted_skips(peg.nodes(), window.len(), self.begun, skips.pairs);
+        self.begun = counted_skips(self.begun, skips.pairs);
         match skips.rest {
             Some(entering) => {
                 wait_last(&mut self.frames, spot, key, 0)?;
@@ -465,6 +418,7 @@ impl Machine {
         requires is { IsRepeated peg.now window.now more repeated }
         requires rows { self.old.log.rows ≡ length peg.now.nodes }
         requires few { self.old.begun ≤ most_begun peg.now window.now }
+        requires fits { FitsBegun peg.now window.now }
         ensures rows { OnOk result (self.new.log.rows ≡ length peg.now.nodes) }
         ensures stands { (root : Spot) → key ≡ key_of peg.now.keys (repeated_of repeated) →
             (key ≡ true → IsIn (repeated_of repeated) (spots_of self.old.log.stored) → ⊥) →
@@ -483,7 +437,7 @@ impl Machine {
                     node: repeated.star,
                     place: repeated.place,
                 };
-                let begun = counted(peg.nodes(), window.len(), self.begun, spot);
+                let begun = counted(self.begun, spot);
                 self.begun = begun;
                 self.frames.push(Frame {
                     spot,
@@ -513,6 +467,7 @@ impl Machine {
         requires well { IsWell peg.now window.now spot }
         requires rows { self.old.log.rows ≡ length peg.now.nodes }
         requires few { self.old.begun ≤ most_begun peg.now window.now }
+        requires fits { FitsBegun peg.now window.now }
         ensures rows { OnOk result (self.new.log.rows ≡ length peg.now.nodes) }
         ensures stands { (more : Bool) → WasEnough window.now more 0 →
             IsKnown peg.now window.now more peg.now.keys spot known → (root : Spot) →
@@ -526,7 +481,7 @@ impl Machine {
             left peg.now window.now (turn_of turn) self.new.frames self.new.begun
             < left peg.now window.now (Ask spot) self.old.frames self.old.begun) }
     {
-        self.begun = counted_known(peg.nodes(), window.len(), self.begun, known.pairs);
+        self.begun = counted_known(self.begun, known.pairs);
         let given = Given {
             found: known.found,
             events: 0,
@@ -552,6 +507,7 @@ impl Machine {
         requires before { taken.place < length window.now }
         requires rows { self.old.log.rows ≡ length peg.now.nodes }
         requires few { self.old.begun ≤ most_begun peg.now window.now }
+        requires fits { FitsBegun peg.now window.now }
         ensures rows { OnOk result (self.new.log.rows ≡ length peg.now.nodes) }
         ensures stands { (more : Bool) → WasEnough window.now more 0 →
             IsTaken peg.now window.now more peg.now.keys taken → (root : Spot) →
@@ -571,7 +527,7 @@ impl Machine {
             place: taken.place,
         };
         if !is_fresh(&self.log, peg, taken.operand, taken.place) {
-            let begun = counted(peg.nodes(), window.len(), self.begun, spot);
+            let begun = counted(self.begun, spot);
             self.begun = begun;
             self.frames.push(Frame {
                 spot,
@@ -585,7 +541,7 @@ impl Machine {
         }
         let end = taken.place + 1;
         let pairs = u32::from(taken.pairs);
-        self.begun = counted_skips(peg.nodes(), window.len(), self.begun, pairs);
+        self.begun = counted_skips(self.begun, pairs);
         let operand = Spot::Pair {
             node: taken.operand,
             place: taken.place,
@@ -603,7 +559,8 @@ impl Machine {
         })
     }
 
-    // Evaluates a node at a position, or begins it and goes to a child. None if the window is too short.
+    // Evaluates a node at a position, or begins it and goes to a child. None if the window is too short. Each first
+    // step has a call of its own, so that one jump by the node's kind leads to what it does.
     #[inline(always)]
     fn ask(
         &mut self,
@@ -619,6 +576,7 @@ impl Machine {
         requires well { IsWell peg.now window.now (Spot.Pair node place) }
         requires rows { self.old.log.rows ≡ length peg.now.nodes }
         requires few { self.old.begun ≤ most_begun peg.now window.now }
+        requires fits { FitsBegun peg.now window.now }
         ensures rows { OnOk result (self.new.log.rows ≡ length peg.now.nodes) }
         ensures stands { (root : Spot) →
             Stands peg.now window.now more peg.now.keys root (Ask (Spot.Pair node place)) self.old.frames
@@ -634,13 +592,23 @@ impl Machine {
         match stored_node(&mut self.log, node, place, key)? {
             Some(given) => Ok(Some(Next::Answer(given))),
             None => match begin_node(peg, window, more, node, place) {
-                Begun::Starts(start) => Ok(Some(self.start_spot(peg, window, spot, key, start)?)),
+                Begun::Starts(start) => match start {
+                    Start::Gives(_) => Ok(Some(self.start_spot(peg, window, spot, key, start)?)),
+                    Start::Marks(_) => Ok(Some(self.start_spot(peg, window, spot, key, start)?)),
+                    Start::Leads { .. } => {
+                        Ok(Some(self.start_spot(peg, window, spot, key, start)?))
+                    }
+                    Start::Passes { .. } => {
+                        Ok(Some(self.start_spot(peg, window, spot, key, start)?))
+                    }
+                    Start::Enters(_) => Ok(Some(self.start_spot(peg, window, spot, key, start)?)),
+                },
                 Begun::Knows(known) => Ok(Some(self.end_known(peg, window, spot, key, known)?)),
                 Begun::Takes(taken) => Ok(Some(self.begin_plus(peg, window, key, taken)?)),
                 Begun::Skips(skips) => Ok(Some(self.run_skips(peg, window, spot, key, skips)?)),
                 Begun::Repeats(it) => Ok(Some(self.repeat(peg, window, more, key, it)?)),
                 Begun::Need => {
-                    let begun = counted(peg.nodes(), window.len(), self.begun, spot);
+                    let begun = counted(self.begun, spot);
                     self.begun = begun;
                     Ok(None)
                 }
@@ -683,7 +651,7 @@ impl Machine {
                 Ok(Next::Answer(own))
             }
             Onward::Same => {
-                close(&mut self.log, peg, window, spot, key, given)?;
+                close_same(&mut self.log, peg, window, spot, key, given)?;
                 Ok(Next::Answer(given))
             }
             Onward::Passes { node, place } => {
@@ -727,14 +695,44 @@ impl Machine {
         match frame.wait {
             Wait::First => self.after_first(peg, window, frame.spot, frame.key, given),
             Wait::Turned(last) => {
-                let spot = frame.spot;
-                self.log.put_run(spot.row(), spot.place(), last, given)?;
+                put_turned(&mut self.log, frame.spot, last, given)?;
                 Ok(Next::Answer(given))
             }
             Wait::Last(first) => {
                 let all = joined(&mut self.events, first, given)?;
                 close(&mut self.log, peg, window, frame.spot, frame.key, all)?;
                 Ok(Next::Answer(all))
+            }
+        }
+    }
+
+    // Returns a result to the last frame, and goes on with that frame, until a child is asked for or no frame is left.
+    #[inline(always)]
+    fn settle(&mut self, peg: &SoundPeg, window: &[u8], first: Given) -> Result<Next, Memory>
+        requires sound { IsSoundGrammar peg.now }
+        requires keyed { IsKeyed peg.now }
+        requires rows { self.old.log.rows ≡ length peg.now.nodes }
+        requires stands { (more : Bool) × (root : Spot) × WasEnough window.now more 0
+            × Stands peg.now window.now more peg.now.keys root (Answer first) self.old.frames
+            self.old.log.stored self.old.events self.old.begun }
+        ensures rows { OnOk result (self.new.log.rows ≡ length peg.now.nodes) }
+        ensures stands { (more : Bool) → WasEnough window.now more 0 → (root : Spot) →
+            Stands peg.now window.now more peg.now.keys root (Answer first) self.old.frames
+            self.old.log.stored self.old.events self.old.begun →
+            IfOk result (λ turn. Stands peg.now window.now more peg.now.keys root (turn_of turn)
+            self.new.frames self.new.log.stored self.new.events self.new.begun) }
+        ensures less { IfOk result (λ turn. left peg.now window.now (turn_of turn) self.new.frames self.new.begun
+            ≤ left peg.now window.now (Answer first) self.old.frames self.old.begun) }
+        ensures last { IfOk result (λ turn. IsUnawaited turn self.new.frames) }
+    {
+        let mut given = first;
+        'frames: loop {
+            match self.frames.pop() {
+                None => return Ok(Next::Answer(given)),
+                Some(frame) => match self.resume(peg, window, frame, given)? {
+                    Next::Answer(own) => given = own,
+                    Next::Ask { node, place } => return Ok(Next::Ask { node, place }),
+                },
             }
         }
     }
@@ -753,6 +751,7 @@ impl Machine {
     ) -> Result<Option<Given>, Memory>
         requires some { WasEnough window.now more 0 }
         requires sound { IsSoundGrammar peg.now }
+        requires fits { FitsBegun peg.now window.now }
         requires root { slice_get peg.now.bodies peg.now.start ≡ Some root }
         requires keys { HasKeys peg.now }
         requires rows { self.old.log.rows ≡ length peg.now.nodes }
@@ -763,22 +762,32 @@ impl Machine {
         self.begun = 0;
         self.frames.clear();
         self.events.clear();
-        let mut turn = Next::Ask {
-            node: root,
-            place: 0,
-        };
-        'turns: loop {
-            match turn {
-                Next::Ask { node, place } => match self.ask(peg, window, more, node, place)? {
-                    Some(next) => turn = next,
-                    None => {
-                        self.frames.clear();
-                        return Ok(None);
+        let mut node = root;
+        let mut place = 0;
+        'asks: loop {
+            match self.ask(peg, window, more, node, place)? {
+                None => {
+                    self.frames.clear();
+                    return Ok(None);
+                }
+                Some(next) => match next {
+                    Next::Ask {
+                        node: child,
+                        place: there,
+                    } => {
+                        node = child;
+                        place = there;
                     }
-                },
-                Next::Answer(given) => match self.frames.pop() {
-                    None => return Ok(Some(given)),
-                    Some(frame) => turn = self.resume(peg, window, frame, given)?,
+                    Next::Answer(given) => match self.settle(peg, window, given)? {
+                        Next::Ask {
+                            node: child,
+                            place: there,
+                        } => {
+                            node = child;
+                            place = there;
+                        }
+                        Next::Answer(last) => return Ok(Some(last)),
+                    },
                 },
             }
         }

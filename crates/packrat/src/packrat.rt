@@ -61,14 +61,19 @@ impl Model for Packrat {
 }
 
 // Returns the answer for what a match found; `Need` where the window was too short.
-fn matched_unit(given: Option<Given>, begun: u128) -> Unit
+fn matched_unit(given: Option<Given>, begun: u64) -> Unit
     ensures { result ≡ unit_of_match given begun }
 {
     match given {
         None => Unit::Need,
         Some(given) => match given.found {
-            Found::Failed => Unit::Failed { begun },
-            Found::Took(end) => Unit::Took { end, begun },
+            Found::Failed => Unit::Failed {
+                begun: u128::from(begun),
+            },
+            Found::Took(end) => Unit::Took {
+                end,
+                begun: u128::from(begun),
+            },
         },
     }
 }
@@ -111,7 +116,7 @@ impl Packrat {
     pub fn begun(&self) -> u128
         ensures { result ≡ self.now.begun }
     {
-        self.machine.begun
+        u128::from(self.machine.begun)
     }
 
     /// Looks up the outcome of a key in its last unit, if the key was evaluated.

@@ -1,17 +1,24 @@
 //! Iterations of a repetition over bytes that decide them.
-ghost use Rattle.std.specs.Prelude.{◌≡◌, ◌+◌, ◌<◌, ◌≤◌, ℕ, true, length, slice_get, Some, IfSome};
+ghost use Rattle.std.specs.Prelude.{◌≡◌, ◌+◌, ◌-◌, ◌<◌, ◌≤◌, ◌++◌, ℕ, Bool, true, List, length};
+ghost use Rattle.std.specs.Prelude.{slice_get, Some, IfSome, OnOk};
+ghost use Rattle.gramcheck.specs.Grammar.{IsSoundGrammar};
 ghost use Rattle.pegread.specs.PegViews.{rules_of};
 ghost use Rattle.pegnodes.specs.KeyLists.{node_marks};
 ghost use Rattle.pegnodes.specs.Nodes.{Star, shapes_of};
-ghost use Rattle.memo.specs.KeyLog.{spots_of};
+ghost use Rattle.memo.specs.KeyLog.{spots_of, row_of, place_of, run_of};
 ghost use Rattle.pegmatch.specs.Answers.{WasEnough};
 ghost use Rattle.pegmatch.specs.KeptEvents.{SpellsSome};
-ghost use Rattle.packrat.specs.ByteGives.{AreFresh};
-ghost use Rattle.packrat.specs.Turned.{IsClosing, AreDecided};
+ghost use Rattle.memo.specs.declared.spot.Spot.{Spot};
+ghost use Rattle.packrat.specs.ByteGives.{AreFresh, operands_on, turns_closed};
+ghost use Rattle.packrat.specs.Stands.{AreGiven, GivenBy};
+ghost use Rattle.packrat.specs.Turned.{IsClosing, AreDecided, AreTurnedFrames};
+ghost use Rattle.packrat.specs.declared.events.link.Link.{Link};
 
+use crate::frames::{Frame, Frames, Wait};
 use gramcheck::SoundPeg;
-use memo::KeyLog;
+use memo::{Given, KeyLog, Spot};
 use pegnodes::{RunTable, Verdict};
+use ruletable::Memory;
 
 /// Iterations of a repetition, one byte each, that the bytes alone decide. The machine takes them all in one step.
 #[derive(Clone, Copy)]
@@ -125,4 +132,92 @@ pub(crate) fn is_fresh(log: &KeyLog, peg: &SoundPeg, node: usize, from: usize) -
         return log.is_new(node, from);
     }
     true
+}
+
+/// Stores the results of a repetition's operand in the iterations, if the operand is a key.
+#[inline(always)]
+pub(crate) fn put_operands(
+    log: &mut KeyLog,
+    peg: &SoundPeg,
+    window: &[u8],
+    turns: Turns,
+) -> Result<(), Memory>
+    requires sound { IsSoundGrammar peg.now }
+    requires rows { log.old.rows ≡ length peg.now.nodes }
+    requires operand { turns.operand < length peg.now.nodes }
+    ensures rows { OnOk result (log.new.rows ≡ length peg.now.nodes) }
+    ensures spots { OnOk result (spots_of log.new.stored ≡ operands_on (node_marks peg.now.keys turns.operand)
+        turns.operand turns.from (turns.end - turns.from) (spots_of log.old.stored)) }
+    ensures keeps { OnOk result ((more : Bool) (links : List Link) →
+        AreDecided peg.now window.now more peg.now.keys turns →
+        AreGiven peg.now window.now more links log.old.stored →
+        AreGiven peg.now window.now more links log.new.stored) }
+{
+    if peg.is_key_node(turns.operand) {
+        if turns.from < turns.end {
+            log.put_steps(turns.operand, turns.from, turns.end)?;
+        }
+    }
+    Ok(())
+}
+
+/// Stores the result of a repetition that ends after its iterations, at their positions and there, if it is a key.
+#[inline(always)]
+pub(crate) fn put_turns(
+    log: &mut KeyLog,
+    peg: &SoundPeg,
+    window: &[u8],
+    turns: Turns,
+    given: Given,
+) -> Result<(), Memory>
+    requires rows { log.old.rows ≡ length peg.now.nodes }
+    requires star { turns.star < length peg.now.nodes }
+    ensures rows { OnOk result (log.new.rows ≡ length peg.now.nodes) }
+    ensures spots { OnOk result (spots_of log.new.stored ≡ turns_closed (node_marks peg.now.keys turns.star)
+        turns.star turns.from (turns.end + 1 - turns.from) (spots_of log.old.stored)) }
+    ensures keeps { OnOk result ((more : Bool) (links : List Link) →
+        ((p : ℕ) → turns.from ≤ p → p < turns.from + (turns.end + 1 - turns.from) →
+        GivenBy peg.now window.now more links (Spot.Pair turns.star p) given) →
+        AreGiven peg.now window.now more links log.old.stored →
+        AreGiven peg.now window.now more links log.new.stored) }
+{
+    if peg.is_key_node(turns.star) {
+        log.put_run(turns.star, turns.from, turns.end, given)?;
+    }
+    Ok(())
+}
+
+/// Pushes a frame that awaits the result of a repetition after its iterations. One that is no key pushes none.
+#[inline(always)]
+pub(crate) fn wait_turned(frames: &mut Frames, peg: &SoundPeg, turns: Turns) -> Result<(), Memory>
+    requires some { turns.from < turns.end }
+    ensures { OnOk result (AreTurnedFrames (node_marks peg.now.keys turns.star) turns frames.old frames.new) }
+{
+    if peg.is_key_node(turns.star) {
+        frames.push(Frame {
+            spot: Spot::Pair {
+                node: turns.star,
+                place: turns.from,
+            },
+            key: true,
+            wait: Wait::Turned(turns.end - 1),
+        })?;
+    }
+    Ok(())
+}
+
+/// Stores the result of a repetition at its position and after its iterations, up to the last one. Few repetitions end
+/// so, so it stands out of line.
+#[inline(never)]
+pub(crate) fn put_turned(
+    log: &mut KeyLog,
+    star: Spot,
+    last: usize,
+    given: Given,
+) -> Result<(), Memory>
+    requires { row_of star < log.old.rows }
+    ensures stored { OnOk result (log.new.stored ≡ run_of (row_of star) (place_of star) last given ++ log.old.stored) }
+    ensures rows { log.new.rows ≡ log.old.rows }
+{
+    log.put_run(star.row(), star.place(), last, given)
 }

@@ -1,12 +1,6 @@
-pub mod StandLemmas
-pub mod CanStandLemmas
-pub mod TakenTokensLemmas
-pub mod PegExplainedLemmas
-pub mod PegWhyLemmas
 mod NullTestsLemmas
 pub mod ExplainedLoopLemmas
 mod RepeatsLemmas
-mod TellsKindsLemmas
 mod NamesInLemmas
 mod LeftRowsLemmas
 mod LeftStepLineLemmas

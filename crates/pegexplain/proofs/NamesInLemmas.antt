@@ -1,5 +1,5 @@
 -- The names among the tokens of a text are those of its tree.
--- Serves: nothing_left_out
+-- Serves: no_name_left_out
 use Rattle.std.proofs.Common.{◌≡◌, ℕ, false, Option, Some, None, List, [], ◌∷◌, ◌++◌, length, map, refl, sym, ◌∙◌}
 use Rattle.std.proofs.Common.{ap, append-nil, flat_map}
 use Rattle.ruletable.specs.declared.lines.LineRule.TheVariants.{Any}

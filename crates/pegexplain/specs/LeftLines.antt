@@ -3,7 +3,7 @@ use Rattle.std.specs.Prelude.{◌≡◌, ℕ, zero, suc, ◌&&◌, Bool, true, L
 use Rattle.std.specs.Prelude.{slice_index_or, if◌then◌else◌, Option, Some, None, bytes_eq, codes, decimal}
 use Rattle.diagnostics.specs.ShownBytes.{cut}
 use Rattle.diagnostics.specs.NoteLines.{more_told}
-use Rattle.pegread.specs.CanonMembers.{members_text}
+use Rattle.pegprint.specs.CanonMembers.{members_text}
 use Rattle.pegread.specs.Definitions.{id_in}
 use Rattle.pegread.specs.Pattern.{Pattern, Rule}
 use Rattle.pegread.specs.PegViews.{patterns}

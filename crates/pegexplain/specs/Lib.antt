@@ -4,12 +4,6 @@ pub mod LeftLines
 pub mod LeftNotes
 pub mod LeftUses
 pub mod NullTests
-pub mod PegDecisions
-pub mod PegExpected
-pub mod PegExplained
-pub mod PegMistakes
-pub mod PegStands
-pub mod PhraseRows
 pub mod PegLoops
 pub mod PegNotes
 pub mod CodeHints

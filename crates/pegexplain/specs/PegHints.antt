@@ -7,7 +7,7 @@ use Rattle.diagnostics.specs.DefinitionHeads.{sign_at}
 use Rattle.diagnostics.specs.MentionLines.{lines_mentioned}
 use Rattle.diagnostics.specs.NoteLines.{more_told}
 use Rattle.diagnostics.specs.declared.noteplaces.mentions.MentionKind.TheVariants.{Literal}
-use Rattle.pegread.specs.Canon.{text_of}
+use Rattle.pegprint.specs.Canon.{text_of}
 use Rattle.pegread.specs.Definitions.{firsts}
 use Rattle.pegread.specs.Pattern.{Pattern, Bytes, Rule}
 use Rattle.pegread.specs.Reading.{Reads}

@@ -2,7 +2,7 @@
 use Rattle.std.specs.Prelude.{◌≡◌, ℕ, ◌<◌, List, [], ◌∷◌, ◌++◌, slice_get, Option, Some, None, MatchOption, codes}
 use Rattle.std.specs.Prelude.{decimal}
 use Rattle.diagnostics.specs.ShownBytes.{cut}
-use Rattle.pegread.specs.Canon.{text_of}
+use Rattle.pegprint.specs.Canon.{text_of}
 use Rattle.pegread.specs.Pattern.{Pattern, Patterns, Any, Bytes, Set, Name, Seq, Choice, Star, Plus, Opt, And, Not, Act}
 use Rattle.pegread.specs.Pattern.{Open, Close, none, more, Rule}
 use Rattle.gramcheck.specs.Left.{Nullable}

@@ -1,6 +1,6 @@
 //! The lines after a note on a left-recursive rule.
 ghost use Rattle.std.specs.Prelude.{◌≡◌, ◌++◌, ◌∷◌, map, IfOk, OnOk, option_map, slice_get, slice_index_or, true};
-ghost use Rattle.pegread.specs.CanonMembers.{member_text as member, members_text as all_members};
+ghost use Rattle.pegprint.specs.CanonMembers.{member_text as member, members_text as all_members};
 ghost use Rattle.pegread.specs.PegViews.{pattern_of, patterns, rules_of};
 ghost use Rattle.diagnostics.specs.MentionLines.{mention_lines_by};
 ghost use Rattle.pegexplain.specs.FoundUses.{use_found};
@@ -13,7 +13,8 @@ use crate::left_uses::{Use, add_uses};
 use crate::places::PegPlaces;
 use crate::skipped::skipped_before;
 use diagnostics::{MentionKind, mention_lines, push_cut, push_more, push_number};
-use pegread::{Expr, print_member};
+use pegprint::print_member;
+use pegread::Expr;
 use ruletable::{Memory, SinkOf};
 use std::alloc::Global;
 

@@ -1,6 +1,6 @@
 //! The line after a note on a rule that repeats what may take nothing.
 ghost use Rattle.std.specs.Prelude.{◌≡◌, ◌++◌, Some, map, Option, IfOk, OnOk, option_map, slice_get, MatchOption};
-ghost use Rattle.pegread.specs.Canon.{text_of as canonical};
+ghost use Rattle.pegprint.specs.Canon.{text_of as canonical};
 ghost use Rattle.pegread.specs.PegViews.{pattern_of, patterns_of};
 ghost use Rattle.pegexplain.specs.NullTests.{IsLoopBy, null_mark_of};
 ghost use Rattle.pegexplain.specs.PegLoops.{RepeatAt, repeat_line, repeat_told, repeats_in, repeats_in_all};
@@ -8,7 +8,8 @@ ghost use Rattle.pegexplain.specs.FoundRepeats.{repeat_found};
 
 use crate::nulls::is_loop;
 use diagnostics::{push_cut, push_number};
-use pegread::{Expr, print_expr};
+use pegprint::print_expr;
+use pegread::Expr;
 use ruletable::{Memory, RuleTable, SinkOf};
 use std::alloc::Global;
 

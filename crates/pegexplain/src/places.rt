@@ -5,7 +5,7 @@ ghost use Rattle.pegexplain.specs.PegNotes.{ArePegPlaces, IsPegRead, sign_of as 
 use crate::left_notes::ways_end;
 use diagnostics::{Places, Sign, Signs, places_of};
 use gramcheck::{left_recursive_rules, nullable_rules};
-use pegread::{Expr, Kind, read_peg};
+use pegread::{Expr, Kind};
 use ruletable::{LineRule, Memory, NameCase, RuleTable};
 use std::alloc::Global;
 
@@ -41,25 +41,17 @@ pub struct PegPlaces {
     pub ways: usize,
 }
 
-// Returns the rules of a text. A text whose grammar has notes reads, so that it is memory that fails here.
-fn rules_in(alloc: Global, text: &[u8]) -> Result<RuleTable<Expr>, Memory>
-    ensures { IfOk result (λ rules. IsPegRead text.now rules) }
-{
-    match read_peg(alloc, text) {
-        Ok(peg) => Ok(peg.rules),
-        Err(_) => Err(Memory),
-    }
-}
-
-/// Returns where a grammar's text says what explains notes on it.
+/// Returns where a grammar's text says what explains notes on it. It takes the rules that the text was read as, and
+/// holds them.
 ///
 /// # Errors
-/// `Memory` if an allocation fails.
-pub fn peg_places(alloc: Global, text: &[u8]) -> Result<PegPlaces, Memory>
-    ensures { IfOk result (λ places. ArePegPlaces text.now places) }
+/// `Memory` if an allocation fails; the rules are dropped then.
+pub fn peg_places(alloc: Global, text: &[u8], rules: RuleTable<Expr>) -> Result<PegPlaces, Memory>
+    requires { IsPegRead text.now rules }
+    ensures places { IfOk result (λ places. ArePegPlaces text.now places) }
+    ensures rules { IfOk result (λ places. places.rules ≡ rules) }
 {
     let places = places_of::<Kind, PegSigns>(alloc, text, LineRule::Any, NameCase::Exact)?;
-    let rules = rules_in(alloc, text)?;
     let nulls = nullable_rules(alloc, &rules)?;
     let recursive = left_recursive_rules(alloc, &rules)?;
     let ways = ways_end(&recursive);

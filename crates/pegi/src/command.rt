@@ -3,7 +3,7 @@ ghost use Rattle.pegi.specs.PegiCommand.{AsksPegi, IsPegiApp, ReadsPegi};
 ghost use Rattle.pegrun.specs.Answers.{States};
 
 use clap::{ArgMatches, Command};
-use cli::{Program, add_flag, tool_command};
+use cli::{BufferedSink, Program, add_flag, tool_command};
 use feed::Source;
 use pegrun::{PegOptions, PegSettings, run_peg};
 use ruletable::Sink;
@@ -72,7 +72,7 @@ impl Program for Pegi {
         }
     }
 
-    fn run<I: Source, O: Sink, E: Sink>(
+    fn run<I: Source, O: BufferedSink, E: Sink>(
         alloc: Global,
         grammar: &[u8],
         settings: &PegSettings<'_>,

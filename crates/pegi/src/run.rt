@@ -11,7 +11,7 @@ ghost use Rattle.toolrun.specs.Status.{code_of};
 ghost use Rattle.toolrun.specs.Stream.{no_input, passed};
 
 use crate::command::Pegi;
-use cli::tool_main;
+use cli::{BufferedSink, tool_main};
 use feed::Source;
 use ruletable::Sink;
 use std::rt::Files;
@@ -26,7 +26,7 @@ use toolrun::Status;
 /// - A file that cannot be read: `cannot read the grammar`, `Fault`.
 /// - If an allocation fails in parsing the words or reading the file: `out of memory`, `NoMemory`.
 /// - Where a writer fails it holds a prefix of its text, and the status is at least `Fault`.
-pub(crate) fn pegi_main<R: Files + AllocGlobal, I: Source, O: Sink, E: Sink>(
+pub(crate) fn pegi_main<R: Files + AllocGlobal, I: Source, O: BufferedSink, E: Sink>(
     rt: &R,
     words: &[String],
     reader: &mut I,

@@ -1,5 +1,5 @@
 -- Words begin a grammar exactly if the machine can take them, and a token that it cannot take decides.
--- Serves: read_peg
+-- Serves: read_peg; is_read_back of pegprint
 use Rattle.std.proofs.Common.{◌≡◌, ℕ, ◌<◌, Some, None, List, [], ◌∷◌, ◌++◌, length, refl, ap, ◌∙◌}
 use Rattle.lexer.specs.declared.limits.TheConstants.{MAX_OPEN}
 use Rattle.lexer.proofs.ViabilityLemmas as viability
@@ -14,8 +14,11 @@ use Rattle.pegread.specs.Machine.{level, Head, ended, Config, start, named, body
 use Rattle.pegread.proofs.GrammarMachineLemmas.{grammar-runs}
 use Rattle.pegread.proofs.GrammarSpellingLemmas.{runs-grammar}
 use Rattle.pegread.proofs.SaysLemmas.{one-word}
-use Rattle.pegread.proofs.ListedRulesLemmas.{nowhere}
 use Rattle.pegread.proofs.IsShallowLemmas.{deeper-next}
+
+-- a span that says nothing
+abbrev pub nowhere : Span
+nowhere = record { start = 0; end = 0 }
 
 end-step : (o : List Level) (rules : List Rule) (d : Config) → end_step o rules ≡ Some d → (all : List Rule)
     × (d ≡ done all)

@@ -1,12 +1,8 @@
 pub mod AreMarkedLemmas
-mod ByteShapeLemmas
-mod CanonExamples
 mod CharExamples
 pub mod CharFormLemmas
 pub mod CharFrontLemmas
-mod ClassTextLemmas
-mod CutsLemmas
-mod FirstByteLemmas
+pub mod FirstByteLemmas
 mod GrammarExamples
 mod GrammarMachineLemmas
 mod GrammarSpellingLemmas
@@ -14,13 +10,8 @@ pub mod GrammarViabilityLemmas
 pub mod IsFaultOfLemmas
 pub mod IsShallowLemmas
 pub mod IsTableOfLemmas
-pub mod LeftOfLemmas
-mod ListedRulesLemmas
 mod PatternsOfLemmas
-pub mod ReadBackLemmas
 mod ReadDefinitionsLemmas
-pub mod ReadsFormedLemmas
-pub mod SameWordsLemmas
 pub mod SaysLemmas
 pub mod SliceLemmas
 pub mod SpellsBytesLemmas

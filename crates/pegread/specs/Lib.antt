@@ -1,7 +1,4 @@
 pub mod Actions
-pub mod Brackets
-pub mod Canon
-pub mod CanonMembers
 pub mod CharLaws
 pub mod Chars
 pub mod Classes
@@ -16,7 +13,6 @@ pub mod Marks
 pub mod Names
 pub mod Pattern
 pub mod Predicates
-pub mod ReadBack
 pub mod Reading
 pub mod Slices
 pub mod Spelling

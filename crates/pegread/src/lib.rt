@@ -8,9 +8,6 @@ mod kind;
 mod lexicon;
 mod lexing;
 mod literal;
-mod place;
-mod print;
-mod print_bytes;
 mod read;
 mod reader;
 mod spelling_laws;
@@ -23,8 +20,6 @@ pub use expr::{Expr, Peg};
 pub use kind::Kind;
 pub use lexer::{MAX_GRAMMAR, MAX_OPEN};
 pub use literal::literal_bytes;
-pub use print::{is_read_back, print_expr, print_member, print_peg};
-pub use print_bytes::{print_literal, print_set};
 pub use read::{one_reading, one_tree, read_peg};
 pub use spelling_laws::{
     spells_one_char, spells_one_class, spells_one_literal, spells_some_char, spells_some_class,

@@ -6,12 +6,14 @@ use Rattle.gramcheck.specs.Grammar.{Grammar, IsSoundGrammar, Ranked}
 use Rattle.pegexplain.specs.PegNotes.{ExplainsNote}
 use Rattle.pegexplain.specs.PegHints.{ArePegHints}
 use Rattle.pegread.specs.PegViews.{rules_of}
+use Rattle.pegread.specs.declared.expr.Expr.{Expr}
 use Rattle.pegrun.specs.Answers.{States, runs}
 use Rattle.pegrun.specs.Noted.{start_given}
 use Rattle.pegrun.specs.OpenPeg.{IsPegOpened}
 use Rattle.pegrun.specs.PegLanguage.{IsChecked, IsReady}
 use Rattle.pegrun.specs.PegReply.{RunStates}
 use Rattle.ruletable.specs.Notes.{Said}
+use Rattle.ruletable.specs.Rules as table
 use Rattle.ruletable.specs.declared.memory.Memory.{Memory}
 use Rattle.toolrun.specs.Input.{Input}
 use Rattle.toolrun.specs.Reply.{Reply}
@@ -30,20 +32,20 @@ open_peg_states text settings input notes told grammar stated run is tells does 
     (rw g.rules at does)
 
 -- a grammar that is ready has the rules and the start rule of the one that was checked
-pub is_ready : (g : Ranked) (made : Result Grammar Memory) → IfOk made (λ s. s.rules ≡ g.rules)
-    → IfOk made (λ s. s.start ≡ g.start) → IfOk made IsSoundGrammar
+pub is_ready : (rules : table.Rules Expr) (r : Ranked) (made : Result Grammar Memory) → IfOk made (λ s. s.rules ≡ rules)
+    → IfOk made (λ s. s.start ≡ r.start) → IfOk made IsSoundGrammar
     → IfOk made (λ s. (text : List ℕ) (start : Option (List ℕ)) (notes : List Said)
-    → IsChecked text start notes (Some g) → IsReady text start notes s)
-is_ready g (Ok s) rules start sound = λ text given notes is. record {
+    → IsChecked text start notes rules (Some r) → IsReady text start notes s)
+is_ready rules r (Ok s) same start sound = λ text given notes is. record {
   definitions = is.definitions;
   reads = is.reads;
   are_notes = is.are_notes;
   accepted = is.accepted.0;
-  rules = rw rules is.accepted.1;
-  start_rule = rw start is.accepted.2;
+  rules = rw same is.kept;
+  start_rule = rw start is.accepted.1;
   sound_grammar = sound;
 }
-is_ready g (Err e) rules start sound = tt
+is_ready rules r (Err e) same start sound = tt
 
 -- a grammar that is ready is the one that is opened
 pub is_opened : (text : List ℕ) (settings : PegSettings) (notes : List Said) (g : Grammar)

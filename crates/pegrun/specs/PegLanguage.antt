@@ -17,15 +17,15 @@ abbrev pub IsReadAs : List ℕ → table.Rules Expr → List ℕ → Type 0
 IsReadAs text rules redefined =
     (definitions : List Rule) × Reads text definitions × IsTableOf definitions rules redefined
 
--- the text's grammar with its notes, unless one of them rejects it
-pub record IsChecked (text : List ℕ) (start : Option (List ℕ)) (notes : List Said) (judged : Option Ranked) : Type
-    0 where
+-- the text's rules with the notes on them, and their analysis unless a note rejects them
+pub record IsChecked (text : List ℕ) (start : Option (List ℕ)) (notes : List Said) (rules : table.Rules Expr)
+    (judged : Option Ranked) : Type 0 where
   pub definitions : List Rule
   pub reads : Reads text definitions
   pub are_notes : AreNotesOn definitions start notes
+  pub kept : rules_of rules ≡ firsts [] definitions
   pub accepted : MatchOption judged (is_refused notes ≡ true)
-      (λ g. (is_refused notes ≡ false) × (rules_of g.rules ≡ firsts [] definitions)
-      × IsStart start (firsts [] definitions) g.start)
+      (λ r. (is_refused notes ≡ false) × IsStart start (firsts [] definitions) r.start)
 
 -- the text's grammar with its notes, none of which rejects it, ready to run
 pub record IsReady (text : List ℕ) (start : Option (List ℕ)) (notes : List Said) (sound : Grammar) : Type 0 where

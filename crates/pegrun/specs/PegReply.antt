@@ -1,6 +1,6 @@
 -- What a run of a grammar on an input states.
 use Rattle.std.specs.Prelude.{ℕ, List, []}
-use Rattle.pegread.specs.Canon.{grammar_text}
+use Rattle.pegprint.specs.Canon.{grammar_text}
 use Rattle.pegread.specs.Definitions.{firsts}
 use Rattle.pegread.specs.Pattern.{Rule}
 use Rattle.pegrun.specs.StopsExplained.{MayLack, TellsNothing, WhyStopped}

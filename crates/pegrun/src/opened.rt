@@ -1,5 +1,7 @@
 //! Opens a grammar of peg(1) once, to run it on many inputs.
 ghost use Rattle.std.specs.Prelude.{◌≡◌, IfErr, IfOk, false, map};
+ghost use Rattle.pegexplain.specs.PegHints.{ArePegHints};
+ghost use Rattle.pegexplain.specs.PegNotes.{ExplainsNote};
 ghost use Rattle.pegread.specs.PegViews.{rules_of};
 ghost use Rattle.pegread.specs.Reading.{IsFaultOf};
 ghost use Rattle.pegrun.specs.OpenPeg.{IsPegOpened};
@@ -7,6 +9,7 @@ ghost use Rattle.pegrun.specs.PegReply.{RunStates};
 ghost use Rattle.ruletable.specs.Notes.{said_of};
 ghost use Rattle.toolrun.specs.Stopped.{Fulfils};
 ghost use Rattle.toolrun.specs.Stream.{passed};
+ghost use Rattle.toolrun.specs.ToldNotes.{HintedNotes};
 
 use crate::engine::{Counted, run_units};
 use crate::options::PegSettings;
@@ -17,7 +20,7 @@ use packrat::Packrat;
 use ruletable::{Memory, Note, ReadFault, Sink, WriteFault};
 use std::alloc::Global;
 use std::marker::Model;
-use toolrun::{Checked, Ending, Language, open};
+use toolrun::{Ending, Language, Opened, open};
 
 /// An open grammar, read and checked once, that is run on inputs. It keeps the memory of earlier runs, but nothing that
 /// an output depends on.
@@ -75,33 +78,44 @@ impl PegRunner {
 pub struct OpenedPeg {
     /// The notes on the grammar, in order.
     pub notes: Vec<Note>,
+    /// Their text, as a run writes it: each explained, with hints after them, if settings ask for that.
+    pub diagnostics: Vec<u8>,
     /// Its runner, unless a note rejects it.
     pub runner: Option<PegRunner>,
 }
 
-/// Reads and checks a grammar's text. Returns the notes on it, and what runs it from the rule that settings name, or
-/// the first. It ignores the other settings. Fails by the text's fault if it is not a grammar, or if an allocation
-/// fails.
+/// Reads and checks a grammar's text. Returns the notes on it, their text, explained if settings ask for that, and what
+/// runs it from the rule that settings name, or the first. It ignores the other settings. Fails by the text's fault if
+/// it is not a grammar, or if an allocation fails.
 pub fn open_peg(
     alloc: Global,
     text: &[u8],
     settings: &PegSettings<'_>,
 ) -> Result<OpenedPeg, ReadFault>
     ensures opened { IfOk result (λ o. IsPegOpened text.now settings.now (map said_of o.notes.items) o.runner) }
+    ensures diagnostics { IfOk result (λ o. HintedNotes settings.now (ExplainsNote text.now) (ArePegHints text.now)
+        (map said_of o.notes.items) o.diagnostics.items) }
     ensures fault { IfErr result (λ f. IsFaultOf text.now f) }
 {
-    let Checked { notes, judged } = open::<PegLanguage>(alloc, text, settings.start)?;
+    let Opened {
+        notes,
+        diagnostics,
+        rules,
+        judged,
+    } = open::<PegLanguage>(alloc, text, settings)?;
     let Some(judged) = judged else {
         return Ok(OpenedPeg {
             notes,
+            diagnostics,
             runner: None,
         });
     };
-    match PegLanguage::ready(alloc, judged) {
+    match PegLanguage::ready(alloc, rules, judged) {
         Ok(grammar) => {
             let counted = Counted::new(alloc, Packrat::new(alloc));
             Ok(OpenedPeg {
                 notes,
+                diagnostics,
                 runner: Some(PegRunner { grammar, counted }),
             })
         }

@@ -1,8 +1,9 @@
 //! The language of peg(1), whose grammars are run on units of an input.
-ghost use Rattle.pegexplain.specs.PegExplained.{Explains};
-ghost use Rattle.pegexplain.specs.PegNotes.{ArePegPlaces, ExplainsNote};
+ghost use Rattle.gramcheck.specs.Grammar.{IsRankedFor};
+ghost use Rattle.pegfaults.specs.PegExplained.{Explains};
+ghost use Rattle.pegexplain.specs.PegNotes.{ArePegPlaces, ExplainsNote, IsPegRead};
 ghost use Rattle.pegexplain.specs.PegHints.{ArePegHints};
-ghost use Rattle.pegread.specs.Canon.{grammar_text};
+ghost use Rattle.pegprint.specs.Canon.{grammar_text};
 ghost use Rattle.pegread.specs.PegViews.{rules_of};
 ghost use Rattle.pegread.specs.Reading.{IsFaultOf};
 ghost use Rattle.pegrun.specs.Answers.{States};
@@ -12,11 +13,13 @@ ghost use Rattle.pegrun.specs.PegReply.{RunStates};
 use crate::engine::{Counted, run_units};
 use crate::options::{PegOptions, PegSettings};
 use feed::Source;
-use gramcheck::{RankedPeg, SoundPeg, judge_peg, redefinitions};
+use gramcheck::{RankedNodes, SoundPeg, judge_peg, redefinitions};
 use packrat::Packrat;
-use pegexplain::{PegPlaces, explain_fault, explain_peg_note, peg_hints, peg_places};
-use pegread::{Peg, print_peg, read_peg};
-use ruletable::{Memory, Note, ReadFault, Sink, WriteFault};
+use pegexplain::{PegPlaces, explain_peg_note, peg_hints, peg_places};
+use pegfaults::explain_fault;
+use pegprint::print_peg;
+use pegread::{Expr, Peg, read_peg};
+use ruletable::{Memory, Note, ReadFault, RuleTable, Sink, WriteFault};
 use std::alloc::Global;
 use toolrun::{Checked, Ending, Language};
 
@@ -28,7 +31,9 @@ impl Language for PegLanguage {
 
     type Grammar = Peg;
 
-    type Judged = RankedPeg;
+    type Rules = RuleTable<Expr>;
+
+    type Judged = RankedNodes;
 
     type Sound = SoundPeg;
 
@@ -48,7 +53,13 @@ impl Language for PegLanguage {
 
     ghost is_read = { λ text peg. IsReadAs text peg.rules peg.redefined.items };
 
+    ghost are_rules = { IsPegRead };
+
+    ghost held = { λ places. places.rules };
+
     ghost is_checked = { IsChecked };
+
+    ghost belongs = { λ rules. IsRankedFor (rules_of rules) };
 
     ghost is_ready = { IsReady };
 
@@ -66,8 +77,17 @@ impl Language for PegLanguage {
         explain_fault(alloc, text, fault)
     }
 
-    fn places(alloc: Global, text: &[u8], _start: Option<&str>) -> Result<PegPlaces, Memory> {
-        peg_places(alloc, text)
+    fn places(
+        alloc: Global,
+        text: &[u8],
+        rules: RuleTable<Expr>,
+        _start: Option<&str>,
+    ) -> Result<PegPlaces, Memory> {
+        peg_places(alloc, text, rules)
+    }
+
+    fn into_rules(places: PegPlaces) -> RuleTable<Expr> {
+        places.rules
     }
 
     fn explain_note(
@@ -91,16 +111,21 @@ impl Language for PegLanguage {
         alloc: Global,
         grammar: Peg,
         start: Option<&str>,
-    ) -> Result<Checked<RankedPeg>, Memory> {
-        let gramcheck::Checked { notes, sound } = judge_peg(alloc, grammar, start)?;
+    ) -> Result<Checked<RuleTable<Expr>, RankedNodes>, Memory> {
+        let gramcheck::Checked { notes, sound } = judge_peg(alloc, &grammar, start)?;
         Ok(Checked {
             notes,
+            rules: grammar.rules,
             judged: sound,
         })
     }
 
-    fn ready(alloc: Global, judged: RankedPeg) -> Result<SoundPeg, Memory> {
-        judged.ready(alloc)
+    fn ready(
+        alloc: Global,
+        rules: RuleTable<Expr>,
+        judged: RankedNodes,
+    ) -> Result<SoundPeg, Memory> {
+        judged.ready(alloc, rules)
     }
 
     fn redefinitions(alloc: Global, grammar: &Peg) -> Result<Vec<Note>, Memory> {

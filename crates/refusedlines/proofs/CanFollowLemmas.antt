@@ -13,13 +13,14 @@ use Rattle.flatgrammar.proofs.CallOfLemmas.{some_same}
 use Rattle.flatgrammar.proofs.PlacesLemmas.{holds_origin}
 use Rattle.flatgrammar.specs.Flat.{Flat, Place, at, Set, Has, Node, Reads, reads, letter, Letters, Concat, Alt, Rep}
 use Rattle.flatgrammar.specs.Flat.{Turns, Opt, Name, Nothing}
+use Rattle.flatgrammar.specs.FlatVerdicts.{IsLastSet}
 use Rattle.flatgrammar.specs.Holds.{Holds, begins, called, has_read, returned}
 use Rattle.flatgrammar.specs.NodeSteps.{IfSomeSet}
-use Rattle.flatgrammar.specs.Places.{In}
 use Rattle.lowering.specs.ToldBeginnings.{TellsBeginnings}
 use Rattle.flatgrammar.specs.Blocks.{spot}
 use Rattle.flatgrammar.specs.declared.block.Spot.{Spot}
 use Rattle.earleyitems.specs.ChartSets.{AreSpotsOf, IsSet}
+use Rattle.lazydfa.specs.ExpectedSets.{AreReadersAt}
 use Rattle.refusedlines.specs.LetterRuns.{AreApartFrom, RunsHave}
 use Rattle.refusedlines.specs.declared.letterruns.run.LetterRun.{LetterRun}
 use Rattle.refusedlines.specs.Following.{AreFollowing}
@@ -125,21 +126,19 @@ letters_push has (a ∷ z) c all is = (all.0, letters_push has z c all.1 is)
 
 module _ (has : ℕ → Bool) (rules : List Rule) (id : ℕ) (flat : Flat) (tells : TellsBeginnings has rules id flat)
     (z : List ℕ) (short : length z + 1 ≤ flat.limit) (letters : AreLetters has z) where
-  module _ (set : List (Place × ℕ)) (is_set : IsSet flat z (length z) set) (spots : List Spot)
-      (are : AreSpotsOf set spots) where
+  module _ (spots : List Spot) (are : AreReadersAt flat z (length z) spots) where
     read_follows : (c : ℕ) → has c ≡ true → SpotsRead flat spots c
         → BeginsMember has rules id (z ++ c ∷ []) (length z + 1)
     read_follows c is r =
-        let there = (are r.spot).0 r.stands in
-        let held = is_set.held (at r.spot.node r.spot.step) there.origin there.stands in
-        let on = same_held flat z (z ++ c ∷ []) (length z) (λ k lt. sym (get_front z c k lt)) held (omega arith) in
+        let there = are.held r.spot r.stands in
+        let on = same_held flat z (z ++ c ∷ []) (length z) (λ k lt. sym (get_front z c k lt)) there.1 (omega arith) in
         let found = spot_reads flat r.spot c (slice_get flat.nodes r.spot.node) refl r.reads in
         let size = length-append z (c ∷ []) in
         (tells.viable (z ++ c ∷ []) (length z + 1) (omega (arith, size, short)) (letters_push has z c letters is)
         (omega arith) (omega (arith, size))).0
         (record {
           place = found.1;
-          origin = there.origin;
+          origin = there.0;
           held = has_read on found.2 (get_last z c) found.3;
         })
 
@@ -152,13 +151,11 @@ module _ (has : ℕ → Bool) (rules : List Rule) (id : ℕ) (flat : Flat) (tell
         let r = item_reads flat (z ++ c ∷ []) (length z) c (get_last z c) item.held refl in
         let back = same_held flat (z ++ c ∷ []) z (length z) (get_front z c) r.held (omega arith) in
         let s = place_reads flat c r.reads r.has in
-        let there = is_set.all r.place r.origin back in
         record {
           spot = spot s.0 s.1;
-          stands = (are (spot s.0 s.1)).1 (record {
-            origin = r.origin;
-            stands = subst (λ v. In {A = Place × ℕ} (v, r.origin) set) s.2 there;
-          });
+          stands = are.all (spot s.0 s.1) r.origin r.set r.next
+              (subst (λ v. Holds flat z (length z) v r.origin) s.2 back)
+              (subst (λ v. Reads flat v r.set r.next) s.2 r.reads);
           reads = s.3;
         }
 
@@ -189,6 +186,34 @@ module _ (has : ℕ → Bool) (rules : List Rule) (id : ℕ) (flat : Flat) (tell
           );
         }
 
+-- the dotted rules of a whole item set
+pub readers_of_set : (flat : Flat) (z : List ℕ) (n : ℕ) (set : List (Place × ℕ)) → IsSet flat z n set
+    → (spots : List Spot) → AreSpotsOf set spots → AreReadersAt flat z n spots
+readers_of_set flat z n set is_set spots are = record {
+  held = λ s stands.
+      let there = (are s).0 stands in
+      (there.origin, is_set.held (at s.node s.step) there.origin there.stands);
+  all = λ s i symbols r held rd.
+      (are s).1 (record { origin = i; stands = is_set.all (at s.node s.step) i held });
+}
+
+-- item set n of a line is that of its first n letters
+agree_front : (x : List ℕ) (n : ℕ) → Agree x (take n x) n
+agree_front [] zero k lt = refl
+agree_front [] (suc n) k lt = refl
+agree_front (a ∷ x) zero k lt = absurd (omega (arith, lt))
+agree_front (a ∷ x) (suc n) zero lt = refl
+agree_front (a ∷ x) (suc n) (suc k) lt = agree_front x n k (omega (arith, lt))
+
+readers_of_front : (flat : Flat) (x : List ℕ) (n : ℕ) → n ≤ length x → (spots : List Spot)
+    → AreReadersAt flat x n spots → AreReadersAt flat (take n x) n spots
+readers_of_front flat x n within spots are = record {
+  held = λ s stands. let h = are.held s stands in
+      (h.0, same_held flat x (take n x) n (agree_front x n) h.1 (omega arith));
+  all = λ s i symbols r held rd.
+      are.all s i symbols r (same_held flat (take n x) x n (λ k lt. sym (agree_front x n k lt)) held (omega arith)) rd;
+}
+
 -- what can follow the first n letters of a line, by these letters alone
 pub take_following : (has : ℕ → Bool) (rules : List Rule) (id : ℕ) (x z : List ℕ) (n m : ℕ) (runs : List LetterRun)
     (ends : Bool) → z ≡ take n x → n ≤ length x → m ≡ length z → AreFollowing has rules id z m runs ends
@@ -215,3 +240,37 @@ take_following has rules id x z n m runs ends is within size a =
         λ h. a.end.1 (subst (λ v. RuleDerives has rules id v) (sym front) h),
       );
     }
+
+-- .. and where the last item set is known
+pub last_is_furthest : (has : ℕ → Bool) (rules : List Rule) (id : ℕ) (flat : Flat) → TellsBeginnings has rules id flat
+    → (x : List ℕ) (n : ℕ) → length x ≤ flat.limit → AreLetters has x → IsLastSet flat x n
+    → IsFurthest has rules id x n
+last_is_furthest has rules id flat tells x n short letters last = record {
+  within = last.within;
+  begins = λ some. (tells.viable x n short letters some last.within).0 (last.item some);
+  last = λ m past most begins.
+      last.last m past most ((tells.viable x m short letters (omega (arith, past)) most).1 begins);
+}
+
+letters_front : (has : ℕ → Bool) (n : ℕ) (x : List ℕ) → AreLetters has x → AreLetters has (take n x)
+letters_front has zero x all = tt
+letters_front has (suc n) [] all = tt
+letters_front has (suc n) (a ∷ x) all = (all.0, letters_front has n x all.1)
+
+-- what can follow, by the last item set of a line
+pub following_of_set : (has : ℕ → Bool) (rules : List Rule) (id : ℕ) (flat : Flat) → TellsBeginnings has rules id flat
+    → (x : List ℕ) (n : ℕ) → length x + 1 ≤ flat.limit → AreLetters has x → n ≤ length x → (spots : List Spot)
+    → AreReadersAt flat x n spots → (runs : List LetterRun) (ends : Bool) → AreApartFrom 0 runs
+    → ((c : ℕ) → RunsHave runs c ↔ ((has c ≡ true) × SpotsRead flat spots c))
+    → (IsTrue ends ↔ Holds flat x n (at flat.whole 1) 0) → AreFollowing has rules id x n runs ends
+following_of_set has rules id flat tells x n short letters within spots are runs ends apart tell end =
+    let size = length-take-le n x within in
+    take_following has rules id x (take n x) n (length (take n x)) runs ends refl within refl
+    (are_following has rules id flat tells (take n x) (omega (arith, size, within, short))
+    (letters_front has n x letters) spots
+    (subst (λ v. AreReadersAt flat (take n x) v spots) (sym size) (readers_of_front flat x n within spots are))
+    runs ends apart tell
+    (subst (λ v. IsTrue ends ↔ Holds flat (take n x) v (at flat.whole 1) 0) (sym size) (
+      λ yes. same_held flat x (take n x) n (agree_front x n) (end.0 yes) (omega arith),
+      λ held. end.1 (same_held flat (take n x) x n (λ k lt. sym (agree_front x n k lt)) held (omega arith)),
+    )))

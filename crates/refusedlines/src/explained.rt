@@ -1,5 +1,5 @@
 //! The explanations of rejected lines.
-ghost use Rattle.std.specs.Prelude.{◌≡◌, ◌+◌, ◌<◌, ◌≤◌, ◌^◌, ℕ, Bool, false, List, [], length, take, IfOk};
+ghost use Rattle.std.specs.Prelude.{◌≡◌, ◌+◌, ◌<◌, ◌≤◌, ◌^◌, ℕ, Bool, false, List, [], length, take, IfOk, IfSome};
 ghost use Rattle.abnfcheck.specs.Beginnings.{IsFurthest};
 ghost use Rattle.abnfread.specs.Element.{Rule};
 ghost use Rattle.letters.specs.declared.alphabet.Alphabet.{Alphabet as the_alphabet};
@@ -15,6 +15,7 @@ use crate::refusal::{Refusal, RefusedLine, push_refusal, refused_at};
 use abnfcheck::{SoundAbnf, furthest_is_found};
 use earley::Chart;
 use flatgrammar::Flat;
+use lazydfa::Automaton;
 use letters::{Alphabet, CodePoint, Letter, decode, utf8_is_decided, utf8_len};
 use ruletable::Memory;
 use std::alloc::Global;
@@ -91,17 +92,20 @@ fn judged_name(grammar: &SoundAbnf) -> &[u8]
 fn explain_bytes(
     alloc: Global,
     chart: &mut Chart,
+    automaton: &mut Option<Automaton>,
     explainer: &Explainer<'_>,
     line: RefusedLine<'_>,
     out: &mut Vec<u8>,
 ) -> Result<(), Memory>
     requires within { length line.bytes.now + 1 ≤ explainer.now.flat.now.limit }
+    requires flat { IfSome automaton.old (λ a. a ≡ explainer.now.flat.now) }
     requires tells { TellsBeginnings (has Alphabet.Bytes) (rules_of explainer.now.grammar.now.rules)
         explainer.now.grammar.now.judged explainer.now.flat.now }
-    ensures { IfOk result (λ done. IsExplained Alphabet.Bytes (rules_of explainer.now.grammar.now.rules)
+    ensures flat { IfSome automaton.new (λ a. a ≡ explainer.now.flat.now) }
+    ensures told { IfOk result (λ done. IsExplained Alphabet.Bytes (rules_of explainer.now.grammar.now.rules)
         explainer.now.grammar.now.judged line.entry.bytes.now line.entry.number out.old.items out.new.items) }
 {
-    let following = find_following(alloc, chart, explainer.flat, line.bytes)?;
+    let following = find_following(alloc, chart, automaton, explainer.flat, line.bytes)?;
     let place = following.after;
     let at = refused_at(place, line.bytes.len(), false);
     let refusal = Refusal {
@@ -118,19 +122,22 @@ fn explain_bytes(
 fn explain_points(
     alloc: Global,
     chart: &mut Chart,
+    automaton: &mut Option<Automaton>,
     explainer: &Explainer<'_>,
     line: RefusedLine<'_>,
     out: &mut Vec<u8>,
 ) -> Result<(), Memory>
     requires within { length line.bytes.now + 1 ≤ explainer.now.flat.now.limit }
+    requires flat { IfSome automaton.old (λ a. a ≡ explainer.now.flat.now) }
     requires tells { TellsBeginnings (has Alphabet.Utf8) (rules_of explainer.now.grammar.now.rules)
         explainer.now.grammar.now.judged explainer.now.flat.now }
-    ensures { IfOk result (λ done. IsExplained Alphabet.Utf8 (rules_of explainer.now.grammar.now.rules)
+    ensures flat { IfSome automaton.new (λ a. a ≡ explainer.now.flat.now) }
+    ensures told { IfOk result (λ done. IsExplained Alphabet.Utf8 (rules_of explainer.now.grammar.now.rules)
         explainer.now.grammar.now.judged line.entry.bytes.now line.entry.number out.old.items out.new.items) }
 {
     let first = first_points(alloc, line.bytes)?;
     let points = first.points.as_slice();
-    let following = find_following(alloc, chart, explainer.flat, points)?;
+    let following = find_following(alloc, chart, automaton, explainer.flat, points)?;
     let after = following.after;
     let at = refused_at(after, points.len(), first.size < line.bytes.len());
     let place = octets_of(&points[..after]);
@@ -146,26 +153,30 @@ fn explain_points(
 
 /// Adds the lines that explain a rejected line: where it is rejected, what can follow there, and a picture of that
 /// position; or that the judged rule derives nothing. The flat grammar must be that of `lower_viable` for the grammar
-/// and its symbols, and the line must have fewer bytes than `flat.limit()`. The chart is filled anew.
+/// and its symbols, the automaton, if there is one, that of it, and the line must have fewer bytes than `flat.limit()`.
+/// The chart is filled anew where the automaton gives no answer.
 ///
 /// # Errors
 /// `Memory` if an allocation fails; a part of the lines may be added then.
 pub fn explain_refused(
     alloc: Global,
     chart: &mut Chart,
+    automaton: &mut Option<Automaton>,
     explainer: &Explainer<'_>,
     line: RefusedLine<'_>,
     out: &mut Vec<u8>,
 ) -> Result<(), Memory>
     requires within { length line.bytes.now + 1 ≤ explainer.now.flat.now.limit }
+    requires flat { IfSome automaton.old (λ a. a ≡ explainer.now.flat.now) }
     requires tells { TellsBeginnings (has explainer.now.letters) (rules_of explainer.now.grammar.now.rules)
         explainer.now.grammar.now.judged explainer.now.flat.now }
-    ensures { IfOk result (λ done. IsExplained explainer.now.letters (rules_of explainer.now.grammar.now.rules)
+    ensures flat { IfSome automaton.new (λ a. a ≡ explainer.now.flat.now) }
+    ensures told { IfOk result (λ done. IsExplained explainer.now.letters (rules_of explainer.now.grammar.now.rules)
         explainer.now.grammar.now.judged line.entry.bytes.now line.entry.number out.old.items out.new.items) }
 {
     match explainer.letters {
-        Alphabet::Bytes => explain_bytes(alloc, chart, explainer, line, out),
-        Alphabet::Utf8 => explain_points(alloc, chart, explainer, line, out),
+        Alphabet::Bytes => explain_bytes(alloc, chart, automaton, explainer, line, out),
+        Alphabet::Utf8 => explain_points(alloc, chart, automaton, explainer, line, out),
     }
 }
 

@@ -1,5 +1,5 @@
 //! Symbols that can follow the longest viable prefix of a line.
-ghost use Rattle.std.specs.Prelude.{◌≡◌, ◌+◌, ◌≤◌, ℕ, Bool, List, length, map, IfOk};
+ghost use Rattle.std.specs.Prelude.{◌≡◌, ◌+◌, ◌≤◌, ℕ, Bool, List, length, map, IfOk, IfSome};
 ghost use Rattle.abnfread.specs.Element.{Rule};
 ghost use Rattle.abnfcheck.specs.Beginnings.{IsFurthest};
 ghost use Rattle.lowering.specs.ToldBeginnings.{TellsBeginnings};
@@ -11,6 +11,7 @@ use crate::letterruns::{LetterRun, runs_are_one};
 use crate::read_letters::letters_read;
 use earley::{Chart, judge, viable};
 use flatgrammar::{Flat, Verdict};
+use lazydfa::Automaton;
 use letters::Letter;
 use lowering::{items_tell, values_are_letters};
 use ruletable::Memory;
@@ -64,21 +65,58 @@ fn find_behind<L: Letter>(
     Ok(Following { after, runs, ends })
 }
 
+// Returns what can follow the letters of a line by the automaton; `None` if it gives no answer, or an allocation fails.
+fn find_by_states<L: Letter>(
+    alloc: Global,
+    automaton: &mut Option<Automaton>,
+    flat: &Flat,
+    line: &[L],
+) -> Result<Option<Following>, Memory>
+    requires within { length line.now + 1 ≤ flat.now.limit }
+    requires flat { IfSome automaton.old (λ a. a ≡ flat.now) }
+    ensures flat { IfSome automaton.new (λ a. a ≡ flat.now) }
+    ensures within { IfOk result (λ told. IfSome told (λ f. f.after ≤ length line.now)) }
+    ensures furthest { IfOk result (λ told. IfSome told (λ f. (rules : List Rule) (judged : ℕ)
+        → TellsBeginnings (has L.ALPHABET) rules judged flat.now →
+        IsFurthest (has L.ALPHABET) rules judged (map L.number line.now) f.after)) }
+    ensures following { IfOk result (λ told. IfSome told (λ f. (rules : List Rule) (judged : ℕ)
+        → TellsBeginnings (has L.ALPHABET) rules judged flat.now →
+        AreFollowing (has L.ALPHABET) rules judged (map L.number line.now) f.after f.runs.items f.ends)) }
+{
+    values_are_letters(line);
+    let Some(states) = automaton else {
+        return Ok(None);
+    };
+    let Ok(Some(told)) = states.expected(line) else {
+        return Ok(None);
+    };
+    let runs = letters_read(alloc, L::ALPHABET, flat, &told.spots)?;
+    Ok(Some(Following {
+        after: told.after,
+        runs,
+        ends: told.ends,
+    }))
+}
+
 /// Finds all symbols that can follow the longest viable prefix of a line, and whether the line may end there. The flat
 /// grammar is that of `lower_viable` for the alphabet of the symbols. The line must have fewer symbols than
 /// `flat.limit()`.
 ///
-/// It fills the chart with the item sets of the line, and then with those of that prefix. The symbols are those that
-/// the items of its last set read. So it takes the time of judging the line twice, however many symbols can follow.
+/// The automaton, if there is one, answers by one run over the line. Where it gives no answer, the chart is filled with
+/// the item sets of the line, and then with those of that prefix, and the symbols are those that the items of its last
+/// set read.
 ///
 /// `Memory` if an allocation fails.
 pub fn find_following<L: Letter>(
     alloc: Global,
     chart: &mut Chart,
+    automaton: &mut Option<Automaton>,
     flat: &Flat,
     line: &[L],
 ) -> Result<Following, Memory>
-    requires { length line.now + 1 ≤ flat.now.limit }
+    requires within { length line.now + 1 ≤ flat.now.limit }
+    requires flat { IfSome automaton.old (λ a. a ≡ flat.now) }
+    ensures flat { IfSome automaton.new (λ a. a ≡ flat.now) }
     ensures within { IfOk result (λ f. f.after ≤ length line.now) }
     ensures furthest { IfOk result (λ f. (rules : List Rule) (judged : ℕ)
         → TellsBeginnings (has L.ALPHABET) rules judged flat.now →
@@ -87,6 +125,9 @@ pub fn find_following<L: Letter>(
         → TellsBeginnings (has L.ALPHABET) rules judged flat.now →
         AreFollowing (has L.ALPHABET) rules judged (map L.number line.now) f.after f.runs.items f.ends) }
 {
+    if let Some(told) = find_by_states(alloc, automaton, flat, line)? {
+        return Ok(told);
+    }
     let after = furthest_place(chart, flat, line)?;
     find_behind(alloc, chart, flat, &line[..after])
 }

@@ -4,6 +4,7 @@
 mod blocks;
 mod charts;
 mod comparisons;
+mod derived_lines;
 mod flat_grammars;
 mod grammars;
 mod lines;
@@ -35,6 +36,7 @@ impl Calls for AbnfCalls {
             }
             "lines" => lines::lines_of(alloc, fields, out),
             "compare" => comparisons::compared(alloc, fields, out),
+            "derived" => derived_lines::first_lines(alloc, fields, out),
             "rooms" => rooms::agree(alloc, fields, out),
             "read_lines" => blocks::read_lines_of(alloc, fields, out),
             "rules" => blocks::rules_of(alloc, fields, out),

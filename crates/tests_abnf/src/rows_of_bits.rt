@@ -1,6 +1,6 @@
 //! Sets of numbers as rows of bits.
 
-use bitrows::BitRow;
+use earley::BitRow;
 use std::alloc::Global;
 use testio::{Fields, Text};
 

@@ -111,6 +111,7 @@ fn check_lines<R: Abort + AllocGlobal>(
         printed: Printed::Answers,
         numbered: false,
         stops: false,
+        line_buffered: false,
     };
     let ended = run_lines(rt.alloc(), &judge, &mut work, form, &mut reader, &mut out);
     let ends_so = match ended {
@@ -176,6 +177,7 @@ fn explains_sixteen_lines(rt: HostRuntime) {
         printed: Printed::Answers,
         numbered: false,
         stops: false,
+        line_buffered: false,
     };
     match run_lines(rt.alloc(), &judge, &mut 0u8, form, &mut reader, &mut out) {
         Ok(Ending::Explained { told, stop, why }) => {

@@ -1,10 +1,10 @@
 //! Calls that read a grammar's text.
 
 use lexer::{have_tokens, one_list, tokens, tokens_make_up};
+use pegprint::is_read_back;
 use pegread::{
-    Expr, Kind, are_marked, is_read_back, next_char, one_reading, one_tree, read_peg,
-    spells_one_char, spells_one_class, spells_one_literal, spells_some_char, spells_some_class,
-    spells_some_literal,
+    Expr, Kind, are_marked, next_char, one_reading, one_tree, read_peg, spells_one_char,
+    spells_one_class, spells_one_literal, spells_some_char, spells_some_class, spells_some_literal,
 };
 use ruletable::ReadFault;
 use std::alloc::Global;

@@ -81,6 +81,7 @@ pub const ABNF: AbnfOptions = AbnfOptions {
     printed: Printed::Answers,
     numbered: false,
     quiet: false,
+    line_buffered: false,
 };
 
 /// The settings of a run that tests change.

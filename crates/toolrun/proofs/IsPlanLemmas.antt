@@ -15,7 +15,7 @@ use Rattle.toolrun.specs.Plan.{behind_notes, in_reply, IsPlanned, stopped, told_
 use Rattle.toolrun.specs.Reply.{Reply, refusal, text_alone, unexplained_fault, without_memory}
 use Rattle.toolrun.specs.Stop.{unread}
 use Rattle.toolrun.specs.Tasks.{IsTask, task_does}
-use Rattle.toolrun.specs.ToldNotes.{AreHintedBefore, AreToldBefore, HintedNotes, told_whole, told_part}
+use Rattle.toolrun.specs.ToldNotes.{AreToldBefore, CutNotes, HintedNotes, told_whole, told_part}
 use Rattle.toolrun.specs.declared.plan.Task.{Task}
 use Rattle.toolrun.specs.declared.plan.Task.TheVariants.{Prints}
 use Rattle.toolrun.specs.declared.settings.Mode.{Mode}
@@ -67,11 +67,12 @@ module _ (States : Input → List ℕ → Reply → Type 0) (IsFault : ReadFault
   unread-plan fault.Memory faulty = λ input. behind_notes (no_memory input faulty)
   unread-plan (fault.NumberTooLarge line) faulty = refused-plan (fault.NumberTooLarge line) faulty (λ e. absurd (cc))
 
-module _ {Grammar Judged Sound Options : Type 0} {States : List ℕ → Settings Options → Input → List ℕ → Reply → Type 0}
+module _ {Grammar CheckedRules Judged Sound Options : Type 0}
+    {States : List ℕ → Settings Options → Input → List ℕ → Reply → Type 0}
     {HasFault : List ℕ → ReadFault → Type 0} {Explains : List ℕ → ReadFault → List ℕ → Type 0}
     {ExplainsNote : List ℕ → Option (List ℕ) → Said → List ℕ → Type 0}
     {AreHints : List ℕ → Settings Options → List ℕ → Type 0} {IsRead : List ℕ → Grammar → Type 0}
-    {IsChecked : List ℕ → Option (List ℕ) → List Said → Option Judged → Type 0}
+    {IsChecked : List ℕ → Option (List ℕ) → List Said → CheckedRules → Option Judged → Type 0}
     {IsReady : List ℕ → Option (List ℕ) → List Said → Sound → Type 0}
     {IsPrintable : List ℕ → Grammar → List Said → Type 0} {canonical : Grammar → List ℕ}
     {Runs : Sound → Settings Options → Input → Reply → Type 0}
@@ -111,37 +112,40 @@ module _ {Grammar Judged Sound Options : Type 0} {States : List ℕ → Settings
         (law.unexplained text settings input why faulty other asked))
 
     -- what is ready of a grammar that was checked
-    abbrev Makes : Judged → Sound → Type 0
-    Makes judged sound = (t : List ℕ) (start : Option (List ℕ)) (notes : List Said)
-        → IsChecked t start notes (Some judged) → IsReady t start notes sound
+    abbrev Makes : CheckedRules → Judged → Sound → Type 0
+    Makes rules judged sound = (t : List ℕ) (start : Option (List ℕ)) (notes : List Said)
+        → IsChecked t start notes rules (Some judged) → IsReady t start notes sound
 
     -- a grammar that was checked, and all whose notes are told
-    plan_whole : (notes : List Said) (told : List ℕ) (mode : Mode) (judged : Option Judged)
+    pub plan_task : (notes : List Said) (told : List ℕ) (mode : Mode) (rules : CheckedRules) (judged : Option Judged)
         (task : Result (Task Grammar Sound) Stop) → settings.mode ≡ mode
-        → mode ≢ Print → IsChecked text (option_copied settings.start) notes judged
+        → mode ≢ Print → IsChecked text (option_copied settings.start) notes rules judged
         → HintedNotes settings (ExplainsNote text) (AreHints text settings) notes told
-        → IsTask Makes mode judged task → Planned told task
-    plan_whole notes told mode None task is other c t e = rw e (λ input.
-        behind_notes (law.noted text settings input notes told c t (rw is other)))
-    plan_whole notes told Run (Some judged) task is other c t made =
+        → IsTask (Makes rules) mode judged task → Planned told task
+    plan_task notes told mode rules None task is other c t e = rw e (λ input.
+        behind_notes (law.noted text settings input notes told rules c t (rw is other)))
+    plan_task notes told Run rules (Some judged) task is other c t made =
         let ready = made.1 text (option_copied settings.start) notes c in
         rw made.2 (record {
           stated = λ input reply r. law.run text settings input notes told made.0 reply ready t is r;
           some = λ input. law.replies text settings input notes made.0 ready;
         })
-    plan_whole notes told Check (Some judged) task is other c t e = rw e (λ input.
-        behind_notes (law.checked text settings input notes told judged c t is))
-    plan_whole notes told Print (Some judged) task is other c t e = absurd (other refl)
+    plan_task notes told Check rules (Some judged) task is other c t e = rw e (λ input.
+        behind_notes (law.checked text settings input notes told rules judged c t is))
+    plan_task notes told Print rules (Some judged) task is other c t e = absurd (other refl)
 
-    pub plan_checked : (notes : List Said) (told : List ℕ) (mode : Mode) (judged : Option Judged)
-        (first task : Result (Task Grammar Sound) Stop) → settings.mode ≡ mode → mode ≢ Print
-        → IsChecked text (option_copied settings.start) notes judged → IsTask Makes mode judged first
-        → AreHintedBefore settings (ExplainsNote text) (AreHints text settings) notes told first task
-        → Planned told task
-    plan_checked notes told mode judged first task is other c made (told_whole t) =
-        plan_whole notes told mode judged task is other c t made
-    plan_checked notes told mode judged first task is other c made (told_part t) = λ input.
-        behind_notes (law.cut_notes text settings input notes told judged c t (rw is other))
+    -- a grammar that was checked, and whose notes are told in part
+    pub plan_cut : (notes : List Said) (told : List ℕ) (rules : CheckedRules) (judged : Option Judged)
+        → settings.mode ≢ Print → IsChecked text (option_copied settings.start) notes rules judged
+        → CutNotes settings (ExplainsNote text) notes told → Planned told (Err NoMemory)
+    plan_cut notes told rules judged other c t = λ input.
+        behind_notes (law.cut_notes text settings input notes told rules judged c t other)
+
+    -- a grammar that was checked, and for which no memory was left
+    pub plan_unmade : (notes : List Said) (rules : CheckedRules) (judged : Option Judged)
+        → IsChecked text (option_copied settings.start) notes rules judged → Planned [] (Err (unread fault.Memory))
+    plan_unmade notes rules judged c = plan_without_memory fault.Memory refl
+        (law.within_checked text (option_copied settings.start) notes rules judged c)
 
     -- a grammar that was read to be printed, with notes and without
     pub plan_again : (grammar : Grammar) (notes : List Said) (told : List ℕ) (task : Result (Task Grammar Sound) Stop)

@@ -14,12 +14,12 @@ use Rattle.toolrun.specs.declared.settings.Settings.{Settings}
 -- ExplainsNote what explains a note on its grammar, AreHints what else there is to say of that, IsRead what it is read
 -- as, IsChecked what is noted of its grammar, IsReady what is ready to run, IsPrintable what is noted where it is only
 -- to be printed. Of a grammar: canonical is its text, Runs what a run of it states.
-pub record AreStated {Grammar Judged Sound Options : Type 0}
+pub record AreStated {Grammar CheckedRules Judged Sound Options : Type 0}
     (States : List ℕ → Settings Options → Input → List ℕ → Reply → Type 0)
     (HasFault : List ℕ → ReadFault → Type 0) (Explains : List ℕ → ReadFault → List ℕ → Type 0)
     (ExplainsNote : List ℕ → Option (List ℕ) → Said → List ℕ → Type 0)
     (AreHints : List ℕ → Settings Options → List ℕ → Type 0) (IsRead : List ℕ → Grammar → Type 0)
-    (IsChecked : List ℕ → Option (List ℕ) → List Said → Option Judged → Type 0)
+    (IsChecked : List ℕ → Option (List ℕ) → List Said → CheckedRules → Option Judged → Type 0)
     (IsReady : List ℕ → Option (List ℕ) → List Said → Sound → Type 0)
     (IsPrintable : List ℕ → Grammar → List Said → Type 0) (canonical : Grammar → List ℕ)
     (Runs : Sound → Settings Options → Input → Reply → Type 0) : Type 0 where
@@ -32,18 +32,19 @@ pub record AreStated {Grammar Judged Sound Options : Type 0}
       → fault ≢ Memory → settings.explain ≡ true → States text settings input [] (unexplained_fault fault)
   -- any allocation may fail in reading a text or behind that
   pub within : (text : List ℕ) (grammar : Grammar) → IsRead text grammar → HasFault text Memory
-  pub within_checked : (text : List ℕ) (start : Option (List ℕ)) (notes : List Said) (judged : Option Judged)
-      → IsChecked text start notes judged → HasFault text Memory
+  pub within_checked : (text : List ℕ) (start : Option (List ℕ)) (notes : List Said) (rules : CheckedRules)
+      (judged : Option Judged) → IsChecked text start notes rules judged → HasFault text Memory
   pub no_memory : (text : List ℕ) (settings : Settings Options) (input : Input) → HasFault text Memory
       → States text settings input [] (without_memory [] 0)
   -- a grammar that is refused
   pub noted : (text : List ℕ) (settings : Settings Options) (input : Input) (notes : List Said) (told : List ℕ)
-      → IsChecked text (option_copied settings.start) notes None
+      (rules : CheckedRules) → IsChecked text (option_copied settings.start) notes rules None
       → HintedNotes settings (ExplainsNote text) (AreHints text settings) notes told
       → settings.mode ≢ Print → States text settings input told (notes_alone 2)
   -- a grammar that is not refused, and only to be checked
   pub checked : (text : List ℕ) (settings : Settings Options) (input : Input) (notes : List Said) (told : List ℕ)
-      (judged : Judged) → IsChecked text (option_copied settings.start) notes (Some judged)
+      (rules : CheckedRules) (judged : Judged)
+      → IsChecked text (option_copied settings.start) notes rules (Some judged)
       → HintedNotes settings (ExplainsNote text) (AreHints text settings) notes told → settings.mode ≡ Check
       → States text settings input told (notes_alone 0)
   -- a grammar that is run, and states something for each input
@@ -57,7 +58,8 @@ pub record AreStated {Grammar Judged Sound Options : Type 0}
       → (reply : Reply) × Runs sound settings input reply
   -- a grammar on whose notes an allocation fails in explaining them
   pub cut_notes : (text : List ℕ) (settings : Settings Options) (input : Input) (notes : List Said) (told : List ℕ)
-      (judged : Option Judged) → IsChecked text (option_copied settings.start) notes judged
+      (rules : CheckedRules) (judged : Option Judged)
+      → IsChecked text (option_copied settings.start) notes rules judged
       → CutNotes settings (ExplainsNote text) notes told → settings.mode ≢ Print
       → States text settings input told (without_memory [] 0)
   -- a grammar that is only to be printed, but defines a rule again

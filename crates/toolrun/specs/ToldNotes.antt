@@ -5,6 +5,8 @@ use Rattle.toolrun.specs.Explained.{Explained}
 use Rattle.toolrun.specs.declared.settings.Settings.{Settings}
 use Rattle.toolrun.specs.declared.stop.Stop.{Stop}
 use Rattle.toolrun.specs.declared.stop.Stop.TheVariants.{NoMemory}
+use Rattle.toolrun.specs.declared.told.Hinted.{Hinted}
+use Rattle.toolrun.specs.declared.told.Hinted.TheVariants as hinted
 use Rattle.toolrun.specs.declared.told.Told.{Told}
 use Rattle.toolrun.specs.declared.told.Told.TheVariants.{Whole, Part}
 
@@ -50,11 +52,11 @@ abbrev pub IsToldOf : (Said → List ℕ → Type 0) → List Said → Told → 
 IsToldOf Why notes (Whole text) = AreNotesTold Why notes text.items
 IsToldOf Why notes (Part text) = AreNotesBegun Why notes text.items
 
--- what the code tells of notes, with hints behind them
-abbrev pub IsHintedOf : (Said → List ℕ → Type 0) → (List ℕ → Type 0) → List Said → Told → Type 0
-IsHintedOf Why AreHints notes (Whole text) = (first hints : List ℕ) × AreNotesTold Why notes first × AreHints hints
-    × (text.items ≡ first ++ hints)
-IsHintedOf Why AreHints notes (Part text) = AreNotesBegun Why notes text.items
+-- what the code tells of notes, with hints behind them, and the rules that it hands back
+abbrev pub IsHintedOf : {R : Type 0} → (Said → List ℕ → Type 0) → (List ℕ → Type 0) → List Said → R → Hinted R → Type 0
+IsHintedOf Why AreHints notes rules (hinted.Whole text kept) = ((first hints : List ℕ) × AreNotesTold Why notes first
+    × AreHints hints × (text.items ≡ first ++ hints)) × (kept ≡ rules)
+IsHintedOf Why AreHints notes rules (hinted.Part text) = AreNotesBegun Why notes text.items
 
 -- all notes are told so before a task, or the first ones before the run stops for want of memory
 pub data AreBefore {T : Type 0} (IsTold IsCut : List ℕ → Type 0) (text : List ℕ) (task : Result T Stop)
@@ -66,9 +68,3 @@ pub data AreBefore {T : Type 0} (IsTold IsCut : List ℕ → Type 0) (text : Lis
 abbrev pub AreToldBefore : {T O : Type 0} → Settings O → (Option (List ℕ) → Said → List ℕ → Type 0) → List Said → List ℕ
     → Result T Stop → Result T Stop → Type 0
 AreToldBefore settings Why notes = AreBefore (ToldNotes settings Why notes) (CutNotes settings Why notes)
-
--- the notes and hints are told before a task
-abbrev pub AreHintedBefore : {T O : Type 0} → Settings O → (Option (List ℕ) → Said → List ℕ → Type 0)
-    → (List ℕ → Type 0) → List Said → List ℕ → Result T Stop → Result T Stop → Type 0
-AreHintedBefore settings Why AreHints notes = AreBefore (HintedNotes settings Why AreHints notes)
-    (CutNotes settings Why notes)

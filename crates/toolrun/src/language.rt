@@ -1,5 +1,5 @@
 //! A grammar language, and what its tool does.
-ghost use Rattle.std.specs.Prelude.{◌≡◌, ℕ, List, Option, Some, IfOk, IfErr, false, map, option_copied};
+ghost use Rattle.std.specs.Prelude.{◌≡◌, ℕ, List, Option, Some, IfOk, IfErr, IfSome, false, map, option_copied};
 ghost use Rattle.ruletable.specs.Notes.{Said, said_of};
 ghost use Rattle.ruletable.specs.Writing.{Flags, Writes};
 ghost use Rattle.ruletable.specs.declared.fault.ReadFault.{ReadFault as Fault};
@@ -18,10 +18,12 @@ use std::alloc::Global;
 
 /// The result of the checks of a grammar.
 #[derive(Drop)]
-pub struct Checked<J> {
+pub struct Checked<R, J> {
     /// The notes on it, in order.
     pub notes: Vec<Note>,
-    /// The grammar, unless a note rejects it.
+    /// Its rules.
+    pub rules: R,
+    /// The analysis of these that a run needs, unless a note rejects the grammar.
     pub judged: Option<J>,
 }
 
@@ -33,13 +35,16 @@ pub trait Language {
     /// A grammar that was read.
     type Grammar: Drop;
 
-    /// A grammar that was checked and that no note rejects.
+    /// The rules of a grammar that was checked.
+    type Rules: Drop;
+
+    /// The analysis of the rules of a grammar that no note rejects.
     type Judged: Drop;
 
-    /// Such a grammar, ready to run.
+    /// A grammar that is ready to run.
     type Sound: Drop;
 
-    /// Where a text says what explains notes on its grammar.
+    /// The rules of a grammar, and where its text says what explains notes on it.
     type Places: Drop;
 
     /// Which notes, and which reply after them, are stated for a grammar's text, settings and an input.
@@ -63,8 +68,18 @@ pub trait Language {
     /// Which grammar a text is read as.
     ghost is_read: { List ℕ → Self.Grammar → Type 0 };
 
-    /// Which notes there are on a text's grammar for the name of a start rule, and the grammar unless one rejects it.
-    ghost is_checked: { List ℕ → Option (List ℕ) → List Said → Option Self.Judged → Type 0 };
+    /// Which rules a text has.
+    ghost are_rules: { List ℕ → Self.Rules → Type 0 };
+
+    /// Which rules positions hold.
+    ghost held: { Self.Places → Self.Rules };
+
+    /// Which notes there are on a text's grammar for the name of a start rule, its rules, and their analysis unless a
+    /// note rejects the grammar.
+    ghost is_checked: { List ℕ → Option (List ℕ) → List Said → Self.Rules → Option Self.Judged → Type 0 };
+
+    /// Which analysis rules have.
+    ghost belongs: { Self.Rules → Self.Judged → Type 0 };
 
     /// Which notes there are on a text's grammar for the name of a start rule, and the form that is ready to run.
     ghost is_ready: { List ℕ → Option (List ℕ) → List Said → Self.Sound → Type 0 };
@@ -88,9 +103,21 @@ pub trait Language {
         requires { has_fault text.now fault }
         ensures { IfOk result (λ why. explains text.now fault why.items) };
 
-    /// Returns where a text says what explains notes. `Memory` if an allocation fails.
-    fn places(alloc: Global, text: &[u8], start: Option<&str>) -> Result<Self::Places, Memory>
-        ensures { IfOk result (λ places. are_places text.now (option_copied start.entry) places) };
+    /// Returns where a text says what explains notes. It takes the text's rules, and holds them. `Memory` if an
+    /// allocation fails; the rules are dropped then.
+    fn places(
+        alloc: Global,
+        text: &[u8],
+        rules: Self::Rules,
+        start: Option<&str>,
+    ) -> Result<Self::Places, Memory>
+        requires { are_rules text.now rules }
+        ensures places { IfOk result (λ places. are_places text.now (option_copied start.entry) places) }
+        ensures rules { IfOk result (λ places. held places ≡ rules) };
+
+    /// Returns the rules that positions hold.
+    fn into_rules(places: Self::Places) -> Self::Rules
+        ensures { result ≡ held places };
 
     /// Returns the lines that explain a note. `Memory` if an allocation fails.
     fn explain_note(
@@ -117,14 +144,18 @@ pub trait Language {
         alloc: Global,
         grammar: Self::Grammar,
         start: Option<&str>,
-    ) -> Result<Checked<Self::Judged>, Memory>
-        ensures { IfOk result (λ c. (text : List ℕ) → is_read text grammar →
-            is_checked text (option_copied start.entry) (map said_of c.notes.items) c.judged) };
+    ) -> Result<Checked<Self::Rules, Self::Judged>, Memory>
+        ensures checked { IfOk result (λ c. (text : List ℕ) → is_read text grammar →
+            is_checked text (option_copied start.entry) (map said_of c.notes.items) c.rules c.judged) }
+        ensures rules { IfOk result (λ c. (text : List ℕ) → is_read text grammar → are_rules text c.rules) }
+        ensures belongs { IfOk result (λ c. IfSome c.judged (belongs c.rules)) };
 
-    /// Makes a grammar ready to run. `Memory` if an allocation fails; the grammar is dropped then.
-    fn ready(alloc: Global, judged: Self::Judged) -> Result<Self::Sound, Memory>
+    /// Makes a grammar ready to run, by its rules and their analysis. `Memory` if an allocation fails; the grammar is
+    /// dropped then.
+    fn ready(alloc: Global, rules: Self::Rules, judged: Self::Judged) -> Result<Self::Sound, Memory>
+        requires { belongs rules judged }
         ensures { IfOk result (λ sound. (text : List ℕ) (start : Option (List ℕ)) (notes : List Said)
-            → is_checked text start notes (Some judged) → is_ready text start notes sound) };
+            → is_checked text start notes rules (Some judged) → is_ready text start notes sound) };
 
     /// Returns the notes on the rules that a grammar defines again, alone. `Memory` if an allocation fails.
     fn redefinitions(alloc: Global, grammar: &Self::Grammar) -> Result<Vec<Note>, Memory>

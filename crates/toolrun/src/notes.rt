@@ -26,7 +26,7 @@ fn write_lines<W: Sink>(notes: &[Note], w: &mut W) -> Result<(), WriteFault>
 }
 
 /// Returns the lines of the notes in order. `Memory` if an allocation fails.
-fn text_of(alloc: Global, notes: &[Note]) -> Result<Vec<u8>, Memory>
+pub(crate) fn text_of(alloc: Global, notes: &[Note]) -> Result<Vec<u8>, Memory>
     ensures { IfOk result (λ text. text.items ≡ notes_text (map said_of notes.now)) }
 {
     let mut text = SinkOf::new(Vec::new(alloc));

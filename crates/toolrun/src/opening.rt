@@ -1,26 +1,100 @@
-//! Opens a grammar: reads its text, and checks it.
-ghost use Rattle.std.specs.Prelude.{IfErr, IfOk, map, option_copied};
+//! Opens a grammar: reads its text, checks it, and makes the messages on it.
+ghost use Rattle.std.specs.Prelude.{◌≡◌, IfErr, IfOk, IfSome, map, option_copied};
 ghost use Rattle.ruletable.specs.Notes.{said_of};
+ghost use Rattle.toolrun.specs.ToldNotes.{HintedNotes};
 
 use crate::language::{Checked, Language};
-use ruletable::{Memory, ReadFault};
+use crate::notes::text_of;
+use crate::settings::Settings;
+use crate::told::{Hinted, told_hints};
+use ruletable::{Memory, Note, ReadFault};
 use std::alloc::Global;
 
 /// Reads a grammar's text, and checks it from the start rule of that name, or from the first rule. Fails by the text's
 /// fault, or if an allocation fails.
-pub fn open<L: Language>(
+pub(crate) fn read_checked<L: Language>(
     alloc: Global,
     text: &[u8],
     start: Option<&str>,
-) -> Result<Checked<L::Judged>, ReadFault>
+) -> Result<Checked<L::Rules, L::Judged>, ReadFault>
     ensures checked { IfOk result (λ c. L.is_checked text.now (option_copied start.entry) (map said_of c.notes.items)
-        c.judged) }
+        c.rules c.judged) }
+    ensures rules { IfOk result (λ c. L.are_rules text.now c.rules) }
+    ensures belongs { IfOk result (λ c. IfSome c.judged (L.belongs c.rules)) }
     ensures fault { IfErr result (λ f. L.has_fault text.now f) }
 {
     L::follows();
     let grammar = L::read(alloc, text)?;
     match L::check(alloc, grammar, start) {
         Ok(checked) => Ok(checked),
+        Err(Memory) => Err(ReadFault::Memory),
+    }
+}
+
+/// The result of opening a grammar.
+#[derive(Drop)]
+pub struct Opened<R, J> {
+    /// The notes on it, in order.
+    pub notes: Vec<Note>,
+    /// The text of the notes, as a run writes it: each explained, with hints after them, if settings ask for that.
+    pub diagnostics: Vec<u8>,
+    /// Its rules.
+    pub rules: R,
+    /// The analysis of these that a run needs, unless a note rejects the grammar.
+    pub judged: Option<J>,
+}
+
+/// Returns the text of the notes on a grammar, explained and with hints after them if settings ask for that. It takes
+/// the text's rules, and returns them. `Memory` if an allocation fails.
+fn diagnostics_of<L: Language>(
+    alloc: Global,
+    text: &[u8],
+    settings: &Settings<'_, L::Options>,
+    rules: L::Rules,
+    notes: &[Note],
+) -> Result<(Vec<u8>, L::Rules), Memory>
+    requires { L.are_rules text.now rules }
+    ensures diagnostics { IfOk result (λ r. HintedNotes settings.now (L.explains_note text.now)
+        (L.are_hints text.now settings.now) (map said_of notes.now) r.0.items) }
+    ensures rules { IfOk result (λ r. r.1 ≡ rules) }
+{
+    if !settings.explain {
+        let text = text_of(alloc, notes)?;
+        return Ok((text, rules));
+    }
+    match told_hints::<L>(alloc, text, settings, rules, notes) {
+        Hinted::Whole(text, rules) => Ok((text, rules)),
+        Hinted::Part(_) => Err(Memory),
+    }
+}
+
+/// Reads a grammar's text, checks it from the start rule that settings name, or from the first rule, and makes the text
+/// of the notes on it. Fails by the text's fault, or if an allocation fails.
+pub fn open<L: Language>(
+    alloc: Global,
+    text: &[u8],
+    settings: &Settings<'_, L::Options>,
+) -> Result<Opened<L::Rules, L::Judged>, ReadFault>
+    ensures checked { IfOk result (λ o. L.is_checked text.now (option_copied settings.now.start)
+        (map said_of o.notes.items) o.rules o.judged) }
+    ensures diagnostics { IfOk result (λ o. HintedNotes settings.now (L.explains_note text.now)
+        (L.are_hints text.now settings.now) (map said_of o.notes.items) o.diagnostics.items) }
+    ensures belongs { IfOk result (λ o. IfSome o.judged (L.belongs o.rules)) }
+    ensures fault { IfErr result (λ f. L.has_fault text.now f) }
+{
+    L::follows();
+    let Checked {
+        notes,
+        rules,
+        judged,
+    } = read_checked::<L>(alloc, text, settings.start)?;
+    match diagnostics_of::<L>(alloc, text, settings, rules, notes.as_slice()) {
+        Ok((diagnostics, rules)) => Ok(Opened {
+            notes,
+            diagnostics,
+            rules,
+            judged,
+        }),
         Err(Memory) => Err(ReadFault::Memory),
     }
 }

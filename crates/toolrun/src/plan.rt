@@ -1,19 +1,22 @@
 //! Plans for a grammar's text.
-ghost use Rattle.std.specs.Prelude.{◌≡◌, ◌≢◌, ℕ, List, Option, Some, [], Err, IfOk, IfErr, map, true};
+ghost use Rattle.std.specs.Prelude.{◌≡◌, ◌≢◌, ℕ, List, Option, Some, [], Err, IfOk, IfErr, IfSome, map, true};
+ghost use Rattle.std.specs.Prelude.{option_copied};
 ghost use Rattle.ruletable.specs.Notes.{Said, said_of};
 ghost use Rattle.toolrun.specs.Plan.{IsPlanned, first_text};
 ghost use Rattle.toolrun.specs.Stop.{unread};
 ghost use Rattle.toolrun.specs.Tasks.{IsTask, task_does};
-ghost use Rattle.toolrun.specs.ToldNotes.{AreHintedBefore, AreToldBefore};
+ghost use Rattle.toolrun.specs.ToldNotes.{AreToldBefore, HintedNotes};
 ghost use Rattle.toolrun.specs.declared.settings.Mode.TheVariants.{Print};
+ghost use Rattle.toolrun.specs.declared.status.Status.TheVariants.{Refused};
+ghost use Rattle.toolrun.specs.declared.stop.Stop.TheVariants.{Quiet};
 ghost use Rattle.toolrun.specs.declared.settings.Settings.{Settings as AllSettings};
 
 use crate::language::{Checked, Language};
-use crate::opening::open;
+use crate::opening::read_checked;
 use crate::settings::{Mode, Settings};
 use crate::status::Status;
 use crate::stop::{Stop, stop_unread};
-use crate::told::{Told, told_hints, told_notes};
+use crate::told::{Hinted, Told, told_hints, told_notes};
 use ruletable::{Memory, Note, ReadFault};
 use std::alloc::Global;
 
@@ -58,7 +61,8 @@ struct Printable<G> {
 
 /// Reads a grammar's text to print it.
 fn read_again<L: Language>(alloc: Global, text: &[u8]) -> Result<Printable<L::Grammar>, ReadFault>
-    ensures read { IfOk result (λ p. L.is_printable text.now p.grammar (map said_of p.again.items)) }
+    ensures printable { IfOk result (λ p. L.is_printable text.now p.grammar (map said_of p.again.items)) }
+    ensures read { IfOk result (λ p. L.is_read text.now p.grammar) }
     ensures fault { IfErr result (λ f. L.has_fault text.now f) }
 {
     L::follows();
@@ -74,17 +78,19 @@ fn read_again<L: Language>(alloc: Global, text: &[u8]) -> Result<Printable<L::Gr
 fn task_of<L: Language>(
     alloc: Global,
     mode: Mode,
+    rules: L::Rules,
     judged: Option<L::Judged>,
 ) -> Result<Result<Task<L::Grammar, L::Sound>, Stop>, Memory>
+    requires { IfSome judged (L.belongs rules) }
     ensures { IfOk result (IsTask (λ j sound. (text : List ℕ) (start : Option (List ℕ)) (notes : List Said)
-        → L.is_checked text start notes (Some j) → L.is_ready text start notes sound) mode judged) }
+        → L.is_checked text start notes rules (Some j) → L.is_ready text start notes sound) mode judged) }
 {
     let Some(judged) = judged else {
         return Ok(Err(Stop::Quiet(Status::Refused)));
     };
     match mode {
         Mode::Run => {
-            let sound = L::ready(alloc, judged)?;
+            let sound = L::ready(alloc, rules, judged)?;
             Ok(Ok(Task::Runs(sound)))
         }
         Mode::Check | Mode::Print => Ok(Err(Stop::Quiet(Status::Done))),
@@ -150,25 +156,27 @@ fn plan_fault<L: Language>(
     plan_explained::<L>(alloc, text, fault)
 }
 
-/// Returns the plan that writes notes before a task, each explained if settings ask for that. Where an allocation fails
-/// in explaining them, the run stops after the notes before.
-fn plan_noted<L: Language>(
+/// Returns the plan for a grammar that is only to be printed, but has these notes: it writes them, each explained if
+/// settings ask for that, and the run stops. Where an allocation fails in explaining them, it writes the notes before.
+fn plan_again<L: Language>(
     alloc: Global,
     text: &[u8],
     settings: &Settings<'_, L::Options>,
+    grammar: L::Grammar,
     notes: Vec<Note>,
-    task: Result<Task<L::Grammar, L::Sound>, Stop>,
 ) -> Plan<L::Grammar, L::Sound>
+    requires { L.is_read text.now grammar }
     ensures { AreToldBefore settings.now (L.explains_note text.now) (map said_of notes.items)
-        (first_text result.first) task result.task }
+        (first_text result.first) (Err (Quiet Refused)) result.task }
 {
+    let task = Err(Stop::Quiet(Status::Refused));
     if !settings.explain {
         return Plan {
             first: First::Notes(notes),
             task,
         };
     }
-    match told_notes::<L>(alloc, text, settings.start, notes.as_slice()) {
+    match told_notes::<L>(alloc, text, settings.start, grammar, notes.as_slice()) {
         Told::Whole(told) => Plan {
             first: First::Told(told),
             task,
@@ -180,30 +188,61 @@ fn plan_noted<L: Language>(
     }
 }
 
-/// Returns the plan that writes notes and hints before a task, the notes each explained, if settings ask for
-/// explanations; else the notes alone. Where an allocation fails in that, the run stops after the notes before.
-fn plan_hinted<L: Language>(
+/// Returns the plan that writes these messages on a checked grammar before the task with it. If an allocation fails in
+/// making it ready, the run stops at once.
+fn plan_task<L: Language>(
+    alloc: Global,
+    settings: &Settings<'_, L::Options>,
+    first: First,
+    rules: L::Rules,
+    judged: Option<L::Judged>,
+) -> Plan<L::Grammar, L::Sound>
+    requires mode { settings.now.mode ≢ Print }
+    requires belongs { IfSome judged (L.belongs rules) }
+    ensures { (text : List ℕ) (notes : List Said)
+        → L.is_checked text (option_copied settings.now.start) notes rules judged
+        → HintedNotes settings.now (L.explains_note text) (L.are_hints text settings.now) notes (first_text first)
+        → IsPlanned (L.states text settings.now) (first_text result.first)
+        (λ t. task_does L.canonical L.runs t settings.now) result.task }
+{
+    L::follows();
+    match task_of::<L>(alloc, settings.mode, rules, judged) {
+        Ok(task) => Plan { first, task },
+        Err(Memory) => plan_stop(alloc, ReadFault::Memory),
+    }
+}
+
+/// Returns the plan for a checked grammar that is to be run, or to be checked alone: it writes the notes before the
+/// task, each explained and with hints after them if settings ask for that. Where an allocation fails in that, the run
+/// stops after the notes before.
+fn plan_opened<L: Language>(
     alloc: Global,
     text: &[u8],
     settings: &Settings<'_, L::Options>,
-    notes: Vec<Note>,
-    task: Result<Task<L::Grammar, L::Sound>, Stop>,
+    checked: Checked<L::Rules, L::Judged>,
 ) -> Plan<L::Grammar, L::Sound>
-    ensures { AreHintedBefore settings.now (L.explains_note text.now) (L.are_hints text.now settings.now)
-        (map said_of notes.items) (first_text result.first) task result.task }
+    requires mode { settings.now.mode ≢ Print }
+    requires rules { L.are_rules text.now checked.rules }
+    requires belongs { IfSome checked.judged (L.belongs checked.rules) }
+    requires checked { L.is_checked text.now (option_copied settings.now.start) (map said_of checked.notes.items)
+        checked.rules checked.judged }
+    ensures { IsPlanned (L.states text.now settings.now) (first_text result.first)
+        (λ t. task_does L.canonical L.runs t settings.now) result.task }
 {
+    L::follows();
+    let Checked {
+        notes,
+        rules,
+        judged,
+    } = checked;
     if !settings.explain {
-        return Plan {
-            first: First::Notes(notes),
-            task,
-        };
+        return plan_task::<L>(alloc, settings, First::Notes(notes), rules, judged);
     }
-    match told_hints::<L>(alloc, text, settings, notes.as_slice()) {
-        Told::Whole(told) => Plan {
-            first: First::Told(told),
-            task,
-        },
-        Told::Part(told) => Plan {
+    match told_hints::<L>(alloc, text, settings, rules, notes.as_slice()) {
+        Hinted::Whole(told, rules) => {
+            plan_task::<L>(alloc, settings, First::Told(told), rules, judged)
+        }
+        Hinted::Part(told) => Plan {
             first: First::Told(told),
             task: Err(Stop::NoMemory),
         },
@@ -220,12 +259,8 @@ fn plan_checked<L: Language>(
     ensures { IsPlanned (L.states text.now settings.now) (first_text result.first)
         (λ t. task_does L.canonical L.runs t settings.now) result.task }
 {
-    L::follows();
-    match open::<L>(alloc, text, settings.start) {
-        Ok(Checked { notes, judged }) => match task_of::<L>(alloc, settings.mode, judged) {
-            Ok(task) => plan_hinted::<L>(alloc, text, settings, notes, task),
-            Err(Memory) => plan_stop(alloc, ReadFault::Memory),
-        },
+    match read_checked::<L>(alloc, text, settings.start) {
+        Ok(checked) => plan_opened::<L>(alloc, text, settings, checked),
         Err(fault) => plan_fault::<L>(alloc, text, settings, fault),
     }
 }
@@ -249,8 +284,7 @@ fn plan_print<L: Language>(
                     task: Ok(Task::Prints(grammar)),
                 };
             }
-            let task = Err(Stop::Quiet(Status::Refused));
-            plan_noted::<L>(alloc, text, settings, again, task)
+            plan_again::<L>(alloc, text, settings, grammar, again)
         }
         Err(fault) => plan_fault::<L>(alloc, text, settings, fault),
     }

@@ -11,10 +11,19 @@ use std::alloc::Global;
 
 /// The text of notes with the lines that explain them.
 #[derive(Drop)]
-pub enum Told {
+pub(crate) enum Told {
     /// All of them.
     Whole(Vec<u8>),
     /// The first ones, where an allocation failed.
+    Part(Vec<u8>),
+}
+
+/// The text of notes with the lines that explain them, and then hints.
+#[derive(Drop)]
+pub(crate) enum Hinted<R> {
+    /// All of it, and the rules of the grammar.
+    Whole(Vec<u8>, R),
+    /// The first notes, where an allocation failed.
     Part(Vec<u8>),
 }
 
@@ -74,18 +83,20 @@ fn told_by<L: Language>(
 
 /// Returns the notes on the grammar of a text, each with the lines that explain it. Where an allocation fails, the
 /// first of them, the last perhaps without.
-pub fn told_notes<L: Language>(
+pub(crate) fn told_notes<L: Language>(
     alloc: Global,
     text: &[u8],
     start: Option<&str>,
+    grammar: L::Grammar,
     notes: &[Note],
 ) -> Told
+    requires { L.is_read text.now grammar }
     ensures { IsToldOf (L.explains_note text.now (option_copied start.entry)) (map said_of notes.now) result }
 {
-    if notes.is_empty() {
-        return Told::Whole(Vec::new(alloc));
-    }
-    match L::places(alloc, text, start) {
+    let Ok(checked) = L::check(alloc, grammar, start) else {
+        return Told::Part(Vec::new(alloc));
+    };
+    match L::places(alloc, text, checked.rules, start) {
         Ok(places) => told_by::<L>(alloc, &places, start, notes),
         Err(Memory) => Told::Part(Vec::new(alloc)),
     }
@@ -107,27 +118,29 @@ fn push_hints<L: Language>(
     Ok(())
 }
 
-/// Returns the notes on the grammar of a text, each with the lines that explain it, and then its hints. Where an
-/// allocation fails, the first notes, the last perhaps without its lines.
-pub fn told_hints<L: Language>(
+/// Returns the notes on the grammar of a text, each with the lines that explain it, and then its hints. It takes the
+/// text's rules, and returns them. Where an allocation fails, the first notes, the last perhaps without its lines.
+pub(crate) fn told_hints<L: Language>(
     alloc: Global,
     text: &[u8],
     settings: &Settings<'_, L::Options>,
+    rules: L::Rules,
     notes: &[Note],
-) -> Told
+) -> Hinted<L::Rules>
+    requires { L.are_rules text.now rules }
     ensures { IsHintedOf (L.explains_note text.now (option_copied settings.now.start))
-        (L.are_hints text.now settings.now) (map said_of notes.now) result }
+        (L.are_hints text.now settings.now) (map said_of notes.now) rules result }
 {
-    let Ok(places) = L::places(alloc, text, settings.start) else {
-        return Told::Part(Vec::new(alloc));
+    let Ok(places) = L::places(alloc, text, rules, settings.start) else {
+        return Hinted::Part(Vec::new(alloc));
     };
     match told_by::<L>(alloc, &places, settings.start, notes) {
-        Told::Part(told) => Told::Part(told),
+        Told::Part(told) => Hinted::Part(told),
         Told::Whole(told) => {
             let mut told = told;
             match push_hints::<L>(alloc, &places, settings, &mut told) {
-                Ok(()) => Told::Whole(told),
-                Err(Memory) => Told::Part(told),
+                Ok(()) => Hinted::Whole(told, L::into_rules(places)),
+                Err(Memory) => Hinted::Part(told),
             }
         }
     }

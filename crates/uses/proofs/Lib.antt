@@ -2,4 +2,5 @@ mod AreBytesLemmas
 mod ChoiceLemmas
 mod CommentLemmas
 mod CountTokensLemmas
+mod LoadedAbnfLemmas
 mod TakenLemmas

@@ -25,6 +25,7 @@ comment_form = record {
   printed = Answers;
   numbered = false;
   stops = false;
+  line_buffered = false;
 }
 
 -- what is told of a line that is no comment

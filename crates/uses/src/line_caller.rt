@@ -69,6 +69,7 @@ pub fn answer_comments<R: Source, O: Sink>(
         printed: Printed::Answers,
         numbered: false,
         stops: false,
+        line_buffered: false,
     };
     run_lines(alloc, &Comments { alloc }, &mut (), form, reader, out)
 }

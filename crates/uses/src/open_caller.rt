@@ -24,7 +24,7 @@ pub fn answer_both(
     ensures first { IfSome result (λ both. AnswersAlone grammar.now settings.now first.now both.0) }
     ensures second { IfSome result (λ both. AnswersAlone grammar.now settings.now second.now both.1) }
 {
-    let Ok(OpenedAbnf { notes: _, judge }) = open_abnf(alloc, grammar, settings) else {
+    let Ok(OpenedAbnf { judge, .. }) = open_abnf(alloc, grammar, settings) else {
         return None;
     };
     let Some(mut judge) = judge else {
@@ -52,7 +52,7 @@ pub fn run_both(
     ensures first { IfSome result (λ both. RunsAlone grammar.now settings.now first.now both.0) }
     ensures second { IfSome result (λ both. RunsAlone grammar.now settings.now second.now both.1) }
 {
-    let Ok(OpenedPeg { notes: _, runner }) = open_peg(alloc, grammar, settings) else {
+    let Ok(OpenedPeg { runner, .. }) = open_peg(alloc, grammar, settings) else {
         return None;
     };
     let Some(mut runner) = runner else {

@@ -2,10 +2,11 @@
 ghost use Rattle.std.specs.Prelude.{List, IfOk, IfErr, IfSome};
 ghost use Rattle.pegread.specs.Definitions.{IsTableOf};
 ghost use Rattle.pegread.specs.Pattern.{Rule};
-ghost use Rattle.pegread.specs.ReadBack.{ReadsAs, SameButSpans};
+ghost use Rattle.pegprint.specs.ReadBack.{ReadsAs, SameButSpans};
 ghost use Rattle.pegread.specs.Reading.{IsFaultOf, Reads};
 
-use pegread::{MAX_GRAMMAR, Peg, print_peg, read_peg};
+use pegprint::print_peg;
+use pegread::{MAX_GRAMMAR, Peg, read_peg};
 use ruletable::{ReadFault, SinkOf};
 use std::alloc::Global;
 

@@ -4,7 +4,8 @@ ghost use Rattle.std.specs.Char.{is_ascii_alphabetic};
 ghost use Rattle.abnfread.specs.AbnfReading.{Reads};
 ghost use Rattle.abnfread.specs.AbnfSlices.{White};
 ghost use Rattle.abnfread.specs.Element.{Definition};
-ghost use Rattle.abnftexts.specs.LinkedTexts.{EndsLine, SpellsAtMargin, moved_definition};
+ghost use Rattle.abnfblocks.specs.LinkedLines.{EndsLine};
+ghost use Rattle.abnftexts.specs.LinkedTexts.{SpellsAtMargin, moved_definition};
 ghost use Rattle.lexer.specs.GrammarLimits.{max_grammar};
 
 /// Says what texts of ABNF spell one after another, where LF ends the first one and the second one's first rule is not

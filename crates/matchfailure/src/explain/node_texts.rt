@@ -6,7 +6,7 @@ ghost use Rattle.matchfailure.specs.NodeTexts.{leaf_text, name_of_rule, rule_of_
 
 use gramcheck::SoundPeg;
 use pegnodes::Node;
-use pegread::{print_literal, print_set};
+use pegprint::{print_literal, print_set};
 use ruletable::{Memory, SinkOf, write_whole};
 use std::alloc::Global;
 

@@ -4,7 +4,7 @@ ghost use Rattle.std.specs.List.{flat_map};
 ghost use Rattle.diagnostics.specs.MentionLines.{mention_lines_by};
 ghost use Rattle.pegexplain.specs.PegNotes.{ArePegPlaces};
 ghost use Rattle.diagnostics.specs.ShownBytes.{cut};
-ghost use Rattle.pegread.specs.Canon.{text_of};
+ghost use Rattle.pegprint.specs.Canon.{text_of};
 ghost use Rattle.pegread.specs.Pattern.{Bytes};
 ghost use Rattle.pegexplain.specs.CodeHints.{hint_found};
 ghost use Rattle.pegexplain.specs.PegHints.{ArePegHints, hint_line, hint_told, hints_told, rule_told};
@@ -12,7 +12,7 @@ ghost use Rattle.pegexplain.specs.PegHints.{ArePegHints, hint_line, hint_told, h
 use crate::PegPlaces;
 use crate::hints::hints::{Hint, all_hints};
 use diagnostics::{MentionKind, mention_lines, push_cut, push_more, push_number};
-use pegread::print_literal;
+use pegprint::print_literal;
 use ruletable::{Memory, SinkOf};
 use std::alloc::Global;
 

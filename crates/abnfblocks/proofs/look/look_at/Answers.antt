@@ -16,7 +16,8 @@ returns-then-count-gt0 c =
     c.margin-margin_size.ensures.margin in
     it_reads (shorter-reads c.args.rule.now c.margin-margin_size.result margin c.full_size-longest.result c.requires
     c.full_size-longest.ensures.size c.one_reading.ensures.no_fault c.in-Some.fault c.in_ok-count-in-Some.count
-    c.in_ok-count-in-Some.ensures (rw c.in-Some.is at c.in_ok-outcome.ensures) c.if-count-gt0.true)
+    (rw c.fault_line-limit.ensures at c.in_ok-count-in-Some.ensures) (rw c.in-Some.is at c.in_ok-outcome.ensures)
+    c.if-count-gt0.true)
 
 pub returns-else-count-gt0 : goal.returns-else-count-gt0
 returns-else-count-gt0 c =
@@ -24,5 +25,5 @@ returns-else-count-gt0 c =
     c.margin-margin_size.ensures.margin in
     it_is_none (none-reads c.args.rule.now c.margin-margin_size.result margin c.full_size-longest.result c.requires
     c.full_size-longest.ensures.size c.one_reading.ensures.no_fault c.in-Some.fault c.in_ok-count-in-Some.count
-    c.in_ok-count-in-Some.ensures (rw c.in-Some.is at c.in_ok-outcome.ensures)
+    (rw c.fault_line-limit.ensures at c.in_ok-count-in-Some.ensures) (rw c.in-Some.is at c.in_ok-outcome.ensures)
     (omega (arith, c.if-count-gt0.false)))

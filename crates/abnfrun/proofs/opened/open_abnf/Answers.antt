@@ -6,11 +6,13 @@ use Rattle.ruletable.specs.Notes.{said_of}
 
 pub returns-in_default-clause-opened : goal.returns-in_default-clause-opened
 returns-in_default-clause-opened c =
-    refused_is_opened c.args.text.now c.args.settings.now (map said_of c.in_ok-notes.field-0.notes.items)
-    c.in_ok-notes.field-0.judged c.in_ok-notes.ensures.checked c.in_default.is
+    let o = c.in_ok-notes.field-0 in
+    refused_is_opened c.args.text.now c.args.settings.now (map said_of o.notes.items) o.rules.rules o.judged
+    c.in_ok-notes.ensures.checked c.in_default.is
 
 pub returns-in-Ok-clause-opened : goal.returns-in-Ok-clause-opened
 returns-in-Ok-clause-opened c =
-    judge_is_opened c.args.text.now c.args.settings.now (map said_of c.in_ok-notes.field-0.notes.items)
-    c.in_ok-notes.field-0.judged c.in-Some.grammar c.in-Ok.judge c.in_ok-notes.ensures.checked c.in-Some.is
-    c.in-Ok.ensures
+    let o = c.in_ok-notes.field-0 in
+    judge_is_opened c.args.text.now c.args.settings.now (map said_of o.notes.items) o.rules.rules o.judged
+    c.in-Some.judged c.new-grammar.result c.in-Ok.judge c.in_ok-notes.ensures.checked c.in-Some.is
+    c.new-grammar.ensures.rules c.new-grammar.ensures.judged c.in-Ok.ensures

@@ -9,22 +9,17 @@ pub returns-in-Err : goal.returns-in-Err
 returns-in-Err c =
     opens_no_text c.args.place.now.judge.held c.requires c.text_of_fault.result c.text_of_fault.ensures
 
-pub returns-in_err-text : goal.returns-in_err-text
-returns-in_err-text c =
-    opens_nothing c.args.place.now.judge.held c.requires c.from_residual.result c.from_residual.ensures.0
-
 pub returns-in_default : goal.returns-in_default
 returns-in_default c =
-    rw c.requires (refuses (map said_of c.in-Ok.opened.notes.items) c.in_ok-text.text.items
-    (rw c.in_default.is at c.in-Ok.ensures.opened) c.in_ok-text.ensures)
+    rw c.requires (refuses (map said_of c.in-Ok.opened.notes.items) c.in-Ok.opened.diagnostics.items
+    (rw c.in_default.is at c.in-Ok.ensures.opened) c.in-Ok.ensures.diagnostics)
 
 pub returns-in_err-new : goal.returns-in_err-new
 returns-in_err-new c =
-    opens_nothing c.args.place.now.judge.held c.requires c.from_residual-in_err-new.result
-    c.from_residual-in_err-new.ensures.0
+    opens_nothing c.args.place.now.judge.held c.requires c.from_residual.result c.from_residual.ensures.0
 
 pub returns : goal.returns
 returns c =
     rw (c.put_judge.ensures, c.in_ok-new.ensures.ok)
-    (opens (map said_of c.in-Ok.opened.notes.items) c.in_ok-text.text.items c.in-Some.judge
-    (rw c.in-Some.is at c.in-Ok.ensures.opened) c.in_ok-text.ensures)
+    (opens (map said_of c.in-Ok.opened.notes.items) c.in-Ok.opened.diagnostics.items c.in-Some.judge
+    (rw c.in-Some.is at c.in-Ok.ensures.opened) c.in-Ok.ensures.diagnostics)

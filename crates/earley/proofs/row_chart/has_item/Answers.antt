@@ -1,6 +1,6 @@
 use Rattle.std.proofs.Common.{◌≡◌, ⊎_elim, Some, slice_get, refl, subst, arith}
 use Rattle.std.proofs.lemmas.Bool.{cases_lt}
-use Rattle.bitrows.specs.RowSets.{HasAt}
+use Rattle.earley.specs.RowSets.{HasAt}
 use Rattle.flatgrammar.proofs.CallOfLemmas.{get_below}
 use Rattle.flatgrammar.specs.Blocks.{spot}
 use Rattle.earley.proofs.row_chart.has_item.Goals as goal

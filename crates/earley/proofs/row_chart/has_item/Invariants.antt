@@ -1,5 +1,5 @@
 use Rattle.std.proofs.Common.{◌≡◌, ℕ, ◌<◌, Some, slice_get}
-use Rattle.bitrows.specs.RowSets.{HasAt}
+use Rattle.earley.specs.RowSets.{HasAt}
 use Rattle.flatgrammar.specs.Blocks.{spot}
 use Rattle.earley.proofs.row_chart.has_item.Given as goal
 

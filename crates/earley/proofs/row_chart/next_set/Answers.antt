@@ -1,7 +1,7 @@
 use Rattle.std.proofs.Common.{◌≡◌, length, map, ap, sym, subst, ◌∙◌, arith}
 use Rattle.std.proofs.lemmas.Result.{IfOk-weaker, MatchResult-weaker}
 use Rattle.std.specs.Prelude.{IfOk, Result, Ok, Err}
-use Rattle.bitrows.specs.RowSets.{no_items}
+use Rattle.earley.specs.RowSets.{no_items}
 use Rattle.earleyitems.specs.Charts.{IsFirst}
 use Rattle.earley.specs.RowCharts.{row_views}
 use Rattle.earley.specs.RowItems.{Gains}

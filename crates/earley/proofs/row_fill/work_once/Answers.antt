@@ -1,5 +1,5 @@
 use Rattle.std.proofs.Common.{length, subst, ap, ◌∙◌, arith}
-use Rattle.bitrows.specs.RowSets.{HasAt}
+use Rattle.earley.specs.RowSets.{HasAt}
 use Rattle.earley.specs.RowCharts.{row_views}
 use Rattle.earley.proofs.RowWorklistLemmas.{worked_on, worked_none, stands_mid}
 use Rattle.earley.proofs.row_fill.work_once.Goals as goal

@@ -1,5 +1,5 @@
 use Rattle.std.proofs.Common.{◌≡◌, [], length, refl, ◌∙◌, subst, arith}
-use Rattle.bitrows.proofs.WordInLemmas.{default_same}
+use Rattle.earley.proofs.WordInLemmas.{default_same}
 use Rattle.earley.specs.RowIndexes.{AreIndexedBelow}
 use Rattle.earley.proofs.RowIndexesLemmas.{below_none, below_more}
 use Rattle.earley.proofs.row_index.index_rows.Goals as goal

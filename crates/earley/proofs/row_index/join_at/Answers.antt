@@ -1,5 +1,5 @@
 use Rattle.std.proofs.Common.{[], slice_index_or, Contains}
-use Rattle.bitrows.proofs.WordInLemmas.{default_same}
+use Rattle.earley.proofs.WordInLemmas.{default_same}
 use Rattle.earley.proofs.RowIndexesLemmas.{joined_at}
 use Rattle.earley.proofs.row_index.join_at.Goals as goal
 

@@ -1,6 +1,6 @@
 -- Where all that the other sets have is there, only the greatest number's set counts.
 use Rattle.std.proofs.Common.{◌<◌, ℕ, [], length, sym, subst}
-use Rattle.bitrows.specs.RowSets.{HasAt}
+use Rattle.earley.specs.RowSets.{HasAt}
 use Rattle.earley.specs.RowIndexes.{IsAfterIn, IsAfterLast}
 use Rattle.earley.specs.RowItems.{Gains}
 use Rattle.earley.proofs.IsAfterInLemmas.{rest_none, rest_covered, rest_single, rest_added}

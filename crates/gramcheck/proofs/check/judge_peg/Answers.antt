@@ -6,10 +6,16 @@ use Rattle.gramcheck.specs.Checked.{is_refused}
 use Rattle.gramcheck.proofs.JudgeLemmas.{start-below}
 use Rattle.gramcheck.proofs.check.judge_peg.Goals as goal
 
-pub new-ranked-requires-clause-ranked : goal.new-ranked-requires-clause-ranked
-new-ranked-requires-clause-ranked c =
+pub returns-clause-sound : goal.returns-clause-sound
+returns-clause-sound c =
     let told : false ≡ is_refused (map said_of c.deref-2.result.now) = c.if-refused.ensures in
     let passes : is_refused (map said_of c.in_ok-judged.judged.notes.items) ≡ false =
-    rw c.deref-2.ensures.value at (sym told) in
-    c.in_ok-judged.ensures.ranked passes c.in_ok-first.first
-    (start-below _ (rules_of c.args.peg.rules) c.in_ok-first.first c.in_ok-first.ensures)
+    rw c.deref-2.ensures.value at (sym told) in (
+      passes,
+      rw c.new-ranked.ensures (record {
+        ranked = c.in_ok-judged.ensures.ranked passes c.in_ok-first.first
+            (start-below _ (rules_of c.args.peg.now.rules) c.in_ok-first.first c.in_ok-first.ensures);
+        numbered = c.in_ok-judged.ensures.numbered;
+      }),
+      rw c.new-ranked.ensures c.in_ok-first.ensures,
+    )

@@ -5,7 +5,7 @@ use Rattle.lazydfa.specs.Conts.{AreKept}
 use Rattle.lazydfa.specs.Memos.{IsMemo}
 use Rattle.lazydfa.proofs.AreHopsLemmas.{memo_kept}
 use Rattle.lazydfa.proofs.IsOverLemmas.{settled_start}
-use Rattle.lazydfa.proofs.IsTrackLemmas.{end_told, track_of}
+use Rattle.lazydfa.proofs.IsTrackLemmas.{track_of}
 use Rattle.lazydfa.proofs.run.follow.Goals as goal
 
 pub returns-then-not-branch-clause-memo : goal.returns-then-not-branch-clause-memo
@@ -67,8 +67,8 @@ returns-clause-memo g c =
     })
     (ap (λ v. v.items) c.prepare.ensures.unfolds) (ap (λ v. v.items) c.prepare.ensures.hops)
 
-pub returns-clause-told : goal.returns-clause-told
-returns-clause-told g c =
+pub returns-clause-stops : goal.returns-clause-stops
+returns-clause-stops g c =
     let size = length-map c.args.line.now g.L.Letter.number in
     let memo : IsMemo c.args.tables.now c.args.classes.samples.now
     (record c.prepare.new.memo { cache = c.begin.new.cache }) =
@@ -89,8 +89,8 @@ returns-clause-told g c =
     c.begin.new.cache.conts.items.items c.begin.new.cache.states.items c.prepare.new.memo.parts.items 0
     c.prepare.ensures.parts (c.in_ok-begin.ensures.is c.if-not-branch.false))
     (λ some. absurd (omega (arith, some)))) in
-    end_told c.args.tables.now c.args.classes.samples.now
-    (record c.prepare.new.memo { cache = c.begin.new.cache }) (map g.L.Letter.number c.args.line.now)
-    memo c.glide-track.result.row c.glide-track.result.at (length c.args.line.now) c.ends_at.result
-    (let a = c.if-track-line.false in let b = c.glide-track.ensures.within in omega (arith, a, b, size))
-    (omega (arith, size)) started c.ends_at.ensures c.verdict_at_end.result c.verdict_at_end.ensures
+    record {
+      within = let a = c.glide-track.ensures.within in omega (arith, a, size);
+      tracks = started;
+      dead = λ lt. absurd (let a = c.if-track-line.false in omega (arith, a, lt, size));
+    }

@@ -5,7 +5,8 @@ use Rattle.lazydfa.specs.Cached.{IsCell}
 use Rattle.lazydfa.specs.Memos.{RunsOver, RunsAt}
 use Rattle.lazydfa.proofs.AreHopsLemmas.{memo_kept, hops_noted}
 use Rattle.lazydfa.proofs.IsAtLemmas.{step_to, step_push, step_reached, push_reached, push_runs, pushed_part, step_dead}
-use Rattle.lazydfa.proofs.IsOverLemmas.{over_kept, over_pushed, plain_below, settled_running}
+use Rattle.lazydfa.proofs.IsOverLemmas.{over_kept, over_pushed, plain_below, settled_kept}
+use Rattle.lazydfa.proofs.IsOverLemmas.{settled_running}
 use Rattle.lazydfa.proofs.run.take_step.Goals as goal
 
 pub settle-requires-clause-memo : goal.settle-requires-clause-memo
@@ -103,11 +104,15 @@ returns-in-Dead-clause-memo c =
     c.in_ok-t.ensures.grows refl refl
 
 pub returns-in-Dead-clause-taken : goal.returns-in-Dead-clause-taken
-returns-in-Dead-clause-taken c = λ x j letter is class at.
-    step_dead c.args.tables.now c.requires.roots x c.args.memo.now.cache.conts.items.items
-    c.cell_of.new.cache.conts.items.items c.args.memo.now.cache.states.items c.cell_of.new.cache.states.items
-    c.in_ok-t.ensures.grows.conts c.in_ok-t.ensures.grows.states c.args.state j letter c.args.class
-    (below_of c.args.memo.now.cache.conts.items.items c.args.memo.now.parts.items) at.over.at
-    (plain_below c.args.memo.now.cache.conts.items.items c.args.memo.now.parts.items at.over.at.state.ended at.plain)
-    c.args.samples.now c.args.memo.now.cache.cells.items c.requires.memo.cached is class c.in_ok-t.field-0
-    c.in_ok-t.ensures.is c.in-Dead.is
+returns-in-Dead-clause-taken c = λ x j letter is class at. (
+  settled_kept c.args.tables.now c.args.memo.now.cache.conts.items.items c.cell_of.new.cache.conts.items.items
+      c.args.memo.now.cache.states.items c.cell_of.new.cache.states.items c.in_ok-t.ensures.grows.conts
+      c.in_ok-t.ensures.grows.states c.requires.memo.cached.within c.args.memo.now.parts.items c.args.state x j at,
+  step_dead c.args.tables.now c.requires.roots x c.args.memo.now.cache.conts.items.items
+      c.cell_of.new.cache.conts.items.items c.args.memo.now.cache.states.items c.cell_of.new.cache.states.items
+      c.in_ok-t.ensures.grows.conts c.in_ok-t.ensures.grows.states c.args.state j letter c.args.class
+      (below_of c.args.memo.now.cache.conts.items.items c.args.memo.now.parts.items) at.over.at
+      (plain_below c.args.memo.now.cache.conts.items.items c.args.memo.now.parts.items at.over.at.state.ended at.plain)
+      c.args.samples.now c.args.memo.now.cache.cells.items c.requires.memo.cached is class c.in_ok-t.field-0
+      c.in_ok-t.ensures.is c.in-Dead.is,
+)

@@ -1,27 +1,14 @@
 -- What was found in the window, or was not.
-use Rattle.std.proofs.Common.{◌≤◌, ℕ, Option, List, [], length, append-nil, inr, refl, sym, arith}
-use Rattle.feed.proofs.GrowsLemmas.{Consumes-same}
-use Rattle.feed.specs.Feed.{Grows, bytes_of, capacity_of}
-use Rattle.feed.specs.declared.feed.Feed.{Feed}
-use Rattle.linejudge.proofs.NextLineLemmas.{found_has_end, none_found, held_taken, held_within, line_found, not_found}
-use Rattle.linejudge.proofs.NextLineLemmas.{without_fits, without_short}
+use Rattle.std.proofs.Common.{◌≤◌, length, refl, arith}
+use Rattle.feed.specs.Feed.{bytes_of, capacity_of}
+use Rattle.linejudge.proofs.NextLineLemmas.{found_has_end, grows_none, none_found, held_taken, held_within, line_found}
+use Rattle.linejudge.proofs.NextLineLemmas.{not_found, same_feed, without_fits, without_short}
 use Rattle.linejudge.proofs.line.next_line.Goals as goal
-
--- a feed that stays as it was
-grows-none : {R : Type 0} {remaining : R → Option (List ℕ)} (f : Feed R) → Grows remaining f f
-grows-none f = record {
-  more = [];
-  bytes = sym (append-nil (bytes_of f));
-  gives = Consumes-same _;
-  allowance = omega arith;
-  capacity = refl;
-  stays = inr (refl, refl, refl);
-}
 
 pub returns-in-Some : goal.returns-in-Some
 returns-in-Some g c = record {
   loan = refl;
-  grows = grows-none c.args.feed.now;
+  grows = grows_none c.args.feed.now;
   told = c.requires;
   follows = λ before input room a.
       let len = c.len.ensures.len in
@@ -30,15 +17,9 @@ returns-in-Some g c = record {
         line_found c.args.feed.now c.args.form before input room within a c.in-Some.k c.in-Some.ensures,
         held_within c.args.feed.now c.args.form before input room within a,
       );
-  still = λ some. record {
-    bytes = refl;
-    capacity = refl;
-    flow = refl;
-    allowance = refl;
-    reader = refl;
-    loan = refl;
-  };
-  filled = λ none before input room a.
+  still = λ some. same_feed c.args.feed.now;
+  reads = λ is. absurd (cc);
+  filled = λ not none before input room a.
       absurd (found_has_end c.args.form.end c.in-Some.k (bytes_of c.args.feed.now) c.in-Some.ensures none);
   fits = let is = c.in-Some.ensures in let high = is.0.high in omega (arith, high);
   short =
@@ -61,7 +42,8 @@ returns-in-Some-find g c = record {
         held_within feed c.args.form before input room c.fill-held.ensures.within a,
       );
   still = λ some. absurd (some (none_found c.args.form.end (bytes_of c.args.feed.now) c.in_default.ensures));
-  filled = λ none before input room a.
+  reads = λ is. absurd (cc);
+  filled = λ not none before input room a.
       held_taken c.fill-held.new.self c.args.form before input room c.fill-held.ensures.within a
       c.fill-held.result c.fill-held.ensures.held;
   fits =
@@ -87,7 +69,8 @@ returns-in-None g c = record {
         held_within feed c.args.form before input room c.fill-held.ensures.within a,
       );
   still = λ some. absurd (some (none_found c.args.form.end (bytes_of c.args.feed.now) c.in_default.ensures));
-  filled = λ none before input room a.
+  reads = λ is. absurd (cc);
+  filled = λ not none before input room a.
       held_taken c.fill-held.new.self c.args.form before input room c.fill-held.ensures.within a
       c.fill-held.result c.fill-held.ensures.held;
   fits = rw (c.without_end.ensures, c.len-len.ensures.len)

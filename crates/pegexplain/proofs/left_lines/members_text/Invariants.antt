@@ -1,6 +1,6 @@
 -- The text so far, and what is left of it.
 use Rattle.std.proofs.Common.{◌≡◌, ◌++◌, ◌∷◌, map, drop}
-use Rattle.pegread.specs.CanonMembers.{further_members, members_text}
+use Rattle.pegprint.specs.CanonMembers.{further_members, members_text}
 use Rattle.pegread.specs.PegViews.{pattern_of, patterns}
 use Rattle.pegexplain.proofs.left_lines.members_text.Given as goal
 

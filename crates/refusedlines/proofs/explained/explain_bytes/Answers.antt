@@ -3,8 +3,8 @@ use Rattle.abnfread.specs.AbnfViews.{rules_of}
 use Rattle.refusedlines.proofs.RefusalLemmas.{told_bytes}
 use Rattle.refusedlines.proofs.explained.explain_bytes.Goals as goal
 
-pub returns : goal.returns
-returns c =
+pub returns-clause-told : goal.returns-clause-told
+returns-clause-told c =
     let grammar = c.args.explainer.now.grammar.now in
     let rules = rules_of grammar.rules in
     let f = c.in_ok-following.following in

@@ -8,8 +8,8 @@ use Rattle.refusedlines.specs.Refusals.{octet_count}
 use Rattle.refusedlines.proofs.RefusalLemmas.{points_bound, told_points}
 use Rattle.refusedlines.proofs.explained.explain_points.Goals as goal
 
-pub find_following-requires : goal.find_following-requires
-find_following-requires c =
+pub find_following-requires-clause-within : goal.find_following-requires-clause-within
+find_following-requires-clause-within c =
     let e = c.in_ok-first.ensures in
     let bound = points_bound _ _ c.as_slice-points.result.now _ 0 c.as_slice-points.ensures.value e.longest e.spelled in
     let short = c.requires.within in
@@ -31,8 +31,8 @@ push_refusal-requires c =
     let place = c.octets_of-place.ensures in
     omega (arith, bound.0, place)
 
-pub returns : goal.returns
-returns c =
+pub returns-clause-told : goal.returns-clause-told
+returns-clause-told c =
     let e = c.in_ok-first.ensures in
     let grammar = c.args.explainer.now.grammar.now in
     let rules = rules_of grammar.rules in

@@ -3,7 +3,7 @@ use Rattle.std.proofs.lemmas.List.{length-map}
 use Rattle.earleyitems.specs.ChartSets.{set_at, AreSpotsOf}
 use Rattle.letters.specs.Letters.{has}
 use Rattle.refusedlines.specs.Following.{AreFollowing}
-use Rattle.refusedlines.proofs.CanFollowLemmas.{are_following}
+use Rattle.refusedlines.proofs.CanFollowLemmas.{are_following, readers_of_set}
 use Rattle.refusedlines.proofs.following.find_behind.Goals as goal
 
 pub returns-clause-following : goal.returns-clause-following
@@ -12,11 +12,11 @@ returns-clause-following g c = λ rules judged tells.
     let size = length-map c.args.line.now g.L.Letter.number in
     let short = c.requires in
     let flat = c.args.flat.now in
-    let sets = c.in_ok-ends.ensures.sets (length x) in
+    let readers = readers_of_set flat x (length x) _ (c.in_ok-ends.ensures.sets (length x)) c.in_ok-spots.spots.items
+    (subst (λ v. AreSpotsOf (set_at c.judge.new.chart v) c.in_ok-spots.spots.items) (sym size) c.in_ok-spots.ensures) in
     subst (λ v. AreFollowing (has g.L.Letter.ALPHABET) rules judged x v c.in_ok-runs.runs.items c.in_ok-ends.ends) size
     (are_following (has g.L.Letter.ALPHABET) rules judged flat tells x (omega (arith, short, size))
-    c.values_are_letters.ensures _ sets c.in_ok-spots.spots.items
-    (subst (λ v. AreSpotsOf (set_at c.judge.new.chart v) c.in_ok-spots.spots.items) (sym size) c.in_ok-spots.ensures)
+    c.values_are_letters.ensures c.in_ok-spots.spots.items readers
     c.in_ok-runs.runs.items c.in_ok-ends.ends
     c.in_ok-runs.ensures.apart (rw (c.ALPHABET.ensures, c.deref.ensures.value) at c.in_ok-runs.ensures.letters)
     c.in_ok-ends.ensures.answer)

@@ -12,11 +12,11 @@ returns-then-is_empty g c =
     let none : c.in-Ok.field-0.again.items ≡ [] = nil_from_length _
     (grind (arith, nat_tests, c.in-Ok.field-0.again.ok, c.if-is_empty.ensures)) in
     plan_printed c.follows.ensures c.args.text.now c.args.settings.now c.in-Ok.field-0.grammar
-    (map said_of c.in-Ok.field-0.again.items) c.requires (ap (map said_of) none) c.in-Ok.ensures.read
+    (map said_of c.in-Ok.field-0.again.items) c.requires (ap (map said_of) none) c.in-Ok.ensures.printable
 
 pub returns-else-is_empty : goal.returns-else-is_empty
 returns-else-is_empty g c =
     plan_again c.follows.ensures c.args.text.now c.args.settings.now c.in-Ok.field-0.grammar
     (map said_of c.in-Ok.field-0.again.items) _ _ c.requires
     (some_said c.in-Ok.field-0.again.items (grind (arith, nat_tests, c.in-Ok.field-0.again.ok, c.if-is_empty.ensures)))
-    c.in-Ok.ensures.read c.plan_noted.ensures
+    c.in-Ok.ensures.printable c.plan_again.ensures

@@ -1,4 +1,4 @@
--- Nothing is told, or all notes are, without hints.
+-- Nothing is told, or all notes are, with hints or without.
 use Rattle.std.proofs.Common.{map}
 use Rattle.ruletable.specs.Notes.{said_of}
 use Rattle.toolrun.specs.ToldNotes.{begun_notes, no_note}
@@ -8,7 +8,7 @@ use Rattle.toolrun.proofs.told.told_hints.Goals as goal
 pub returns-in_default : goal.returns-in_default
 returns-in_default g c = rw c.new.ensures.items (begun_notes (map said_of c.args.notes.now) no_note)
 
-pub returns : goal.returns
-returns g c =
-    let told = (let t = c.told_by.ensures c.args.text.now c.in-Ok.ensures in rw c.in-Whole.is at t) in
+pub returns-in-Err : goal.returns-in-Err
+returns-in-Err g c =
+    let told = (let t = c.told_by.ensures c.args.text.now c.in-Ok.ensures.places in rw c.in-Whole.is at t) in
     rw c.in-Err.ensures.err (begun-whole told)

@@ -1,7 +1,7 @@
 use Rattle.std.proofs.Common.{◌≡◌, ◌≤◌, ◌∙◌, sym, [], length, rules, arith}
 use Rattle.std.proofs.lemmas.List.{nil_from_length}
 use Rattle.lexer.specs.declared.limits.TheConstants.{MAX_GRAMMAR}
-use Rattle.pegread.specs.Canon.{grammar_text}
+use Rattle.pegprint.specs.Canon.{grammar_text}
 use Rattle.pegread.specs.PegViews.{rules_of}
 use Rattle.pegread.proofs.IsTableOfLemmas.{none-again}
 use Rattle.uses.proofs.AreBytesLemmas.{are-bytes}

@@ -1,4 +1,4 @@
-use Rattle.std.proofs.Common.{[], ap, map}
+use Rattle.std.proofs.Common.{ap, map}
 use Rattle.abnfblocks.specs.TextLines.{numbered}
 use Rattle.abnfblocks.proofs.MaskedLinesLemmas.{markdown-masked}
 use Rattle.abnfblocks.proofs.rfctext.masked.masked_markdown.Goals as goal

@@ -1,4 +1,4 @@
-use Rattle.std.proofs.Common.{◌≡◌, ◌≤◌, ◌+◌, ◌∙◌, List, [], true, arith, length, map, rules, subst, sym}
+use Rattle.std.proofs.Common.{◌≤◌, ◌+◌, ◌∙◌, List, [], true, arith, length, map, rules, subst, sym}
 use Rattle.std.proofs.lemmas.Grind.{common_steps}
 use Rattle.abnfblocks.specs.MaskedLines.{MasksBlocks}
 use Rattle.abnfblocks.specs.OpenTags.{tag_size}

@@ -1,4 +1,4 @@
-use Rattle.std.proofs.Common.{◌≡◌, ◌++◌, ◌≤◌, ◌-◌, [], true, length, map, drop}
+use Rattle.std.proofs.Common.{◌≤◌, ◌-◌, [], true, length, map, drop}
 use Rattle.abnfblocks.specs.OpenTags.{tag_size}
 use Rattle.abnfblocks.specs.TextLines.{numbered}
 use Rattle.abnfblocks.proofs.MaskedLinesLemmas.{Completes}

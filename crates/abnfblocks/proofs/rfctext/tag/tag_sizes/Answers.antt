@@ -1,6 +1,4 @@
-use Rattle.std.proofs.Common.{◌≡◌, ◌∷◌, ◌∙◌, arith, drop, get_or, map, sym}
-use Rattle.abnfblocks.specs.OpenTags.{tag_size}
-use Rattle.abnfblocks.specs.TextLines.{numbered}
+use Rattle.std.proofs.Common.{◌∙◌, arith, sym}
 use Rattle.abnfblocks.proofs.OpenTagLemmas.{left-before, left-small, sizes-before, tag-none, tag-shut, tag-some}
 use Rattle.abnfblocks.proofs.rfctext.tag.tag_sizes.Goals as goal
 use Rattle.abnfblocks.proofs.rfctext.tag.tag_sizes.Goals.{then-left-gt0+then-opens_tag, else-left-gt0}

@@ -8,6 +8,7 @@ returns c =
     let keeps = c.get_flag-3.ensures in
     let numbered = c.get_flag-4.ensures in
     let quiet = c.get_flag-5.ensures in
+    let buffered = c.get_flag-6.ensures in
     record {
       letters = c.letters_of.ensures;
       viable = (viable.none, viable.value, viable.other);
@@ -16,4 +17,5 @@ returns c =
       printed = c.printed_of.ensures;
       numbered = (numbered.none, numbered.value, numbered.other);
       quiet = (quiet.none, quiet.value, quiet.other);
+      line_buffered = (buffered.none, buffered.value, buffered.other);
     }

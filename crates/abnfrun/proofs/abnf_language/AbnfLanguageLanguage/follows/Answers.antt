@@ -11,21 +11,21 @@ returns c = record {
   refused = λ text settings input fault why is other told. refused fault why is other told;
   unexplained = λ text settings input fault is other asked. unexplained fault is other asked;
   within = λ text abnf is. let reads = is.0.1 in reads.size;
-  within_checked = λ text start notes judged is. is.reads.size;
+  within_checked = λ text start notes rules judged is. is.reads.size;
   no_memory = λ text settings input within. no_memory within;
-  noted = λ text settings input notes told is tells other.
+  noted = λ text settings input notes told rules is tells other.
       noted is.definitions notes told is.reads is.are_notes tells is.ready other;
-  checked = λ text settings input notes told sound is tells check.
+  checked = λ text settings input notes told rules judged is tells check.
       checked is.definitions notes told is.reads is.are_notes tells is.ready.0 check;
   run = λ text settings input notes told sound reply is tells run states.
-      let kept = is.ready.1 in let at = is.ready.2 in
+      let kept = is.kept in let at = is.ready.1 in
       judges is.definitions notes told reply is.reads is.are_notes tells is.ready.0 run (rw (kept, at) at states);
   replies = λ text settings input notes sound is.
       some_states (AnswersFor (rules_of sound.rules) sound.judged settings) settings.explain
       (RefusalFor (rules_of sound.rules) sound.judged settings) (form_of settings)
       (c.lines_have_answers.ensures settings.options.letters settings.options.viable (rules_of sound.rules)
       sound.judged) input;
-  cut_notes = λ text settings input notes told sound is cut other.
+  cut_notes = λ text settings input notes told rules judged is cut other.
       cut_notes is.definitions notes told is.reads is.are_notes cut other;
   again = λ text settings input abnf notes told is some tells print.
       again is.definitions notes told is.reads is.are_again tells some print;

@@ -3,5 +3,4 @@ use Rattle.abnfrun.proofs.line_judge.LineJudgeJudgeWork.explain.Goals as goal
 
 pub explain_line-requires-clause-explains : goal.explain_line-requires-clause-explains
 explain_line-requires-clause-explains c =
-    let j = c.args.self.now in
-    rw c.in-Some.is at c.requires.work.1
+    (rw c.in-Some.is at c.requires.work.1).0

@@ -1,18 +1,29 @@
-use Rattle.std.proofs.Common.{ap, subst, sym, map, ◌∙◌}
-use Rattle.std.proofs.lemmas.Result.{IfOk-weaker}
-use Rattle.flatgrammar.specs.NodeSteps.{flat_of}
-use Rattle.flatgrammar.specs.TableViews.{GiveRoots}
-use Rattle.letterclasses.specs.Stacks.{AreUncounted}
-use Rattle.lazydfa.specs.RunVerdicts.{IsOne}
-use Rattle.lazydfa.proofs.IsRunVerdictLemmas.{run_verdict}
+use Rattle.std.proofs.Common.{map, subst, sym}
+use Rattle.std.proofs.lemmas.List.{length-map}
+use Rattle.std.specs.Prelude.{IfSome}
+use Rattle.flatgrammar.specs.FlatVerdicts.{IsFlatVerdict}
+use Rattle.lazydfa.specs.Memos.{IsMemo, IsRunStop}
+use Rattle.lazydfa.proofs.IsRunVerdictLemmas.{verdict_of_run}
 use Rattle.lazydfa.proofs.automaton.Automaton.viable.Goals as goal
+
+pub invariant_of-self-2 : goal.invariant_of-self-2
+invariant_of-self-2 g c = (
+  c.self.invariant.0,
+  c.self.invariant.1,
+  c.self.invariant.2,
+  c.self.invariant.3,
+  subst (λ v. IsMemo c.self.inside.tables.value v c.run.new.memo) c.deref.ensures.value
+      (subst (λ v. IsMemo v c.deref.result.now c.run.new.memo) c.deref-2.ensures c.run.ensures.memo),
+)
 
 pub returns-clause-verdict : goal.returns-clause-verdict
 returns-clause-verdict g c =
-    IfOk-weaker c.run.result _ _ (λ told is. run_verdict c.deref-2.result.now
-    (subst (λ v. GiveRoots (flat_of v) v.roots.items) (sym c.deref-2.ensures) c.self.invariant.0)
-    (subst (λ v. AreUncounted (flat_of v)) (sym c.deref-2.ensures) c.self.invariant.1)
-    (subst (λ v. IsOne (flat_of v)) (sym c.deref-2.ensures) c.self.invariant.2)
-    (map g.L.Letter.number c.args.line.now) c.args.self.now
-    (ap (λ v. flat_of v) c.deref-2.ensures ∙ c.self.view_is) told is)
-    c.run.ensures.told
+    let x = map g.L.Letter.number c.args.line.now in
+    let tables = c.self.inside.tables.value in
+    let memo = subst (λ v. IsMemo v c.deref.result.now c.run.new.memo) c.deref-2.ensures c.run.ensures.memo in
+    let stops = subst (λ v. IfSome v (IsRunStop c.deref-2.result.now c.deref.result.now c.run.new.memo x)) c.in-Some.is
+    c.in_ok-stop.ensures.stops in
+    let stop = subst (λ v. IsRunStop v c.deref.result.now c.run.new.memo x c.in-Some.stop) c.deref-2.ensures stops in
+    subst (λ v. IsFlatVerdict v x c.verdict_at-verdict.result) c.self.view_is
+    (verdict_of_run tables c.self.invariant.0 c.self.invariant.1 c.self.invariant.2 x c.verdict_at-verdict.result
+    (c.verdict_at-verdict.ensures tables x memo (sym (length-map c.args.line.now g.L.Letter.number)) stop))

@@ -18,15 +18,15 @@ returns-in_ok-close-in-Gives-clause-less c = λ more some root s.
     M.less_up c.args.peg.now c.args.window.now (record { spot = c.args.spot; key = c.args.key; wait = First })
     (record { found = c.in-Gives.found; events = 0 }) c.args.given c.args.self.now.frames c.args.self.now.begun
 
-pub returns-in_ok-close-in-Same-clause-stands : goal.returns-in_ok-close-in-Same-clause-stands
-returns-in_ok-close-in-Same-clause-stands c = λ more some root s.
+pub returns-in_ok-close_same-in-Same-clause-stands : goal.returns-in_ok-close_same-in-Same-clause-stands
+returns-in_ok-close_same-in-Same-clause-stands c = λ more some root s.
     L.stands_same c.args.peg.now c.args.window.now more c.args.peg.now.keys root c.args.spot c.args.given
     c.args.self.now.frames c.args.self.now.log.stored c.args.self.now.events c.args.self.now.begun c.args.key s
-    c.close-in-Same.new.log.stored (c.in-Same.ensures more some)
-    (c.in_ok-close-in-Same.ensures.closed more c.args.peg.now.keys c.args.self.now.events)
+    c.close_same.new.log.stored (c.in-Same.ensures more some)
+    (c.in_ok-close_same-in-Same.ensures.closed more c.args.peg.now.keys c.args.self.now.events)
 
-pub returns-in_ok-close-in-Same-clause-less : goal.returns-in_ok-close-in-Same-clause-less
-returns-in_ok-close-in-Same-clause-less c = λ more some root s.
+pub returns-in_ok-close_same-in-Same-clause-less : goal.returns-in_ok-close_same-in-Same-clause-less
+returns-in_ok-close_same-in-Same-clause-less c = λ more some root s.
     M.less_up c.args.peg.now c.args.window.now (record { spot = c.args.spot; key = c.args.key; wait = First })
     c.args.given c.args.given c.args.self.now.frames c.args.self.now.begun
 

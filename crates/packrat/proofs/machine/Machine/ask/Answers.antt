@@ -22,9 +22,25 @@ returns-in-Some-clause-less c = λ le.
     M.less_stored c.args.peg.now c.args.window.now (Pair c.args.node c.args.place) c.in-Some.given
     c.args.self.now.frames c.args.self.now.begun c.requires.well
 
-pub returns-in_ok-start_spot-in-Starts-clause-less : goal.returns-in_ok-start_spot-in-Starts-clause-less
-returns-in_ok-start_spot-in-Starts-clause-less c = λ le.
-    c.in_ok-start_spot-in-Starts.ensures.less c.args.more c.in-Starts.ensures le
+pub returns-in_ok-start_spot-in-Gives-clause-less : goal.returns-in_ok-start_spot-in-Gives-clause-less
+returns-in_ok-start_spot-in-Gives-clause-less c = λ le.
+    c.in_ok-start_spot-in-Gives.ensures.less c.args.more c.in-Starts.ensures le
+
+pub returns-in_ok-start_spot-in-Marks-clause-less : goal.returns-in_ok-start_spot-in-Marks-clause-less
+returns-in_ok-start_spot-in-Marks-clause-less c = λ le.
+    c.in_ok-start_spot-in-Marks.ensures.less c.args.more c.in-Starts.ensures le
+
+pub returns-in_ok-start_spot-in-Leads-clause-less : goal.returns-in_ok-start_spot-in-Leads-clause-less
+returns-in_ok-start_spot-in-Leads-clause-less c = λ le.
+    c.in_ok-start_spot-in-Leads.ensures.less c.args.more c.in-Starts.ensures le
+
+pub returns-in_ok-start_spot-in-Passes-clause-less : goal.returns-in_ok-start_spot-in-Passes-clause-less
+returns-in_ok-start_spot-in-Passes-clause-less c = λ le.
+    c.in_ok-start_spot-in-Passes.ensures.less c.args.more c.in-Starts.ensures le
+
+pub returns-in_ok-start_spot-in-Enters-clause-less : goal.returns-in_ok-start_spot-in-Enters-clause-less
+returns-in_ok-start_spot-in-Enters-clause-less c = λ le.
+    c.in_ok-start_spot-in-Enters.ensures.less c.args.more c.in-Starts.ensures le
 
 pub returns-in-Need-clause-stands : goal.returns-in-Need-clause-stands
 returns-in-Need-clause-stands c = λ root s.

@@ -1,13 +1,13 @@
-use Rattle.std.proofs.Common.{◌<◌, ◌∷◌, Some, refl, sym, subst, ap, arith}
+use Rattle.std.proofs.Common.{◌≡◌, ◌<◌, ◌≤◌, [], Some, refl, sym, subst, ap, arith}
 use Rattle.memo.specs.declared.spot.Spot.TheVariants.{Pair}
 use Rattle.packrat.specs.LoopTurns.{Ask, Answer, turn_of}
-use Rattle.packrat.specs.Stands.{Stands, AreOn, LowersLeft}
+use Rattle.packrat.specs.Stands.{Stands, AreOn, LowersLeft, IsUnawaited}
 use Rattle.packrat.specs.TurnsLeft.{left}
 use Rattle.packrat.proofs.StandsLemmas as L
 use Rattle.packrat.proofs.machine.Machine.evaluate.Goals as goal
 
-pub turns-init : goal.turns-init
-turns-init c =
+pub asks-init : goal.asks-init
+asks-init c =
     let body = c.requires.sound.spelled.spelled c.args.peg.now.start c.args.root c.requires.root in
     record {
       rows = c.requires.rows;
@@ -20,95 +20,106 @@ turns-init c =
 
 pub ask-requires-clause-few : goal.ask-requires-clause-few
 ask-requires-clause-few c =
-    L.stands_few c.args.peg.now c.args.window.now c.args.more c.args.peg.now.keys c.args.root (turn_of c.turns.turn)
-    c.turns.self.frames c.turns.self.log.stored c.turns.self.events c.turns.self.begun c.requires.sound c.requires.root
-    c.requires.keys c.turns.invariant.stands
-
-pub turns-smaller-in-Some : goal.turns-smaller-in-Some
-turns-smaller-in-Some c =
-    let stands = L.stands_as c.args.peg.now c.args.window.now c.args.more c.args.peg.now.keys (ap turn_of c.in-Ask.is)
-    refl refl refl
-    refl c.turns.invariant.stands in
-    let on : AreOn c.args.peg.now c.args.window.now c.args.more c.args.peg.now.keys (Pair c.args.root 0)
-    (Some c.in-Some.next) c.ask.new.self.frames c.ask.new.self.log.stored c.ask.new.self.events c.ask.new.self.begun =
-    subst (λ v. AreOn c.args.peg.now c.args.window.now c.args.more c.args.peg.now.keys (Pair c.args.root 0) v
-    c.ask.new.self.frames c.ask.new.self.log.stored c.ask.new.self.events c.ask.new.self.begun) c.in-Some.is
-    (c.in_ok-next-in-Ask.ensures.stands (Pair c.args.root 0) stands) in
-    let few = L.stands_few c.args.peg.now c.args.window.now c.args.more c.args.peg.now.keys c.args.root (turn_of
-    c.in-Some.next)
-    c.ask.new.self.frames c.ask.new.self.log.stored c.ask.new.self.events c.ask.new.self.begun c.requires.sound
-    c.requires.root c.requires.keys on in
-    let less : LowersLeft c.args.peg.now c.args.window.now (Some c.in-Some.next) c.ask.new.self.frames
-    c.ask.new.self.begun (left c.args.peg.now c.args.window.now (Ask (Pair c.in-Ask.node c.in-Ask.place))
-    c.turns.self.frames
-    c.turns.self.begun) =
-    subst (λ v. LowersLeft c.args.peg.now c.args.window.now v c.ask.new.self.frames c.ask.new.self.begun
-    (left c.args.peg.now c.args.window.now (Ask (Pair c.in-Ask.node c.in-Ask.place)) c.turns.self.frames
-    c.turns.self.begun))
-    c.in-Some.is (c.in_ok-next-in-Ask.ensures.less few) in
-    subst (λ v. left c.args.peg.now c.args.window.now (turn_of c.in-Some.next) c.ask.new.self.frames
-    c.ask.new.self.begun
-    < left c.args.peg.now c.args.window.now v c.turns.self.frames c.turns.self.begun) (sym (ap turn_of c.in-Ask.is))
-    less
+    L.stands_few c.args.peg.now c.args.window.now c.args.more c.args.peg.now.keys c.args.root (Ask (Pair c.asks.node
+    c.asks.place))
+    c.asks.self.frames c.asks.self.log.stored c.asks.self.events c.asks.self.begun c.requires.sound c.requires.root
+    c.requires.keys c.asks.invariant.stands
 
 pub returns-in-None : goal.returns-in-None
-returns-in-None c =
-    let stands = L.stands_as c.args.peg.now c.args.window.now c.args.more c.args.peg.now.keys (ap turn_of c.in-Ask.is)
-    refl refl refl
-    refl c.turns.invariant.stands in (
-      subst (λ v. AreOn c.args.peg.now c.args.window.now c.args.more c.args.peg.now.keys (Pair c.args.root 0) v
-          c.ask.new.self.frames c.ask.new.self.log.stored c.ask.new.self.events c.ask.new.self.begun) c.in-None.is
-          (c.in_ok-next-in-Ask.ensures.stands (Pair c.args.root 0) stands),
-      c.clear-in-None.ensures,
+returns-in-None c = (
+  subst (λ v. AreOn c.args.peg.now c.args.window.now c.args.more c.args.peg.now.keys (Pair c.args.root 0) v
+      c.ask.new.self.frames c.ask.new.self.log.stored c.ask.new.self.events c.ask.new.self.begun) c.in-None.is
+      (c.in_ok-ask.ensures.stands (Pair c.args.root 0) c.asks.invariant.stands),
+  c.clear-in-None.ensures,
+)
+
+pub asks-smaller-in-Ask : goal.asks-smaller-in-Ask
+asks-smaller-in-Ask c =
+    let on : AreOn c.args.peg.now c.args.window.now c.args.more c.args.peg.now.keys (Pair c.args.root 0) (Some
+    c.in-Some.next) c.ask.new.self.frames c.ask.new.self.log.stored c.ask.new.self.events c.ask.new.self.begun =
+    subst (λ v. AreOn c.args.peg.now c.args.window.now c.args.more c.args.peg.now.keys (Pair c.args.root 0) v
+    c.ask.new.self.frames c.ask.new.self.log.stored c.ask.new.self.events c.ask.new.self.begun) c.in-Some.is
+    (c.in_ok-ask.ensures.stands (Pair c.args.root 0) c.asks.invariant.stands) in
+    let few = L.stands_few c.args.peg.now c.args.window.now c.args.more c.args.peg.now.keys c.args.root (turn_of
+    c.in-Some.next) c.ask.new.self.frames c.ask.new.self.log.stored c.ask.new.self.events c.ask.new.self.begun
+    c.requires.sound c.requires.root c.requires.keys on in
+    let lowers : LowersLeft c.args.peg.now c.args.window.now (Some c.in-Some.next) c.ask.new.self.frames
+    c.ask.new.self.begun
+    (left c.args.peg.now c.args.window.now (Ask (Pair c.asks.node c.asks.place)) c.asks.self.frames c.asks.self.begun) =
+    subst (λ v. LowersLeft c.args.peg.now c.args.window.now v c.ask.new.self.frames c.ask.new.self.begun
+    (left c.args.peg.now c.args.window.now (Ask (Pair c.asks.node c.asks.place)) c.asks.self.frames
+    c.asks.self.begun)) c.in-Some.is
+    (c.in_ok-ask.ensures.less few) in
+    subst (λ v. left c.args.peg.now c.args.window.now v c.ask.new.self.frames c.ask.new.self.begun
+    < left c.args.peg.now c.args.window.now (Ask (Pair c.asks.node c.asks.place)) c.asks.self.frames
+    c.asks.self.begun) (ap turn_of c.in-Ask.is)
+    lowers
+
+pub settle-requires-clause-stands : goal.settle-requires-clause-stands
+settle-requires-clause-stands c =
+    let on : AreOn c.args.peg.now c.args.window.now c.args.more c.args.peg.now.keys (Pair c.args.root 0) (Some
+    c.in-Some.next) c.ask.new.self.frames c.ask.new.self.log.stored c.ask.new.self.events c.ask.new.self.begun =
+    subst (λ v. AreOn c.args.peg.now c.args.window.now c.args.more c.args.peg.now.keys (Pair c.args.root 0) v
+    c.ask.new.self.frames c.ask.new.self.log.stored c.ask.new.self.events c.ask.new.self.begun) c.in-Some.is
+    (c.in_ok-ask.ensures.stands (Pair c.args.root 0) c.asks.invariant.stands) in (
+      c.args.more,
+      Pair c.args.root 0,
+      c.requires.some,
+      L.stands_as c.args.peg.now c.args.window.now c.args.more c.args.peg.now.keys (ap turn_of c.in-Answer.is) refl
+          refl refl refl on,
     )
 
-pub returns-in-None-pop : goal.returns-in-None-pop
-returns-in-None-pop c =
+pub asks-smaller : goal.asks-smaller
+asks-smaller c =
+    let on : AreOn c.args.peg.now c.args.window.now c.args.more c.args.peg.now.keys (Pair c.args.root 0) (Some
+    c.in-Some.next) c.ask.new.self.frames c.ask.new.self.log.stored c.ask.new.self.events c.ask.new.self.begun =
+    subst (λ v. AreOn c.args.peg.now c.args.window.now c.args.more c.args.peg.now.keys (Pair c.args.root 0) v
+    c.ask.new.self.frames c.ask.new.self.log.stored c.ask.new.self.events c.ask.new.self.begun) c.in-Some.is
+    (c.in_ok-ask.ensures.stands (Pair c.args.root 0) c.asks.invariant.stands) in
+    let few = L.stands_few c.args.peg.now c.args.window.now c.args.more c.args.peg.now.keys c.args.root (turn_of
+    c.in-Some.next) c.ask.new.self.frames c.ask.new.self.log.stored c.ask.new.self.events c.ask.new.self.begun
+    c.requires.sound c.requires.root c.requires.keys on in
+    let lowers : LowersLeft c.args.peg.now c.args.window.now (Some c.in-Some.next) c.ask.new.self.frames
+    c.ask.new.self.begun
+    (left c.args.peg.now c.args.window.now (Ask (Pair c.asks.node c.asks.place)) c.asks.self.frames c.asks.self.begun) =
+    subst (λ v. LowersLeft c.args.peg.now c.args.window.now v c.ask.new.self.frames c.ask.new.self.begun
+    (left c.args.peg.now c.args.window.now (Ask (Pair c.asks.node c.asks.place)) c.asks.self.frames
+    c.asks.self.begun)) c.in-Some.is
+    (c.in_ok-ask.ensures.less few) in
+    let own : left c.args.peg.now c.args.window.now (Answer c.in-Answer.given) c.ask.new.self.frames
+    c.ask.new.self.begun
+    < left c.args.peg.now c.args.window.now (Ask (Pair c.asks.node c.asks.place)) c.asks.self.frames c.asks.self.begun =
+    subst (λ v. left c.args.peg.now c.args.window.now v c.ask.new.self.frames c.ask.new.self.begun
+    < left c.args.peg.now c.args.window.now (Ask (Pair c.asks.node c.asks.place)) c.asks.self.frames c.asks.self.begun)
+    (ap turn_of c.in-Answer.is) lowers in
+    let after : left c.args.peg.now c.args.window.now (Ask (Pair c.in-Ask-2.child c.in-Ask-2.there))
+    c.settle.new.self.frames
+    c.settle.new.self.begun
+    ≤ left c.args.peg.now c.args.window.now (Answer c.in-Answer.given) c.ask.new.self.frames c.ask.new.self.begun =
+    subst (λ v. left c.args.peg.now c.args.window.now v c.settle.new.self.frames c.settle.new.self.begun
+    ≤ left c.args.peg.now c.args.window.now (Answer c.in-Answer.given) c.ask.new.self.frames c.ask.new.self.begun)
+    (ap turn_of c.in-Ask-2.is) c.in_ok-child-in-Answer.ensures.less in
+    omega arith
+
+pub returns-in-Answer-2 : goal.returns-in-Answer-2
+returns-in-Answer-2 c =
+    let on : AreOn c.args.peg.now c.args.window.now c.args.more c.args.peg.now.keys (Pair c.args.root 0) (Some
+    c.in-Some.next) c.ask.new.self.frames c.ask.new.self.log.stored c.ask.new.self.events c.ask.new.self.begun =
+    subst (λ v. AreOn c.args.peg.now c.args.window.now c.args.more c.args.peg.now.keys (Pair c.args.root 0) v
+    c.ask.new.self.frames c.ask.new.self.log.stored c.ask.new.self.events c.ask.new.self.begun) c.in-Some.is
+    (c.in_ok-ask.ensures.stands (Pair c.args.root 0) c.asks.invariant.stands) in
+    let empty : c.settle.new.self.frames ≡ [] =
+    subst (λ v. IsUnawaited v c.settle.new.self.frames) c.in-Answer-2.is c.in_ok-child-in-Answer.ensures.last in
     let stands = L.stands_as c.args.peg.now c.args.window.now c.args.more c.args.peg.now.keys (ap turn_of
-    c.in-Answer.is)
-    c.in-None-pop.ensures.none refl refl refl c.turns.invariant.stands in
+    c.in-Answer-2.is) empty refl refl refl
+    (c.in_ok-child-in-Answer.ensures.stands c.args.more c.requires.some (Pair c.args.root 0)
+    (L.stands_as c.args.peg.now c.args.window.now c.args.more c.args.peg.now.keys (ap turn_of c.in-Answer.is) refl
+    refl refl refl on)) in
     record {
-      keys = c.turns.invariant.stands.given;
+      keys = stands.given;
       gives = L.end_gives c.args.peg.now c.args.window.now c.args.more c.args.peg.now.keys (Pair c.args.root 0)
-          c.in-Answer.given c.turns.self.log.stored c.turns.self.events c.turns.self.begun stands;
+          c.in-Answer-2.last c.settle.new.self.log.stored c.settle.new.self.events c.settle.new.self.begun stands;
       runs = L.end_runs c.args.peg.now c.args.window.now c.args.more c.args.peg.now.keys (Pair c.args.root 0)
-          c.in-Answer.given c.turns.self.log.stored c.turns.self.events c.turns.self.begun stands;
-      empty = c.in-None-pop.ensures.empty;
+          c.in-Answer-2.last c.settle.new.self.log.stored c.settle.new.self.events c.settle.new.self.begun stands;
+      empty = empty;
     }
-
-pub turns-smaller : goal.turns-smaller
-turns-smaller c =
-    let stands = L.stands_as c.args.peg.now c.args.window.now c.args.more c.args.peg.now.keys (ap turn_of
-    c.in-Answer.is)
-    c.in-Some-pop.ensures.some refl refl refl c.turns.invariant.stands in
-    subst (λ v. left c.args.peg.now c.args.window.now (turn_of c.in_ok-turn-in-Some-pop.turn) c.resume.new.self.frames
-    c.resume.new.self.begun < left c.args.peg.now c.args.window.now v c.turns.self.frames c.turns.self.begun)
-    (sym (ap turn_of c.in-Answer.is))
-    (subst (λ v. left c.args.peg.now c.args.window.now (turn_of c.in_ok-turn-in-Some-pop.turn) c.resume.new.self.frames
-    c.resume.new.self.begun < left c.args.peg.now c.args.window.now (Answer c.in-Answer.given) v
-    c.turns.self.begun) (sym c.in-Some-pop.ensures.some)
-    (c.in_ok-turn-in-Some-pop.ensures.less c.args.more c.requires.some (Pair c.args.root 0) stands))
-
-pub resume-requires-clause-well : goal.resume-requires-clause-well
-resume-requires-clause-well c =
-    L.level_well c.args.peg.now c.args.window.now c.args.more c.args.peg.now.keys (Pair c.args.root 0)
-    c.in-Some-pop.frame c.in-Answer.given c.pop.new.self
-    c.turns.self.log.stored c.turns.self.events c.turns.self.begun
-    (L.stands_as c.args.peg.now c.args.window.now c.args.more c.args.peg.now.keys (ap turn_of c.in-Answer.is)
-    c.in-Some-pop.ensures.some refl refl refl c.turns.invariant.stands)
-
-pub resume-requires-clause-first : goal.resume-requires-clause-first
-resume-requires-clause-first c =
-    L.level_head c.args.peg.now c.args.window.now c.args.more c.args.peg.now.keys (Pair c.args.root 0)
-    c.in-Some-pop.frame c.in-Answer.given c.pop.new.self
-    c.turns.self.log.stored c.turns.self.events c.turns.self.begun
-    (L.stands_as c.args.peg.now c.args.window.now c.args.more c.args.peg.now.keys (ap turn_of c.in-Answer.is)
-    c.in-Some-pop.ensures.some refl refl refl c.turns.invariant.stands)
-
-pub resume-requires-clause-second : goal.resume-requires-clause-second
-resume-requires-clause-second c =
-    L.given_head c.args.peg.now c.args.window.now c.args.more c.args.peg.now.keys (Pair c.args.root 0) c.in-Answer.given
-    (c.in-Some-pop.frame ∷ c.pop.new.self)
-    c.turns.self.log.stored c.turns.self.events c.turns.self.begun
-    (L.stands_as c.args.peg.now c.args.window.now c.args.more c.args.peg.now.keys (ap turn_of c.in-Answer.is)
-    c.in-Some-pop.ensures.some refl refl refl c.turns.invariant.stands)

@@ -4,7 +4,6 @@ use Rattle.packrat.specs.Stands.{Stands}
 use Rattle.packrat.specs.TurnsLeft.{left}
 use Rattle.packrat.proofs.StandsLemmas as L
 use Rattle.packrat.proofs.LeftLemmas as M
-use Rattle.memo.specs.KeyLog.{run_of, place_of}
 use Rattle.packrat.proofs.TurnedLemmas.{stands_back}
 use Rattle.packrat.proofs.machine.Machine.resume.Goals as goal
 
@@ -35,21 +34,18 @@ returns-in_ok-close-in-Last-clause-less c = λ more some root s.
     M.less_up c.args.peg.now c.args.window.now c.args.frame c.in_ok-all-in-Last.all c.args.given
     c.args.self.now.frames c.args.self.now.begun
 
-pub returns-in_ok-put_run-in-Turned-clause-stands : goal.returns-in_ok-put_run-in-Turned-clause-stands
-returns-in_ok-put_run-in-Turned-clause-stands c = λ more some root s.
+pub returns-in_ok-put_turned-in-Turned-clause-stands : goal.returns-in_ok-put_turned-in-Turned-clause-stands
+returns-in_ok-put_turned-in-Turned-clause-stands c = λ more some root s.
     stands_back c.args.peg.now c.args.window.now more c.args.peg.now.keys c.requires.sound c.requires.keyed.1.0
     c.requires.keyed.1.1 c.requires.keyed.0 root c.args.frame.spot c.args.given c.args.self.now.frames
-    c.args.self.now.log.stored c.put_run.new.self.stored c.args.self.now.events c.args.self.now.begun c.in-Turned.last
+    c.args.self.now.log.stored c.put_turned.new.log.stored c.args.self.now.events c.args.self.now.begun c.in-Turned.last
     c.args.frame.key
     (subst (λ v. Stands c.args.peg.now c.args.window.now more c.args.peg.now.keys root (Answer c.args.given)
     (record { spot = c.args.frame.spot; key = c.args.frame.key; wait = v } ∷ c.args.self.now.frames)
     c.args.self.now.log.stored c.args.self.now.events c.args.self.now.begun) c.in-Turned.is s)
-    (subst (λ v. c.put_run.new.self.stored ≡ run_of v (place_of c.args.frame.spot) c.in-Turned.last c.args.given
-    ++ c.args.self.now.log.stored) c.row.ensures
-    (subst (λ v. c.put_run.new.self.stored ≡ run_of c.row.result v c.in-Turned.last c.args.given
-    ++ c.args.self.now.log.stored) c.place.ensures c.in_ok-put_run-in-Turned.ensures.stored))
+    c.in_ok-put_turned-in-Turned.ensures.stored
 
-pub returns-in_ok-put_run-in-Turned-clause-less : goal.returns-in_ok-put_run-in-Turned-clause-less
-returns-in_ok-put_run-in-Turned-clause-less c = λ more some root s.
+pub returns-in_ok-put_turned-in-Turned-clause-less : goal.returns-in_ok-put_turned-in-Turned-clause-less
+returns-in_ok-put_turned-in-Turned-clause-less c = λ more some root s.
     M.less_up c.args.peg.now c.args.window.now c.args.frame c.args.given c.args.given
     c.args.self.now.frames c.args.self.now.begun

@@ -1,4 +1,5 @@
-use Rattle.std.proofs.Common.{◌≡◌, slice_get, Some, subst, ap}
+use Rattle.std.proofs.Common.{◌≡◌, ◌+◌, ◌*◌, ◌≤◌, length, slice_get, Some, subst, ap, arith}
+use Rattle.std.proofs.lemmas.Nat.{mul-le}
 use Rattle.packrat.specs.EventLog.{kept_at}
 use Rattle.packrat.proofs.DoneLemmas.{outcome_of_match, answer_of_match, match_bounded}
 use Rattle.packrat.proofs.packrat.PackratMatcher.match_unit.Goals as goal
@@ -52,3 +53,11 @@ returns-in-Ok-clause-bounded c =
       matches = c.saturating_add-self-inside.result;
     }) c.in-Ok.given c.evaluate-matched.new.self.events
     (ap (kept_at c.evaluate-matched.new.self.events) c.head_given-self-inside.ensures) matched c.requires.some
+
+pub evaluate-matched-requires-clause-fits : goal.evaluate-matched-requires-clause-fits
+evaluate-matched-requires-clause-fits c =
+    let nodes : length c.args.peg.now.nodes ≤ 4294967294 = omega arith in
+    let bytes : length c.args.window.now + 1 ≤ 4294967295 = omega arith in
+    let most : length c.args.peg.now.nodes * (length c.args.window.now + 1) ≤ 4294967294 * 4294967295 =
+    mul-le (length c.args.peg.now.nodes) (length c.args.window.now + 1) 4294967294 4294967295 nodes bytes in
+    omega (arith, most)

@@ -13,11 +13,11 @@ returns c = record {
   refused = λ text settings input fault why is other told. refused fault why is other told;
   unexplained = λ text settings input fault is other asked. unexplained fault is other asked;
   within = λ text peg is. let reads = is.1 in reads.within;
-  within_checked = λ text start notes judged is. is.reads.within;
+  within_checked = λ text start notes rules judged is. is.reads.within;
   no_memory = λ text settings input within. no_memory within;
-  noted = λ text settings input notes told is tells other.
+  noted = λ text settings input notes told rules is tells other.
       noted is.definitions notes told is.reads is.are_notes tells is.accepted other;
-  checked = λ text settings input notes told judged is tells check.
+  checked = λ text settings input notes told rules judged is tells check.
       checked is.definitions notes told is.reads is.are_notes tells is.accepted.0 check;
   run = λ text settings input notes told sound reply is tells run states.
       let kept = is.rules in
@@ -27,7 +27,7 @@ returns c = record {
       let goes = units_go_on sound settings input is.sound_grammar 0 [] none in
       let told = some_told (rules_of sound.rules) sound.start settings input goes.reply goes.replies in
       (told.0, told.1);
-  cut_notes = λ text settings input notes told sound is cut other.
+  cut_notes = λ text settings input notes told rules judged is cut other.
       cut_notes is.definitions notes told is.reads is.are_notes cut other;
   again = λ text settings input peg notes told is some tells print.
       again is.definitions notes told is.reads is.are_again tells some print;

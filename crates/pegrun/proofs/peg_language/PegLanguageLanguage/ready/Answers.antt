@@ -3,4 +3,5 @@ use Rattle.pegrun.proofs.OpenPegLemmas.{is_ready}
 use Rattle.pegrun.proofs.peg_language.PegLanguageLanguage.ready.Goals as goal
 
 pub returns : goal.returns
-returns c = is_ready c.args.judged c.ready.result c.ready.ensures.rules c.ready.ensures.start c.ready.ensures.sound
+returns c = is_ready c.args.rules c.args.judged c.ready.result c.ready.ensures.rules c.ready.ensures.start
+    c.ready.ensures.sound

@@ -1,0 +1,86 @@
+-- What is written of a report, and what the words ask for.
+-- Serves: abnfd_main (right)
+use Rattle.std.proofs.Common.{◌≡◌, ◌∙◌, ap, subst, refl, inl, inr, ℕ, Bool, List, [], Option, arith, true}
+use Rattle.std.specs.Prelude.{Result, Ok, Err, codes}
+use Rattle.std.specs.Io.KnownBytes.{Appends}
+use Rattle.abnfd.specs.CompareAnswers.{CompareAnswers, FilesCompared, answer_reply}
+use Rattle.abnfd.specs.CompareWords.{new_rule_asked, new_rule_found, old_rule_asked, symbols_asked, symbols_named}
+use Rattle.clap.specs.Words.{HasKind, Kinds, Text, first_of, first_value, kind_of, rows_of}
+use Rattle.clap.specs.declared.error.Error.{Error}
+use Rattle.clap.specs.declared.error.kind.ErrorKind.TheVariants.{OutOfMemory}
+use Rattle.clap.specs.declared.parser.matches.Found.{Found}
+use Rattle.cli.proofs.AskLemmas.{first_found}
+use Rattle.letters.specs.declared.alphabet.Alphabet.{Alphabet}
+use Rattle.ruletable.specs.Writing.{AppendsPart}
+use Rattle.ruletable.specs.declared.sink.WriteFault.{WriteFault}
+use Rattle.toolrun.specs.Input.{Input}
+use Rattle.toolrun.specs.Reply.{Reply}
+use Rattle.toolrun.specs.Stopped.{Performs}
+use Rattle.toolrun.specs.Stream.{no_input}
+use Rattle.toolrun.specs.declared.status.Status.{Status}
+use Rattle.toolrun.specs.declared.stop.Stop.{Stop}
+use Rattle.toolrun.specs.declared.stop.Stop.TheVariants.{Quiet}
+
+module _ (text : List ℕ) (status : Status) (s0 s1 : Option (List ℕ)) (was failed : Bool) where
+  abbrev Writes : Result Stop WriteFault → Type 0
+  Writes r = Performs (λ input reply. reply ≡ answer_reply text status) no_input
+      (record { old = s0; new = s1; was = was; failed = failed }) r
+
+  pub answer_written : Appends s0 s1 text → failed ≡ was → Writes (Ok (Quiet status))
+  answer_written more flag = record {
+    stopped = (
+      [],
+      text,
+      refl,
+      more,
+      record {
+        stated = answer_reply text status;
+        states = refl;
+        written = (refl, refl, refl);
+        within = omega arith;
+        exact = λ other. refl;
+      },
+    );
+    flag = flag;
+  }
+
+  pub answer_cut : (fault : WriteFault) → AppendsPart s0 s1 text → failed ≡ true → Writes (Err fault)
+  answer_cut fault part flag = record {
+    stopped = (
+      [],
+      part.0,
+      refl,
+      part.2,
+      record {
+        stated = answer_reply text status;
+        states = refl;
+        written = part.1;
+        within = omega arith;
+        exact = tt;
+      },
+    );
+    flag = flag;
+  }
+
+-- what the getters read is what the rows ask for
+pub asked_compared : (f : Found) (alphabet : Alphabet) (old_rule new_rule : Option Text)
+    → alphabet ≡ symbols_named (first_value f (codes "letters")) → old_rule ≡ first_value f (codes "rule")
+    → new_rule ≡ new_rule_found (first_value f (codes "new-rule")) (first_value f (codes "rule"))
+    → (input : Input) (notes : List ℕ) (reply : Reply)
+    → FilesCompared alphabet old_rule new_rule input notes reply → CompareAnswers (rows_of f) input notes reply
+asked_compared f alphabet old_rule new_rule letters old new input notes reply is =
+    let rows = rows_of f in
+    let first = first_found f rows refl in
+    let e1 : alphabet ≡ symbols_asked rows = letters ∙ ap symbols_named (first (codes "letters")) in
+    let e2 : old_rule ≡ old_rule_asked rows = old ∙ first (codes "rule") in
+    let e3 : new_rule ≡ new_rule_asked rows = new
+    ∙ (ap (λ (o : Option Text). new_rule_found o (first_value f (codes "rule"))) (first (codes "new-rule"))
+    ∙ ap (new_rule_found (first_of (codes "new-rule") rows)) (first (codes "rule"))) in
+    subst (λ (a : Alphabet). FilesCompared a (old_rule_asked rows) (new_rule_asked rows) input notes reply) e1
+    (subst (λ (o : Option Text). FilesCompared alphabet o (new_rule_asked rows) input notes reply) e2
+    (subst (λ (o : Option Text). FilesCompared alphabet old_rule o input notes reply) e3 is))
+
+-- where nothing is wrong with the words, an allocation failed
+pub lacks_room : (kinds : Kinds) (error : Error) → kinds ≡ [] → HasKind kinds error → kind_of error ≡ OutOfMemory
+lacks_room kinds error none (inl memory) = memory
+lacks_room kinds error none (inr among) = absurd (rw none at among)

@@ -1,0 +1,3 @@
+mod OpenedSideLemmas
+pub mod CompareAnswersLemmas
+pub mod CompareWordsLemmas

@@ -1,0 +1,52 @@
+-- What the program states where nothing is wrong with its words.
+use Rattle.std.specs.Prelude.{◌≡◌, ℕ, List, [], ◌++◌, Option, codes}
+use Rattle.abnfd.specs.CompareWords.{new_rule_asked, old_rule_asked, symbols_asked}
+use Rattle.abnfd.specs.ComparedTexts.{AreCompared}
+use Rattle.abnfd.specs.declared.files.Unread.{Unread}
+use Rattle.abnfd.specs.declared.files.Unread.TheVariants.{New, NoMemory, Old}
+use Rattle.clap.specs.Words.{Row}
+use Rattle.letters.specs.declared.alphabet.Alphabet.{Alphabet}
+use Rattle.toolrun.specs.Input.{Input}
+use Rattle.toolrun.specs.Plan.{stopped}
+use Rattle.toolrun.specs.Reply.{Reply}
+use Rattle.toolrun.specs.Status.{code_of}
+use Rattle.toolrun.specs.Stop.{message_of}
+use Rattle.toolrun.specs.declared.status.Status.{Status}
+use Rattle.toolrun.specs.declared.status.Status.TheVariants.{Fault}
+use Rattle.toolrun.specs.declared.stop.Stop.{Stop}
+use Rattle.toolrun.specs.declared.stop.Stop.TheVariants as stop
+
+-- this text alone is written on the output, with that status
+abbrev pub answer_reply : List ℕ → Status → Reply
+answer_reply text status = record { out = text; err = []; status = code_of status; taken = 0 }
+
+-- the messages come first, and then the answer
+abbrev pub IsWholeReport : List ℕ → List ℕ → Status → Input → List ℕ → Reply → Type 0
+IsWholeReport told text status input notes reply = (notes ≡ told) × (reply ≡ answer_reply text status)
+
+-- the report where the text of a grammar is not had
+abbrev pub missing_text : Unread → List ℕ
+missing_text Old = codes "old: " ++ message_of stop.Unreadable
+missing_text New = codes "new: " ++ message_of stop.Unreadable
+missing_text NoMemory = []
+
+-- how the program stops then
+abbrev pub missing_stop : Unread → Stop
+missing_stop Old = stop.Quiet Fault
+missing_stop New = stop.Quiet Fault
+missing_stop NoMemory = stop.NoMemory
+
+-- What is stated for the files of two grammars: the report on their texts. No clause can say which text a file holds.
+-- Or one cannot be read, or an allocation failed.
+pub data FilesCompared (alphabet : Alphabet) (old_rule new_rule : Option (List ℕ)) (input : Input)
+    : List ℕ → Reply → Type 0 where
+  compares : {old new told text : List ℕ} {status : Status}
+      → AreCompared alphabet old_rule new_rule old new told text status
+      → FilesCompared alphabet old_rule new_rule input told (answer_reply text status)
+  unread : (why : Unread) → FilesCompared alphabet old_rule new_rule input (missing_text why)
+      (stopped (missing_stop why))
+  no_memory : FilesCompared alphabet old_rule new_rule input [] (stopped stop.NoMemory)
+
+-- what is stated for the matches of the words
+abbrev pub CompareAnswers : List Row → Input → List ℕ → Reply → Type 0
+CompareAnswers rows = FilesCompared (symbols_asked rows) (old_rule_asked rows) (new_rule_asked rows)

@@ -1,0 +1,46 @@
+-- What is reported of the texts of two grammars.
+use Rattle.std.specs.Prelude.{◌≡◌, ℕ, List, [], ◌++◌, Option, Some, None, codes}
+use Rattle.abnfcheck.specs.AbnfGrammar.{Grammar}
+use Rattle.abnfd.specs.ComparedSides.{IsSideOf}
+use Rattle.abnfd.specs.ComparisonText.{comparison_text, verdict_between, verdict_status}
+use Rattle.abnfread.specs.AbnfViews.{rules_of}
+use Rattle.letters.specs.Letters.{has}
+use Rattle.letters.specs.declared.alphabet.Alphabet.{Alphabet}
+use Rattle.rulepairs.specs.Alone.{IsKnownOf}
+use Rattle.rulepairs.specs.FirstLines.{IsOfOldAlone}
+use Rattle.rulepairs.specs.declared.comparison.Comparison.{Comparison}
+use Rattle.toolrun.specs.declared.status.Status.{Status}
+use Rattle.toolrun.specs.declared.status.Status.TheVariants.{Refused}
+
+-- what is found is known of the lines that the compared rule of each grammar alone derives
+pub record IsComparison (alphabet : Alphabet) (old new : Grammar) (found : Comparison) : Type 0 where
+  pub old_alone : IsKnownOf (IsOfOldAlone (has alphabet) (rules_of old.rules) old.judged (rules_of new.rules)
+      new.judged) found.old_alone
+  pub new_alone : IsKnownOf (IsOfOldAlone (has alphabet) (rules_of new.rules) new.judged (rules_of old.rules)
+      old.judged) found.new_alone
+
+-- What is written on the output for two grammars, and the status: what is found of both, or nothing where one of them
+-- is rejected.
+pub data IsVerdictOn (alphabet : Alphabet) : Option Grammar → Option Grammar → List ℕ → Status → Type 0 where
+  has_found : {old new : Grammar} (found : Comparison) → IsComparison alphabet old new found
+      → IsVerdictOn alphabet (Some old) (Some new) (comparison_text alphabet found)
+      (verdict_status (verdict_between found.old_alone found.new_alone))
+  lacks_old : (new : Option Grammar) → IsVerdictOn alphabet None new [] Refused
+  lacks_new : (old : Option Grammar) → IsVerdictOn alphabet old None [] Refused
+
+-- the report on an old grammar and the text of a new one: the messages on both, and the answer
+pub record IsReportOn (alphabet : Alphabet) (new_rule : Option (List ℕ)) (old_told : List ℕ)
+    (old_grammar : Option Grammar) (new told text : List ℕ) (status : Status) : Type 0 where
+  pub new_told : List ℕ
+  pub new_grammar : Option Grammar
+  pub is_new : IsSideOf (codes "new: ") new new_rule new_told new_grammar
+  pub all : told ≡ old_told ++ new_told
+  pub answer : IsVerdictOn alphabet old_grammar new_grammar text status
+
+-- the report on the texts of two grammars
+pub record AreCompared (alphabet : Alphabet) (old_rule new_rule : Option (List ℕ)) (old new told text : List ℕ)
+    (status : Status) : Type 0 where
+  pub old_told : List ℕ
+  pub old_grammar : Option Grammar
+  pub is_old : IsSideOf (codes "old: ") old old_rule old_told old_grammar
+  pub rest : IsReportOn alphabet new_rule old_told old_grammar new told text status

@@ -1,0 +1,6 @@
+pub mod CompareAnswers
+pub mod CompareWords
+pub mod ComparedSides
+pub mod ComparedTexts
+pub mod ComparisonText
+pub mod QuotedLines

@@ -1,0 +1,144 @@
+//! The comparison of two grammars' texts, and the report on it.
+ghost use Rattle.std.specs.Prelude.{◌≡◌, ◌++◌, [], IfOk, Some, option_copied};
+ghost use Rattle.abnfd.specs.ComparedTexts.{AreCompared, IsVerdictOn, IsReportOn};
+
+use crate::answer::{comparison_status, comparison_text};
+use crate::side::{Side, open_side};
+use abnfcheck::SoundAbnf;
+use letters::Alphabet;
+use rulepairs::compare;
+use ruletable::Memory;
+use std::alloc::Global;
+use toolrun::Status;
+
+/// How grammars are compared.
+#[derive(Clone, Copy)]
+pub(crate) struct Settings<'a> {
+    /// The compared rule of the old grammar; its first rule if there is no name.
+    pub(crate) old_rule: Option<&'a str>,
+    /// The compared rule of the new grammar; its first rule if there is no name.
+    pub(crate) new_rule: Option<&'a str>,
+    /// The alphabet of lines.
+    pub(crate) letters: Alphabet,
+    /// How many pairs of states a search goes over, and how many entries the states of a grammar have.
+    pub(crate) budget: usize,
+}
+
+/// The answer to a comparison: what is written on the output, and the status.
+#[derive(Drop)]
+pub(crate) struct Answer {
+    /// The text.
+    pub(crate) text: Vec<u8>,
+    /// The status.
+    pub(crate) status: Status,
+}
+
+/// The report on a comparison.
+#[derive(Drop)]
+pub(crate) struct Report {
+    /// The messages on both grammars.
+    pub(crate) told: Vec<u8>,
+    /// The answer.
+    pub(crate) answer: Answer,
+}
+
+// Compares two grammars. `Memory` if an allocation fails.
+fn compared(
+    alloc: Global,
+    settings: &Settings<'_>,
+    old: &SoundAbnf,
+    new: &SoundAbnf,
+) -> Result<Answer, Memory>
+    ensures { IfOk result (λ a. IsVerdictOn settings.now.letters (Some old.now) (Some new.now) a.text.items a.status) }
+{
+    let found = compare(alloc, settings.letters, old, new, settings.budget)?;
+    let text = comparison_text(alloc, settings.letters, &found)?;
+    Ok(Answer {
+        text,
+        status: comparison_status(&found),
+    })
+}
+
+// Answers where a grammar is rejected: nothing is written.
+fn rejected(alloc: Global) -> Answer
+    ensures text { result.text.items ≡ [] }
+    ensures status { result.status ≡ Status.Refused }
+{
+    Answer {
+        text: Vec::new(alloc),
+        status: Status::Refused,
+    }
+}
+
+// Answers for two grammars: they are compared, unless one is rejected. `Memory` if an allocation fails.
+fn answer_to(
+    alloc: Global,
+    settings: &Settings<'_>,
+    old: &Side,
+    new: &Side,
+) -> Result<Answer, Memory>
+    ensures { IfOk result (λ a. IsVerdictOn settings.now.letters old.now.grammar new.now.grammar a.text.items
+        a.status) }
+{
+    match &old.grammar {
+        Some(before) => match &new.grammar {
+            Some(after) => compared(alloc, settings, before, after),
+            None => Ok(rejected(alloc)),
+        },
+        None => Ok(rejected(alloc)),
+    }
+}
+
+// Returns the messages on both grammars, the old one's first. `Memory` if an allocation fails.
+fn both_told(alloc: Global, old: &[u8], new: &[u8]) -> Result<Vec<u8>, Memory>
+    ensures { IfOk result (λ told. told.items ≡ old.now ++ new.now) }
+{
+    let mut told = Vec::new(alloc);
+    told.extend_from_slice(old)?;
+    told.extend_from_slice(new)?;
+    Ok(told)
+}
+
+// Reports on two grammars. `Memory` if an allocation fails.
+fn report_on(
+    alloc: Global,
+    settings: &Settings<'_>,
+    old: &Side,
+    new: &Side,
+) -> Result<Report, Memory>
+    ensures { IfOk result (λ r. (r.told.items ≡ old.now.told.items ++ new.now.told.items)
+        × IsVerdictOn settings.now.letters old.now.grammar new.now.grammar r.answer.text.items r.answer.status) }
+{
+    let told = both_told(alloc, old.told.as_slice(), new.told.as_slice())?;
+    let answer = answer_to(alloc, settings, old, new)?;
+    Ok(Report { told, answer })
+}
+
+// Compares an old grammar with the text of a new one. `Memory` if an allocation fails.
+fn compare_with(
+    alloc: Global,
+    settings: &Settings<'_>,
+    old: &Side,
+    new: &[u8],
+) -> Result<Report, Memory>
+    ensures { IfOk result (λ r. IsReportOn settings.now.letters (option_copied settings.now.new_rule)
+        old.now.told.items old.now.grammar new.now r.told.items r.answer.text.items r.answer.status) }
+{
+    let new = open_side(alloc, b"new: ", new, settings.new_rule)?;
+    report_on(alloc, settings, old, &new)
+}
+
+/// Compares the texts of two grammars: reports the messages on both, and what is known of the lines that each rule
+/// alone derives, unless a grammar is rejected. `Memory` if an allocation fails.
+pub(crate) fn compare_texts(
+    alloc: Global,
+    settings: &Settings<'_>,
+    old: &[u8],
+    new: &[u8],
+) -> Result<Report, Memory>
+    ensures { IfOk result (λ r. AreCompared settings.now.letters (option_copied settings.now.old_rule)
+        (option_copied settings.now.new_rule) old.now new.now r.told.items r.answer.text.items r.answer.status) }
+{
+    let old = open_side(alloc, b"old: ", old, settings.old_rule)?;
+    compare_with(alloc, settings, &old, new)
+}

@@ -1,0 +1,150 @@
+//! The run of the program.
+ghost use Rattle.std.specs.Prelude.{◌≡◌, ◌≢◌, [], false, map, option_copied, string_bytes};
+ghost use Rattle.abnfd.specs.CompareAnswers.{CompareAnswers, FilesCompared, IsWholeReport, answer_reply, missing_stop};
+ghost use Rattle.abnfd.specs.CompareAnswers.{missing_text};
+ghost use Rattle.abnfd.specs.CompareWords.{IsAbnfdApp};
+ghost use Rattle.clap.specs.Words.{fault_of, found_of, matches_of, rows_of};
+ghost use Rattle.cli.specs.Parsing.{WordsState};
+ghost use Rattle.toolrun.specs.Plan.{IsToldAnd};
+ghost use Rattle.toolrun.specs.Right.{Comes};
+ghost use Rattle.toolrun.specs.Status.{code_of};
+ghost use Rattle.toolrun.specs.Stopped.{Performs};
+ghost use Rattle.toolrun.specs.Stream.{no_input, passed};
+
+use crate::command::{parse_words, settings_of};
+use crate::compared::{Answer, Report, Settings, compare_texts};
+use crate::files::{Texts, Unread, read_both};
+use clap::ArgMatches;
+use cli::{Unready, end_unready};
+use ruletable::{Sink, WriteFault, write_whole};
+use std::alloc::Global;
+use std::rt::Files;
+use toolrun::{Status, Stop, close_run, end_run};
+
+// Writes an answer.
+fn write_answer<O: Sink>(answer: &Answer, out: &mut O) -> Result<Stop, WriteFault>
+    requires { O.failed out.old ≡ false }
+    ensures { Performs (λ input reply. reply ≡ answer_reply answer.now.text.items answer.now.status) no_input
+        (passed O.contents O.failed out.old out.new) result }
+{
+    match write_whole(out, answer.text.as_slice()) {
+        Ok(()) => Ok(Stop::Quiet(answer.status)),
+        Err(fault) => Err(fault),
+    }
+}
+
+// Writes the report on a comparison, and ends.
+fn end_compared<O: Sink, E: Sink>(report: &Report, out: &mut O, err: &mut E) -> Status
+    requires out_is_fresh { O.failed out.old ≡ false }
+    requires err_is_fresh { E.failed err.old ≡ false }
+    ensures right { Comes (IsWholeReport report.now.told.items report.now.answer.text.items report.now.answer.status)
+        no_input (passed O.contents O.failed out.old out.new) (passed E.contents E.failed err.old err.new)
+        (code_of result) }
+{
+    if write_whole(err, report.told.as_slice()).is_err() {
+        return close_run(out, err);
+    }
+    let stop = write_answer(&report.answer, out);
+    end_run(stop, out, err)
+}
+
+// Reports that the text of a grammar is not had, and ends.
+fn end_missing<O: Sink, E: Sink>(told: &[u8], out: &mut O, err: &mut E) -> Status
+    requires out_is_fresh { O.failed out.old ≡ false }
+    requires err_is_fresh { E.failed err.old ≡ false }
+    ensures right { Comes (IsToldAnd told.now (Stop.Quiet Status.Fault)) no_input
+        (passed O.contents O.failed out.old out.new) (passed E.contents E.failed err.old err.new) (code_of result) }
+{
+    if write_whole(err, told).is_err() {
+        return close_run(out, err);
+    }
+    end_run(Ok(Stop::Quiet(Status::Fault)), out, err)
+}
+
+// Ends a program that has not both texts.
+fn end_unread<O: Sink, E: Sink>(why: Unread, out: &mut O, err: &mut E) -> Status
+    requires out_is_fresh { O.failed out.old ≡ false }
+    requires err_is_fresh { E.failed err.old ≡ false }
+    ensures right { Comes (IsToldAnd (missing_text why) (missing_stop why)) no_input
+        (passed O.contents O.failed out.old out.new) (passed E.contents E.failed err.old err.new) (code_of result) }
+{
+    match why {
+        Unread::Old => end_missing(b"old: cannot read the grammar\n", out, err),
+        Unread::New => end_missing(b"new: cannot read the grammar\n", out, err),
+        Unread::NoMemory => end_run(Ok(Stop::NoMemory), out, err),
+    }
+}
+
+// Compares the texts of two grammars.
+fn compare_read<O: Sink, E: Sink>(
+    alloc: Global,
+    settings: &Settings<'_>,
+    texts: &Texts,
+    out: &mut O,
+    err: &mut E,
+) -> Status
+    requires out_is_fresh { O.failed out.old ≡ false }
+    requires err_is_fresh { E.failed err.old ≡ false }
+    ensures right { Comes (FilesCompared settings.now.letters (option_copied settings.now.old_rule)
+        (option_copied settings.now.new_rule)) no_input (passed O.contents O.failed out.old out.new)
+        (passed E.contents E.failed err.old err.new) (code_of result) }
+{
+    match compare_texts(alloc, settings, texts.old.as_slice(), texts.new.as_slice()) {
+        Ok(report) => end_compared(&report, out, err),
+        Err(_) => end_run(Ok(Stop::NoMemory), out, err),
+    }
+}
+
+// Compares the grammars in the files that the words name.
+fn compare_asked<R: Files + AllocGlobal, O: Sink, E: Sink>(
+    rt: &R,
+    matches: &ArgMatches<'_>,
+    out: &mut O,
+    err: &mut E,
+) -> Status
+    requires out_is_fresh { O.failed out.old ≡ false }
+    requires err_is_fresh { E.failed err.old ≡ false }
+    ensures right { Comes (CompareAnswers (rows_of (found_of matches.now))) no_input
+        (passed O.contents O.failed out.old out.new) (passed E.contents E.failed err.old err.new) (code_of result) }
+{
+    let settings = settings_of(matches);
+    let old = matches.get_str("old").unwrap_or("");
+    let new = matches.get_str("new").unwrap_or("");
+    match read_both(rt, old, new) {
+        Ok(texts) => compare_read(rt.alloc(), &settings, &texts, out, err),
+        Err(why) => end_unread(why, out, err),
+    }
+}
+
+/// Runs the program, whose words are its own name and `[-s RULE] [-t RULE] [-b N] [-u MODE] OLD NEW`: it compares the
+/// lines that a rule of the grammar in the file OLD derives with those of a rule of the grammar in the file NEW.
+///
+/// - `-h`: the help on `out`, `Done`.
+/// - Other words: what is wrong with them on `err`, `Refused`, and nothing is read.
+/// - The first file that cannot be read: `old: ` or `new: ` and `cannot read the grammar`, `Fault`.
+/// - The notes on both grammars, or their faults, stand on `err`, the old one's first, each after `old: ` or `new: `.
+///   If one is rejected, that is all: `Refused`.
+/// - Else `same` on `out`, `Done`; or `differ`, `NoMatch`, if the first line is known that one of the rules derives
+///   alone, or `not known`, `Overlong`, and two lines. They say what is known of the lines that the old rule alone
+///   derives, and of those of the new one.
+/// - If an allocation fails: `out of memory`, `NoMemory`.
+pub(crate) fn abnfd_main<R: Files + AllocGlobal, O: Sink, E: Sink>(
+    rt: &R,
+    words: &[String],
+    out: &mut O,
+    err: &mut E,
+) -> Status
+    requires out_is_fresh { O.failed out.old ≡ false }
+    requires err_is_fresh { E.failed err.old ≡ false }
+    ensures words { (app : _) × IsAbnfdApp app × (fault_of app (map string_bytes words.now) ≢ [] →
+        Comes (WordsState (fault_of app (map string_bytes words.now))) no_input
+        (passed O.contents O.failed out.old out.new) (passed E.contents E.failed err.old err.new) (code_of result)) }
+    ensures right { (app : _) × IsAbnfdApp app × (fault_of app (map string_bytes words.now) ≡ [] →
+        Comes (CompareAnswers (matches_of app (map string_bytes words.now))) no_input
+        (passed O.contents O.failed out.old out.new) (passed E.contents E.failed err.old err.new) (code_of result)) }
+{
+    match parse_words(rt.alloc(), words) {
+        Ok(matches) => compare_asked(rt, &matches, out, err),
+        Err(error) => end_unready(rt.alloc(), &Unready::Words(error), out, err),
+    }
+}

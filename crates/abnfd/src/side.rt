@@ -1,0 +1,144 @@
+//! The grammars that are compared, each with the messages on it.
+ghost use Rattle.std.specs.Prelude.{◌≡◌, ◌++◌, IfOk, IfSome, None, OnOk, map, option_copied};
+ghost use Rattle.abnfcheck.specs.AbnfGrammar.{IsSoundGrammar};
+ghost use Rattle.abnfd.specs.ComparedSides.{IsMadeOf, IsSideOf, side_notes as the_notes};
+ghost use Rattle.ruletable.specs.Faults.{fault_text};
+ghost use Rattle.ruletable.specs.Notes.{note_text, said_of};
+
+use abnfcheck::{AllRules, SoundAbnf};
+use abnfrun::{AbnfLanguage, AbnfOptions, Alphabet, DEFAULT_LIMIT, Mode, Printed, Settings};
+use ruletable::{Memory, Note, ReadFault, SinkOf, write_fault, write_note};
+use std::alloc::Global;
+use toolrun::{Opened, open};
+
+/// A grammar that is compared, and the messages on it.
+#[derive(Drop)]
+pub(crate) struct Side {
+    /// The messages, each after the name of the side.
+    pub(crate) told: Vec<u8>,
+    /// The grammar, unless it is rejected.
+    pub(crate) grammar: Option<SoundAbnf>,
+}
+
+// Returns the line of a note. `Memory` if an allocation fails.
+fn note_line(alloc: Global, note: &Note) -> Result<Vec<u8>, Memory>
+    ensures { IfOk result (λ text. text.items ≡ note_text (said_of note.now)) }
+{
+    let mut text = SinkOf::new(Vec::new(alloc));
+    match write_note(note, &mut text) {
+        Ok(()) => Ok(text.into_inner()),
+        Err(_) => Err(Memory),
+    }
+}
+
+// Returns the line of a fault. `Memory` if an allocation fails.
+fn fault_line(alloc: Global, fault: &ReadFault) -> Result<Vec<u8>, Memory>
+    ensures { IfOk result (λ text. text.items ≡ fault_text fault.now) }
+{
+    let mut text = SinkOf::new(Vec::new(alloc));
+    match write_fault(fault, &mut text) {
+        Ok(()) => Ok(text.into_inner()),
+        Err(_) => Err(Memory),
+    }
+}
+
+// Adds the line of a note after the name of its side.
+fn push_note(alloc: Global, side: &[u8], note: &Note, out: &mut Vec<u8>) -> Result<(), Memory>
+    ensures { OnOk result (out.new.items ≡ out.old.items ++ (side.now ++ note_text (said_of note.now))) }
+{
+    let line = note_line(alloc, note)?;
+    out.extend_from_slice(side)?;
+    out.extend_from_slice(line.as_slice())?;
+    Ok(())
+}
+
+// Returns the lines of notes, each after the name of their side. `Memory` if an allocation fails.
+fn side_notes(alloc: Global, side: &[u8], notes: &[Note]) -> Result<Vec<u8>, Memory>
+    ensures { IfOk result (λ text. text.items ≡ the_notes side.now (map said_of notes.now)) }
+{
+    let mut text = Vec::new(alloc);
+    for note in notes {
+        push_note(alloc, side, note, &mut text)?;
+    }
+    Ok(text)
+}
+
+// Returns the grammar of these rules and that judged one, unless there is none.
+fn grammar_of(rules: AllRules, judged: Option<usize>) -> Option<SoundAbnf>
+    requires { IfSome judged (λ id. IsSoundGrammar (record { rules = rules.rules; judged = id })) }
+    ensures { IsMadeOf rules.rules judged result }
+{
+    match judged {
+        Some(id) => Some(SoundAbnf::new(rules.rules, id)),
+        None => None,
+    }
+}
+
+// Returns a grammar that was opened, with its notes. `Memory` if an allocation fails.
+fn opened_side(alloc: Global, side: &[u8], opened: Opened<AllRules, usize>) -> Result<Side, Memory>
+    requires { IfSome opened.judged (λ id. IsSoundGrammar (record { rules = opened.rules.rules; judged = id })) }
+    ensures { IfOk result (λ s. (s.told.items ≡ the_notes side.now (map said_of opened.notes.items))
+        × IsMadeOf opened.rules.rules opened.judged s.grammar) }
+{
+    let told = side_notes(alloc, side, opened.notes.as_slice())?;
+    Ok(Side {
+        told,
+        grammar: grammar_of(opened.rules, opened.judged),
+    })
+}
+
+// Returns the message on a text that has a fault. `Memory` if an allocation fails.
+fn faulty_side(alloc: Global, side: &[u8], fault: &ReadFault) -> Result<Side, Memory>
+    ensures { IfOk result (λ s. (s.told.items ≡ side.now ++ fault_text fault.now) × (s.grammar ≡ None)) }
+{
+    let line = fault_line(alloc, fault)?;
+    let mut told = Vec::new(alloc);
+    told.extend_from_slice(side)?;
+    told.extend_from_slice(line.as_slice())?;
+    Ok(Side {
+        told,
+        grammar: None,
+    })
+}
+
+// Returns the settings by which a grammar is opened: from the rule of that name, without explanations.
+fn opening_settings(rule: Option<&str>) -> Settings<'_, AbnfOptions>
+    ensures { option_copied result.start ≡ option_copied rule.entry }
+{
+    Settings {
+        mode: Mode::Check,
+        limit: DEFAULT_LIMIT,
+        start: rule,
+        explain: false,
+        options: AbnfOptions {
+            letters: Alphabet::Bytes,
+            viable: false,
+            nul: false,
+            keeps: false,
+            printed: Printed::Answers,
+            numbered: false,
+            quiet: false,
+            line_buffered: false,
+        },
+    }
+}
+
+/// Reads and checks the text of a grammar that is compared by the rule of that name, or by its first rule. `side` names
+/// the grammar, and stands before each message. `Memory` if an allocation fails.
+pub(crate) fn open_side(
+    alloc: Global,
+    side: &[u8],
+    text: &[u8],
+    rule: Option<&str>,
+) -> Result<Side, Memory>
+    ensures { IfOk result (λ s. IsSideOf side.now text.now (option_copied rule.entry) s.told.items s.grammar) }
+{
+    let settings = opening_settings(rule);
+    match open::<AbnfLanguage>(alloc, text, &settings) {
+        Ok(opened) => opened_side(alloc, side, opened),
+        Err(fault) => match fault {
+            ReadFault::Memory => Err(Memory),
+            _ => faulty_side(alloc, side, &fault),
+        },
+    }
+}

@@ -1,4 +1,0 @@
-pub mod LenLemmas
-pub mod RowMembersLemmas
-pub mod RowSetsLemmas
-pub mod WordInLemmas

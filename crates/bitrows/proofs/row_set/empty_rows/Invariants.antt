@@ -1,7 +1,0 @@
--- The rows so far are empty.
-use Rattle.std.proofs.Common.{◌≡◌, []}
-use Rattle.std.specs.Prelude.{replicate}
-use Rattle.bitrows.proofs.row_set.empty_rows.Given as goal
-
-abbrev pub invariant-loop-place : goal.invariant-loop-place
-invariant-loop-place l = l.rows.items ≡ replicate l._place []

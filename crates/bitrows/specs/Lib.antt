@@ -1,2 +1,0 @@
-pub mod RowMembers
-pub mod RowSets

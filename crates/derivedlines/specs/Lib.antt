@@ -1,0 +1,4 @@
+pub mod LineSets
+pub mod Rests
+pub mod Starts
+pub mod StateTables

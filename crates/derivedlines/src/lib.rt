@@ -1,0 +1,10 @@
+//! The lines that a rule derives, in order.
+#![tactic(auto)]
+
+mod keys;
+mod lines;
+mod search;
+mod starts;
+mod table;
+
+pub use lines::{Lines, Step};

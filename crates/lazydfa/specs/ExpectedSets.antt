@@ -1,0 +1,20 @@
+-- What can follow the symbols of a line, by an item set.
+use Rattle.std.specs.Prelude.{◌↔◌, ℕ, List, IsTrue}
+use Rattle.flatgrammar.specs.Flat.{Flat, Place, at, Set, Reads}
+use Rattle.flatgrammar.specs.FlatVerdicts.{IsLastSet}
+use Rattle.flatgrammar.specs.Holds.{Holds}
+use Rattle.flatgrammar.specs.Places.{In}
+use Rattle.flatgrammar.specs.declared.block.Spot.{Spot}
+use Rattle.lazydfa.specs.declared.expected.Expected.{Expected}
+
+-- dotted rules of the items of set n: all that read a symbol, and no others than of that set
+pub record AreReadersAt (flat : Flat) (x : List ℕ) (n : ℕ) (spots : List Spot) : Type 0 where
+  pub held : (s : Spot) → In s spots → (i : ℕ) × Holds flat x n (at s.node s.step) i
+  pub all : (s : Spot) (i : ℕ) (set : Set) (r : Place) → Holds flat x n (at s.node s.step) i
+      → Reads flat (at s.node s.step) set r → In s spots
+
+-- the last set with an item, its dotted rules that read, and whether it holds the whole's end with origin 0
+pub record IsExpected (flat : Flat) (x : List ℕ) (told : Expected) : Type 0 where
+  pub last : IsLastSet flat x told.after
+  pub readers : AreReadersAt flat x told.after told.spots.items
+  pub end : IsTrue told.ends ↔ Holds flat x told.after (at flat.whole 1) 0

@@ -1,0 +1,39 @@
+//! What can follow the symbols of a line, by the stacks that they lead to.
+ghost use Rattle.std.specs.Prelude.{◌≤◌, ℕ, IfOk, length, Contains};
+ghost use Rattle.lazydfa.specs.Conts.{AreOlder, AreTopsOf};
+
+use crate::close::cont_at;
+use crate::conts::Conts;
+use flatgrammar::Spot;
+use ruletable::Memory;
+use std::alloc::Global;
+
+/// What can follow the longest viable prefix of a line.
+#[derive(Drop)]
+pub struct Expected {
+    /// How many symbols that prefix has.
+    pub after: usize,
+    /// The dotted rules that read the symbols that can follow, each once or more.
+    pub spots: Vec<Spot>,
+    /// Whether the line may end there.
+    pub ends: bool,
+}
+
+/// Returns the dotted rules on top of continuations. `Memory` if an allocation fails.
+pub(crate) fn spots_of(alloc: Global, conts: &Conts, tops: &[usize]) -> Result<Vec<Spot>, Memory>
+    requires within { (id : ℕ) → Contains tops.now id → id ≤ length conts.now.items.items }
+    requires older { AreOlder conts.now.items.items }
+    ensures { IfOk result (λ spots. AreTopsOf conts.now.items.items tops.now spots.items) }
+{
+    let mut spots = Vec::new(alloc);
+    for top in tops {
+        if *top > 0 {
+            let cont = cont_at(conts, *top);
+            spots.push(Spot {
+                node: cont.node,
+                step: cont.step,
+            })?;
+        }
+    }
+    Ok(spots)
+}

@@ -1,0 +1,40 @@
+//! From a sound grammar to a flat one of its productive parts.
+ghost use Rattle.std.specs.Prelude.{◌≡◌, ◌+◌, ◌≤◌, IfOk};
+ghost use Rattle.abnfread.specs.Element.{bodies};
+ghost use Rattle.abnfread.specs.AbnfViews.{rules_of};
+ghost use Rattle.flatgrammar.specs.Places.{places};
+ghost use Rattle.lowering.specs.Sizes.{sizes};
+ghost use Rattle.lowering.specs.ToldBeginnings.{TellsBeginnings};
+ghost use Rattle.letters.specs.Letters.{has};
+ghost use Rattle.lowering.specs.Pruned.{SpellsProductive};
+
+use crate::lowered::lower_rules;
+use crate::pruned::prune_rules;
+use abnfcheck::{SoundAbnf, productive};
+use flatgrammar::Flat;
+use letters::Alphabet;
+use ruletable::Memory;
+use std::alloc::Global;
+
+/// Lowers the productive parts of a grammar to numbered nodes, for lines of at most `limit` symbols: those that derive
+/// some line over the alphabet. The flat grammar derives such a line exactly if the judged rule does. The set
+/// after the first symbols of such a line, one or more, has an item exactly if they are a viable prefix. The nodes
+/// spell the productive parts alone, with at most as many dotted rules as these have on such lines, and two.
+///
+/// `Memory` if an allocation fails.
+pub fn lower_viable(
+    alloc: Global,
+    grammar: &SoundAbnf,
+    alphabet: Alphabet,
+    limit: usize,
+) -> Result<Flat, Memory>
+    ensures limit { IfOk result (λ flat. flat.limit ≡ limit) }
+    ensures tells { IfOk result (λ flat. TellsBeginnings (has alphabet) (rules_of grammar.now.rules) grammar.now.judged
+        flat) }
+    ensures parts { IfOk result (SpellsProductive (has alphabet) (rules_of grammar.now.rules) grammar.now.judged) }
+    ensures places { IfOk result (λ flat. places flat.nodes ≤ sizes limit (bodies (rules_of grammar.now.rules)) + 2) }
+{
+    let marks = productive(alloc, grammar, alphabet)?;
+    let pruned = prune_rules(alloc, alphabet, grammar.rules(), &marks)?;
+    lower_rules(alloc, grammar, &pruned, limit)
+}

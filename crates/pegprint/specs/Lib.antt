@@ -1,0 +1,4 @@
+pub mod Brackets
+pub mod Canon
+pub mod CanonMembers
+pub mod ReadBack

@@ -1,0 +1,9 @@
+//! Writes the canonical text of a grammar in the syntax of peg(1).
+#![tactic(auto)]
+
+mod place;
+mod print;
+mod print_bytes;
+
+pub use print::{is_read_back, print_expr, print_member, print_peg};
+pub use print_bytes::{print_literal, print_set};

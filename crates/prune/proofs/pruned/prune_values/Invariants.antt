@@ -1,8 +1,0 @@
-use Rattle.std.proofs.Common.{◌≡◌, take}
-use Rattle.abnfcheck.specs.Derivable.{AreLetters}
-use Rattle.letters.specs.Letters.{has}
-use Rattle.prune.proofs.pruned.prune_values.Given as goal
-
-abbrev pub invariant-loop-value : goal.invariant-loop-value
-invariant-loop-value l = AreLetters (has l.alphabet) (take l.value-index l.values)
-    × (l.copied.items ≡ take l.value-index l.values)

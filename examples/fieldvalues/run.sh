@@ -1,0 +1,1 @@
+abnfd rfc7230.abnf rfc9110.abnf
