@@ -1,5 +1,5 @@
 #!/usr/bin/env python3
-"""Writes into docs/DEFINITIONS.md the files of specs/ that no contract of a public function reaches.
+"""Writes docs/crates/PRIVATE.md: the files of specs/ that no contract of a public function reaches.
 
 usage: private_definitions.py [--check]
 
@@ -17,8 +17,7 @@ from contract_index import IMPORT, TOP, functions, head_end, owner_of
 from pages import exports, methods
 from crates import in_order
 
-DOCUMENT = TOP / "docs/DEFINITIONS.md"
-BLOCK = re.compile(r"(<!-- private definitions -->\n).*?(<!-- end -->)", re.S)
+DOCUMENT = TOP / "docs/crates/PRIVATE.md"
 TESTS = re.compile(r"testio|tests_\w+|uses")
 USE = re.compile(r"^use Rattle\.(\w+)\.specs\.([\w.]+?)(?:\.\{([^}]*)\}| as (\w+))$", re.M)
 DEFINED = re.compile(r" *(?:abbrev |unfoldable )*pub (?:record |data )?([^\s:]+)| *(?:abbrev )?([^\s:(]+) : ")
@@ -132,16 +131,14 @@ def main(*words):
     public = {file for file, _ in definitions.reached(sum(heads, []))}
     shown = {file for file, _ in definitions.reached(sum(models, []))} - public
     private = listed(definitions.whole.keys() - public - shown)
-    text = f"No contract of a public function reaches these:\n\n{private}\n"
+    text = f"# Private definitions\n\nNo contract of a public function reaches these:\n\n{private}\n"
     text += f"Models of public types alone reach these:\n\n{listed(shown)}"
-    old = DOCUMENT.read_text()
-    new = BLOCK.sub(lambda found: found.group(1) + text + found.group(2), old)
-    if new == old:
+    if DOCUMENT.is_file() and DOCUMENT.read_text() == text:
         return 0
     if "--check" in words:
-        print("docs/DEFINITIONS.md is not up to date: run scripts/docs/private_definitions.py", file=sys.stderr)
+        print(f"{DOCUMENT.relative_to(TOP)} is not up to date: run scripts/docs/private_definitions.py", file=sys.stderr)
         return 1
-    DOCUMENT.write_text(new)
+    DOCUMENT.write_text(text)
     return 0
 
 
