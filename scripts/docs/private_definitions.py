@@ -136,7 +136,8 @@ def main(*words):
     if DOCUMENT.is_file() and DOCUMENT.read_text() == text:
         return 0
     if "--check" in words:
-        print(f"{DOCUMENT.relative_to(TOP)} is not up to date: run scripts/docs/private_definitions.py", file=sys.stderr)
+        name = DOCUMENT.relative_to(TOP)
+        print(f"{name} is not up to date: run scripts/docs/private_definitions.py", file=sys.stderr)
         return 1
     DOCUMENT.write_text(text)
     return 0
