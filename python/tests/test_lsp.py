@@ -32,7 +32,7 @@ class Client:
         self.number += 1
         self.writer.write({"jsonrpc": "2.0", "id": self.number, "method": method, "params": params})
         while True:
-            it = self.told.get(timeout=10)
+            it = self.told.get(timeout=60)
             if it.get("id") == self.number:
                 assert "error" not in it, it
                 return it["result"]
@@ -42,7 +42,7 @@ class Client:
 
     def diagnostics(self):
         while True:
-            it = self.told.get(timeout=10)
+            it = self.told.get(timeout=60)
             if it.get("method") == "textDocument/publishDiagnostics":
                 return it["params"]["diagnostics"]
 
@@ -55,7 +55,7 @@ def client():
     yield it
     it.ask("shutdown")
     it.tell("exit")
-    assert it.process.wait(10) == 0
+    assert it.process.wait(60) == 0
 
 
 def opened(client, text, name="file:///host.abnf"):
@@ -157,13 +157,13 @@ def test_in_neovim(tmp_path):
     script.write_text(
         f"""
         local out = io.open("{tmp_path}/said", "w")
-        vim.wait(8000, function() return #vim.diagnostic.get(0) > 0 end, 50)
+        vim.wait(100000, function() return #vim.diagnostic.get(0) > 0 end, 50)
         for _, it in ipairs(vim.diagnostic.get(0)) do
             out:write(it.lnum .. ":" .. it.col .. " " .. it.message .. "\\n")
         end
         vim.api.nvim_win_set_cursor(0, {{ 1, 13 }})
         vim.lsp.buf.definition()
-        vim.wait(3000, function() return vim.api.nvim_win_get_cursor(0)[1] ~= 1 end, 50)
+        vim.wait(10000, function() return vim.api.nvim_win_get_cursor(0)[1] ~= 1 end, 50)
         out:write("definition on line " .. vim.api.nvim_win_get_cursor(0)[1] .. "\\n")
         out:close()
         vim.cmd("qa!")
@@ -171,7 +171,7 @@ def test_in_neovim(tmp_path):
     )
     words = ["nvim", "--headless", "--clean", "--cmd", f"source {CONFIGURATION}", "-S", script, tmp_path / "host.abnf"]
     environment = {**os.environ, "HOME": str(tmp_path), "PATH": f"{tmp_path}:{os.environ['PATH']}"}
-    subprocess.run(list(map(str, words)), timeout=30, env=environment, capture_output=True)
+    subprocess.run(list(map(str, words)), timeout=120, env=environment, capture_output=True)
     said = (tmp_path / "said").read_text().splitlines()
     assert said[-1] == "definition on line 2"
     assert "0:19 rule 'path' used but not defined, reached by 'uri' > 'path'" in said

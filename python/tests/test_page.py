@@ -40,6 +40,8 @@ def browser():
         options.add_argument(it)
     options.set_capability("goog:loggingPrefs", {"browser": "ALL"})
     driver = webdriver.Chrome(service=Service(shutil.which("chromedriver")), options=options)
+    driver.set_page_load_timeout(100)
+    driver.set_script_timeout(100)
     yield driver
     driver.quit()
 
@@ -53,14 +55,14 @@ def page(server, browser):
         browser.get("about:blank")
         browser.get(server)
         try:
-            wait(browser, lambda: text(browser, "#count") != "", 8)
+            wait(browser, lambda: text(browser, "#count") != "", 20)
             return browser
         except TimeoutException:
             print(text(browser, "#state"))
     raise TimeoutError("the page has no answer")
 
 
-def wait(browser, holds, seconds=15):
+def wait(browser, holds, seconds=60):
     WebDriverWait(browser, seconds, poll_frequency=0.05).until(lambda _: holds())
 
 

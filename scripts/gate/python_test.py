@@ -15,7 +15,8 @@ import sys
 
 TOP = pathlib.Path(__file__).resolve().parents[2]
 LIBRARY = TOP / "bin/libfanquber.so.2"
-SECONDS = 300
+# The seconds that the tests may take together, and after which the stack of a test is printed that has not ended.
+SECONDS, STACK_AFTER = 1500, 120
 
 
 def python_with(modules):
@@ -47,7 +48,8 @@ def main():
     if tester is None:
         print("python: no pytest (Debian: python3-pytest): skipped")
     else:
-        wrong |= not run(tester, "-B", "-m", "pytest", "-q", "-rs", "-p", "no:cacheprovider", "tests")
+        options = ("-q", "-rs", "-p", "no:cacheprovider", "-o", f"faulthandler_timeout={STACK_AFTER}", "--durations=5")
+        wrong |= not run(tester, "-B", "-m", "pytest", *options, "tests")
     if checker is None:
         print("python: no mypy, Flask or Hypothesis (Debian: mypy python3-flask python3-hypothesis): types skipped")
     else:
