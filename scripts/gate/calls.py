@@ -48,7 +48,7 @@ PASSED = {
     "matchfailure: Desk.found: only forwards",
     # The contract of `start` says that the grammar is sound, and how its nodes are numbered.
     "matchfailure: Desk.step: discards", "matchfailure: FailureSearch.explain_no_match: discards",
-    "matchfailure: farthest_failure: discards", "matchfailure: rule_of: discards", "matchfailure: use_rows: discards",
+    "matchfailure: rule_of: discards", "matchfailure: use_rows: discards",
     "pegrun: run_units: discards",
 }
 # The parameters that only a contract reads, each with what the contract says by it.

@@ -150,6 +150,7 @@ impl Desk {
         ensures fits { OnOk result ((x : List ℕ) (more : Bool) → Fits peg.now x more self.new) }
         ensures frames { OnOk result ((x : List ℕ) (more : Bool) → HasFrames peg.now x more self.new) }
         ensures empty { OnErr result (self.new ≡ empty) }
+        ensures sound { IsSoundGrammar peg.now }
     {
         self.reset();
         let root = peg.body_node(peg.start());

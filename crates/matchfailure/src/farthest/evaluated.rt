@@ -1,6 +1,5 @@
 //! The plain machine, run to its end.
 ghost use Rattle.std.specs.Prelude.{◌≡◌, ℕ, false, IfOk, OnOk};
-ghost use Rattle.gramcheck.specs.Grammar.{IsSoundGrammar};
 ghost use Rattle.pegread.specs.PegViews.{rules_of};
 ghost use Rattle.matchfailure.specs.Desk.{IsDone};
 ghost use Rattle.matchfailure.specs.UnitEnds.{EndsSo, end_of_unit};
@@ -30,7 +29,6 @@ pub(crate) fn evaluate(
     peg: &SoundPeg,
     window: &[u8],
 ) -> Result<Option<usize>, Memory>
-    requires { IsSoundGrammar peg.now }
     ensures done { OnOk result (IsDone peg.now window.now false desk.new) }
     ensures end { IfOk result (EndsSo (rules_of peg.now.rules) peg.now.start window.now) }
 {

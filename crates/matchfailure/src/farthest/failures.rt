@@ -74,8 +74,6 @@ pub fn farthest_failure(alloc: Global, peg: &SoundPeg, window: &[u8]) -> Result<
         far.place far.expected.items)) }
     ensures end { IfOk result (λ search. EndsSo (rules_of peg.now.rules) peg.now.start window.now search.end) }
 {
-    // its contract says that the grammar is sound
-    let _ = peg.start();
     let mut desk = Desk::new(alloc);
     let end = evaluate(&mut desk, peg, window)?;
     let farthest = failure_by(alloc, peg, window, &desk)?;
