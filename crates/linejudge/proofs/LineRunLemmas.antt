@@ -27,13 +27,11 @@ use Rattle.toolrun.specs.declared.stop.Stop.{Stop}
 use Rattle.toolrun.specs.declared.stop.Stop.TheVariants.{NoMemory}
 use Rattle.toolrun.proofs.ExplainedIfLemmas.{if_asked, if_not_asked, not_asked_nothing}
 use Rattle.toolrun.proofs.StopsAsLemmas.{run_told, did_not_tell}
-use Rattle.linejudge.specs.InputLines.{GoesBy, LinesEnd, Lines, at_front, behind, printed_line, none, one_more, place_taken}
-use Rattle.linejudge.specs.InputLines.{taken_at}
+use Rattle.linejudge.specs.InputLines.{GoesBy, LinesEnd, Lines, at_front, behind, printed_line, none, one_more}
+use Rattle.linejudge.specs.InputLines.{place_taken, taken_at}
 use Rattle.linejudge.specs.LineRefusals.{CutRefusals, EndsAt, LinesReply, LinesStates, LinesTo, NeverLacks, Refusals}
-use Rattle.linejudge.specs.LineRefusals.{RunPoint}
-use Rattle.linejudge.specs.LineRefusals.{SameButWhy, TellsTo, ToldUpTo, WhyTo, count_untold, is_told, none_after}
-use Rattle.linejudge.specs.LineRefusals.{none_told}
-use Rattle.linejudge.specs.LineRefusals.{one_lacks, one_told, stop_lines, taken_by}
+use Rattle.linejudge.specs.LineRefusals.{RunPoint, SameButWhy, TellsTo, ToldUpTo, WhyTo, count_untold, is_told}
+use Rattle.linejudge.specs.LineRefusals.{none_after, none_told, one_lacks, one_told, stop_lines, taken_by}
 use Rattle.linejudge.specs.LineSteps.{AddsBy, AddsLines, IsStep, IsToldEnding, StepText, of_end, of_line}
 use Rattle.linejudge.specs.declared.answers.Answer.{Answer}
 use Rattle.linejudge.specs.declared.line.LineForm.{LineForm}
@@ -161,7 +159,8 @@ module _ (Told : List ℕ → Answer → Type 0) (asked : Bool) (Refusal : List 
           (sym (and_true asked)) r.tells.is;
     };
     why = r.why;
-    explains = subst (λ (b : Bool). ExplainedIf b (λ t. t ≡ stop_lines r.replies.stop) r.why) (sym (and_true asked)) r.explains;
+    explains = subst (λ (b : Bool). ExplainedIf b (λ t. t ≡ stop_lines r.replies.stop) r.why)
+        (sym (and_true asked)) r.explains;
     told = r.told;
   })
 
@@ -233,7 +232,8 @@ module _ (Told : List ℕ → Answer → Type 0) (asked : Bool) (Refusal : List 
       -- what explains the stop there
       why_there : (stop : Stop) (why : List ℕ) (b : Bool) → asked ≡ true → why ≡ (if b then [] else stop_lines stop)
           → WhyTo asked input (record { at = at; lacks = b }) stop why
-      why_there stop why true is same = nothing_explains (asked && false) (λ t. t ≡ stop_lines stop) why (rw is refl) same
+      why_there stop why true is same =
+        nothing_explains (asked && false) (λ t. t ≡ stop_lines stop) why (rw is refl) same
       why_there stop why false is same = if_asked (asked && true) (λ t. t ≡ stop_lines stop) why (rw is refl) same
 
       -- how the run ends there
@@ -376,7 +376,8 @@ module _ (Told : List ℕ → Answer → Type 0) (asked : Bool) (Refusal : List 
         fails_in added more (of_line line n said stands says adds) part =
             fails_at (behind at n said) more.lacks added more.text.items (omega arith)
             (one_more at text line n said lines stands says)
-            (told_more told.lacks more.lacks at line n said told.text.items more.text.items refusals stands says adds) part
+            (told_more told.lacks more.lacks at line n said told.text.items more.text.items refusals stands says adds)
+          part
         fails_in added more (of_end last why ends same) part = fails_last last why ends part
 
         pub fails_there : (more : Explanations) → IsStep Told asked Refusal form input at mid new told more (Err fault)

@@ -66,8 +66,8 @@ EndsAt form input point last stop = LinesEnd form input point.at last stop
 abbrev pub taken_by : ℕ → Input → RunPoint → ℕ
 taken_by limit input point = place_taken limit input point.at
 
--- What explains a stop at a point, where that is asked. It needs no memory that can be refused then. Nothing explains it
--- after an explanation that is missing.
+-- What explains a stop at a point, where that is asked. It needs no memory that can be refused then. Nothing explains
+-- it after an explanation that is missing.
 abbrev pub WhyTo : Bool → Input → RunPoint → Stop → List ℕ → Type 0
 WhyTo asked input point stop why = ExplainedIf (asked && not point.lacks) (λ text. text ≡ stop_lines stop) why
 
@@ -130,5 +130,5 @@ module _ (Told : List ℕ → Answer → Type 0) (asked : Bool) (Refusal : List 
     -- all that the run writes otherwise, and its status, are as ever. Where any other allocation fails, it states the
     -- text of the first lines, and what is told of them.
     abbrev pub LinesStates : Reply → Type 0
-    LinesStates reply = steps.ToldStates (LinesTo Told form input) (EndsAt form input) (taken_by form.limit input) TellsTo
-        (WhyTo asked input) (NeverLacks input) reply
+    LinesStates reply = steps.ToldStates (LinesTo Told form input) (EndsAt form input) (taken_by form.limit input)
+        TellsTo (WhyTo asked input) (NeverLacks input) reply

@@ -105,8 +105,8 @@ fn push_refusal<W, J: Judge<W>>(
     told.add(why.as_slice())
 }
 
-/// Adds the explanation of a line with that answer at a position, if it has one. Where an allocation fails in it, a line
-/// says so, and after that nothing is added.
+/// Adds the explanation of a line with that answer at a position, if it has one. Where an allocation fails in it, a
+/// line says so, and after that nothing is added.
 fn tell_line<W, J: Judge<W>>(
     judge: &J,
     work: &mut W,
@@ -179,7 +179,8 @@ fn is_copied<R: Source>(feed: &Feed<'_, R>, n: usize, line: &mut Vec<u8>) -> boo
 
 /// Judges the first `n` bytes that are held as a line, puts what is printed for it into `reached.text`, and adds its
 /// explanation, if it has one. `Memory` if an allocation fails in that but the explanation; then no explanation is
-/// added. Bytes in two pieces are copied. Where they are too many for that, or the copy gets no memory, all that is held is put in one piece.
+/// added. Bytes in two pieces are copied. Where they are too many for that, or the copy gets no memory, all that is held
+/// is put in one piece.
 pub fn answer_held<W, J: Judge<W>, R: Source>(
     judge: &J,
     work: &mut W,

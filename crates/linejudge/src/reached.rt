@@ -43,8 +43,8 @@ pub struct Explanations {
 }
 
 impl Explanations {
-    /// Adds the lines that explain a rejected line, and keeps the room. `Memory` if an allocation fails; then nothing is
-    /// added.
+    /// Adds the lines that explain a rejected line, and keeps the room. `Memory` if an allocation fails; then nothing
+    /// is added.
     pub(crate) fn add(&mut self, lines: &[u8]) -> Result<(), Memory>
         requires room { HasRoom self.old }
         requires whole { self.old.lacks ≡ false }
@@ -94,8 +94,8 @@ pub struct Reached {
 }
 
 impl Reached {
-    /// Returns the position before the first line. If explanations are asked for, there is room for them in place of the
-    /// buffer for a batch, since no batch is judged then. `Memory` if an allocation fails.
+    /// Returns the position before the first line. If explanations are asked for, there is room for them in place of
+    /// the buffer for a batch, since no batch is judged then. `Memory` if an allocation fails.
     pub(crate) fn new(alloc: Global, asked: bool) -> Result<Reached, Memory>
         ensures { IfOk result (λ made. (made.at ≡ at_front) × (made.told.text.items ≡ []) ×
             (made.told.lacks ≡ false) × (asked ≡ true → HasRoom made.told)) }

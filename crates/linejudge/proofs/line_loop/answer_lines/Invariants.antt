@@ -27,7 +27,8 @@ invariant-loop-feed g l = record {
       ((input : Input) → Agrees (before ++ bytes_of l.feed) (flow_of l.feed) input →
       (text : List ℕ) × Lines (g.J.Judge.told l.judge) l.form input l.reached.at text
       × ToldUpTo (g.J.Judge.told l.judge) (g.J.Judge.explains l.judge) (g.J.Judge.refusal l.judge) l.form input
-      l.reached.told.lacks l.reached.at l.reached.told.text.items × Appends (g.O.Sink.contents l.fn.out) (g.O.Sink.contents l.out) text);
+      l.reached.told.lacks l.reached.at l.reached.told.text.items
+      × Appends (g.O.Sink.contents l.fn.out) (g.O.Sink.contents l.out) text);
 }
 
 abbrev pub decreases-loop-feed : goal.decreases-loop-feed
