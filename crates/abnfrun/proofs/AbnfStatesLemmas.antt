@@ -1,5 +1,5 @@
 -- What is stated for a text in ABNF, settings and an input is one, but for want of memory.
--- Serves: one_statement_of_abnf
+-- Serves: one_statement_of_abnf, explanations_change_no_answer
 use Rattle.std.proofs.Common.{◌≡◌, ◌≢◌, ℕ, Bool, inl, inr, List, [], refl, sym, ◌∙◌, ap, map, subst, arith, Option}
 use Rattle.ruletable.specs.Notes.{Said, said}
 use Rattle.ruletable.specs.declared.fault.ReadFault.{ReadFault}
@@ -39,12 +39,12 @@ use Rattle.toolrun.proofs.ToldNotesLemmas.{hinted-one, told-one}
 use Rattle.toolrun.specs.ToldNotes.{HintedNotes, ToldNotes, WhyNoted}
 
 -- each line has one answer
-abbrev AnswersAreOne : AbnfSettings → Type 0
+abbrev pub AnswersAreOne : AbnfSettings → Type 0
 AnswersAreOne settings = (rules : List Rule) (judged : ℕ) (line : List ℕ) (a b : Answer)
     → AnswersFor rules judged settings line a → AnswersFor rules judged settings line b → a ≡ b
 
 -- the notes on redefinitions are one list
-one_again : (definitions : List Definition) (a b : List Said) → AreAgain definitions a → AreAgain definitions b → a ≡ b
+pub one_again : (definitions : List Definition) (a b : List Said) → AreAgain definitions a → AreAgain definitions b → a ≡ b
 one_again definitions a b g h =
     let names = those_same (Contains (again_in definitions)) g.are_those h.are_those in
     g.all ∙ ap (map (said Redefined)) names ∙ sym h.all
@@ -66,19 +66,19 @@ HintsAreOne = (text : List ℕ) (settings : AbnfSettings) (a b : List ℕ) → A
 
 module _ (settings : AbnfSettings) (input : Input) where
   -- what a run of these definitions states without explanations
-  abbrev PlainOf : List Definition → Reply → Type 0
+  abbrev pub PlainOf : List Definition → Reply → Type 0
   PlainOf definitions reply = steps.Replies
       (Lines (AnswersFor (all_rules definitions) (judged_of definitions (rule_given settings)) settings)
       (form_of settings) input) (LinesEnd (form_of settings) input) (place_taken (form_of settings).limit input) reply
 
-  one_run : AnswersAreOne settings → (definitions : List Definition) (a b : Reply) → PlainOf definitions a
+  pub one_run : AnswersAreOne settings → (definitions : List Definition) (a b : Reply) → PlainOf definitions a
       → PlainOf definitions b → a.status ≢ 5 → b.status ≢ 5 → a ≡ b
   one_run one definitions a b r q m n =
       let rules = all_rules definitions in
       let judged = judged_of definitions (rule_given settings) in
       one_plain (AnswersFor rules judged settings) (one rules judged) (form_of settings) input a b r q
 
-  notes_are_one : (definitions : List Definition) (a b : List Said) → AreNotesOn definitions (rule_given settings) a
+  pub notes_are_one : (definitions : List Definition) (a b : List Said) → AreNotesOn definitions (rule_given settings) a
       → AreNotesOn definitions (rule_given settings) b → a ≡ b
   notes_are_one definitions = notes_same (file_rules definitions) (all_rules definitions) (again_in definitions)
       (earlies (body_of core_list) 0 [] definitions) (rule_given settings)
@@ -173,7 +173,7 @@ module _ (settings : AbnfSettings) (input : Input) where
             (told text (rule_given settings) note)
 
 -- two replies that are one, but for what explains them
-same_twice : (asked : Bool) (a b p q : Reply) → SameButWhy asked a p → SameButWhy asked b q → p ≡ q
+pub same_twice : (asked : Bool) (a b p q : Reply) → SameButWhy asked a p → SameButWhy asked b q → p ≡ q
     → SameButWhy asked a b
 same_twice asked a b p q g h is = record {
   out = g.out ∙ ap (λ r. r.out) is ∙ sym h.out;

@@ -1,5 +1,5 @@
 //! Laws of what is stated for a grammar in ABNF and an input: there is at most one answer.
-ghost use Rattle.std.specs.Prelude.{◌≡◌, ◌≢◌, ℕ, List, []};
+ghost use Rattle.std.specs.Prelude.{◌≡◌, ◌≢◌, ℕ, Bool, true, List, []};
 ghost use Rattle.ruletable.specs.declared.fault.ReadFault.{ReadFault};
 ghost use Rattle.abnfexplain.specs.AbnfExplained.{Explains};
 ghost use Rattle.abnfread.specs.AbnfReading.{IsFaultOf, Reads};
@@ -10,7 +10,7 @@ ghost use Rattle.linejudge.specs.LineRefusals.{SameButWhy};
 ghost use Rattle.toolrun.specs.Input.{Input};
 ghost use Rattle.toolrun.specs.Explained.{IsLongReply};
 ghost use Rattle.toolrun.specs.Reply.{Reply};
-ghost use Rattle.abnfrun.specs.AbnfSettings.{AbnfSettings};
+ghost use Rattle.abnfrun.specs.AbnfSettings.{AbnfSettings, explained_by};
 
 use abnfcheck::{furthest_is_found, one_name_chain};
 use abnfexplain::{one_explanation_of_abnf, one_note_explanation_of_abnf};
@@ -50,6 +50,19 @@ pub fn one_statement_of_abnf()
     one_note_explanation_of_abnf();
     one_name_chain();
     one_text_of_abnf_hints();
+    one_reading();
+    furthest_is_found();
+    utf8_is_decided();
+}
+
+/// States that explanations change no answer: a text and an input have the same output, status and bytes taken with and
+/// without explanations, but where the status is 5, after a failed allocation.
+pub fn explanations_change_no_answer()
+    ensures { (text : List ℕ) (settings : AbnfSettings) (asked : Bool) (input : Input) (notes others : List ℕ)
+        (a b : Reply) → AbnfStates text settings input notes a →
+        AbnfStates text (explained_by asked settings) input others b → a.status ≢ 5 → b.status ≢ 5 →
+        SameButWhy true a b }
+{
     one_reading();
     furthest_is_found();
     utf8_is_decided();
