@@ -44,7 +44,8 @@ AnswersAreOne settings = (rules : List Rule) (judged : ℕ) (line : List ℕ) (a
     → AnswersFor rules judged settings line a → AnswersFor rules judged settings line b → a ≡ b
 
 -- the notes on redefinitions are one list
-pub one_again : (definitions : List Definition) (a b : List Said) → AreAgain definitions a → AreAgain definitions b → a ≡ b
+pub one_again : (definitions : List Definition) (a b : List Said) → AreAgain definitions a → AreAgain definitions b
+    → a ≡ b
 one_again definitions a b g h =
     let names = those_same (Contains (again_in definitions)) g.are_those h.are_those in
     g.all ∙ ap (map (said Redefined)) names ∙ sym h.all
@@ -97,13 +98,13 @@ module _ (settings : AbnfSettings) (input : Input) where
     abbrev IsAlmost : List ℕ → Reply → Type 0
     IsAlmost notes reply = (plain : Reply) × IsStated notes plain × SameButWhy settings.explain reply plain
 
-    itself : (notes : List ℕ) (reply : Reply) → IsStated notes reply → IsAlmost notes reply
-    itself notes reply is =
+    is_itself : (notes : List ℕ) (reply : Reply) → IsStated notes reply → IsAlmost notes reply
+    is_itself notes reply is =
         (reply, is, record { out = refl; status = refl; taken = refl; err = λ unasked. refl })
 
     parts_of_states : (notes : List ℕ) (reply : Reply) → AbnfStates text settings input notes reply → reply.status ≢ 5
         → IsAlmost notes reply
-    parts_of_states notes reply (refused fault why f m told) ample = itself notes reply (inl (record {
+    parts_of_states notes reply (refused fault why f m told) ample = is_itself notes reply (inl (record {
       fault = fault;
       is_fault = f;
       other = m;
@@ -114,13 +115,13 @@ module _ (settings : AbnfSettings) (input : Input) where
     }))
     parts_of_states notes reply (unexplained fault f m asked) ample = absurd (ample refl)
     parts_of_states notes reply (noted ds said told r are tells bad mode) ample =
-        itself notes reply (inr (record {
+        is_itself notes reply (inr (record {
           definitions = ds;
           reads = r;
           states = is_noted said told are tells bad mode;
         }))
     parts_of_states notes reply (checked ds said told r are tells fine mode) ample =
-        itself notes reply (inr (record {
+        is_itself notes reply (inr (record {
           definitions = ds;
           reads = r;
           states = is_checked said told are tells fine mode;
@@ -140,14 +141,14 @@ module _ (settings : AbnfSettings) (input : Input) where
         )
     parts_of_states notes reply (cut_notes ds said told r are cut mode) ample = absurd (ample refl)
     parts_of_states notes reply (again ds said told r are tells some mode) ample =
-        itself notes reply (inr (record {
+        is_itself notes reply (inr (record {
           definitions = ds;
           reads = r;
           states = is_again said told are tells some mode;
         }))
     parts_of_states notes reply (cut_again ds said told r are cut mode) ample = absurd (ample refl)
     parts_of_states notes reply (printed ds r are mode) ample =
-        itself notes reply (inr (record { definitions = ds; reads = r; states = is_printed are mode }))
+        is_itself notes reply (inr (record { definitions = ds; reads = r; states = is_printed are mode }))
     parts_of_states notes reply (no_memory within) ample = absurd (ample refl)
 
     one_of_text : ExplanationsAreOne → NotesAreOne → HintsAreOne → AnswersAreOne settings

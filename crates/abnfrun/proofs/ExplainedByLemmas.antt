@@ -32,8 +32,8 @@ module _ (settings : AbnfSettings) (input : Input) (text : List ℕ) where
   abbrev IsBarely : Reply → Type 0
   IsBarely reply = (bare : Reply) × IsBare bare × SameButWhy true reply bare
 
-  itself : (reply : Reply) → IsBare reply → IsBarely reply
-  itself reply is = (reply, is, record { out = refl; status = refl; taken = refl; err = λ asked. refl })
+  is_itself : (reply : Reply) → IsBare reply → IsBarely reply
+  is_itself reply is = (reply, is, record { out = refl; status = refl; taken = refl; err = λ asked. refl })
 
   bare_parts : (notes : List ℕ) (reply : Reply) → AbnfStates text settings input notes reply → reply.status ≢ 5
       → IsBarely reply
@@ -52,9 +52,9 @@ module _ (settings : AbnfSettings) (input : Input) (text : List ℕ) where
   )
   bare_parts notes reply (unexplained fault f m asked) ample = absurd (ample refl)
   bare_parts notes reply (noted ds said told r are tells bad mode) ample =
-      itself reply (inr (record { definitions = ds; reads = r; states = is_noted said [] are refl bad mode }))
+      is_itself reply (inr (record { definitions = ds; reads = r; states = is_noted said [] are refl bad mode }))
   bare_parts notes reply (checked ds said told r are tells fine mode) ample =
-      itself reply (inr (record { definitions = ds; reads = r; states = is_checked said [] are refl fine mode }))
+      is_itself reply (inr (record { definitions = ds; reads = r; states = is_checked said [] are refl fine mode }))
   bare_parts notes reply (judges ds said told stated r are tells fine mode run) ample =
       let rules = all_rules ds in
       let judged = judged_of ds (rule_given settings) in
@@ -75,10 +75,10 @@ module _ (settings : AbnfSettings) (input : Input) (text : List ℕ) where
       )
   bare_parts notes reply (cut_notes ds said told r are cut mode) ample = absurd (ample refl)
   bare_parts notes reply (again ds said told r are tells some mode) ample =
-      itself reply (inr (record { definitions = ds; reads = r; states = is_again said [] are refl some mode }))
+      is_itself reply (inr (record { definitions = ds; reads = r; states = is_again said [] are refl some mode }))
   bare_parts notes reply (cut_again ds said told r are cut mode) ample = absurd (ample refl)
   bare_parts notes reply (printed ds r are mode) ample =
-      itself reply (inr (record { definitions = ds; reads = r; states = is_printed are mode }))
+      is_itself reply (inr (record { definitions = ds; reads = r; states = is_printed are mode }))
   bare_parts notes reply (no_memory within) ample = absurd (ample refl)
 
   one_bare : AnswersAreOne settings → (a b : Reply) → IsBare a → IsBare b → a.status ≢ 5 → b.status ≢ 5 → a ≡ b

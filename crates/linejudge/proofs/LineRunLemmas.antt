@@ -233,7 +233,7 @@ module _ (Told : List ℕ → Answer → Type 0) (asked : Bool) (Refusal : List 
       why_there : (stop : Stop) (why : List ℕ) (b : Bool) → asked ≡ true → why ≡ (if b then [] else stop_lines stop)
           → WhyTo asked input (record { at = at; lacks = b }) stop why
       why_there stop why true is same =
-        nothing_explains (asked && false) (λ t. t ≡ stop_lines stop) why (rw is refl) same
+          nothing_explains (asked && false) (λ t. t ≡ stop_lines stop) why (rw is refl) same
       why_there stop why false is same = if_asked (asked && true) (λ t. t ≡ stop_lines stop) why (rw is refl) same
 
       -- how the run ends there
@@ -377,7 +377,7 @@ module _ (Told : List ℕ → Answer → Type 0) (asked : Bool) (Refusal : List 
             fails_at (behind at n said) more.lacks added more.text.items (omega arith)
             (one_more at text line n said lines stands says)
             (told_more told.lacks more.lacks at line n said told.text.items more.text.items refusals stands says adds)
-          part
+            part
         fails_in added more (of_end last why ends same) part = fails_last last why ends part
 
         pub fails_there : (more : Explanations) → IsStep Told asked Refusal form input at mid new told more (Err fault)
