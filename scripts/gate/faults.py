@@ -12,6 +12,7 @@ import argparse
 import collections
 import os
 import pathlib
+import re
 import resource
 import shutil
 import subprocess
@@ -229,17 +230,31 @@ def explained_beginnings(told):
     return [b"".join(lines[:count]) for count in sorted(counts)]
 
 
+def not_explained(run):
+    """Returns what may stand of the explanations of rejected lines where there is no memory for one of them: those
+    before it, and a line in its place."""
+    lines = run.told.splitlines(keepends=True)
+    heads = [(at, re.match(rb"line (\d+)(,| ends too early:)", line)) for at, line in enumerate(lines)]
+    return [b"%sline %s: no\n  not explained: out of memory\n" % (b"".join(lines[:at]), head[1])
+            for at, head in heads if head]
+
+
 def refuse_each(tools, run, **more):
     """Refuses each growth of a run in turn. Returns how many it has, and how many of them were made good."""
     fronts = [b"".join(run.texts[:k]) for k in range(len(run.texts) + 1)]
     number, good = 1, 0
     messages = explained_beginnings(run.told) if "-x" in run.words else [b""]
     messages += [run.told] * (run.program == "abnfx")
-    stops = [it + b"out of memory\n" for it in messages]
+    cut = not_explained(run) if run.program == "abnfi" and "-x" in run.words else []
+    stops = [it + b"out of memory\n" for it in messages + cut]
+    # the message in which a run ends stands without its explanation
+    last = b"".join(re.findall(rb"^line \d+ longer than .*\n", run.told, re.MULTILINE))
     while (ended := tools.run(run, GROWTH=number, **more)).refused:
         right = ended.out in fronts and ended.err in stops and ended.status == 5
         if is_as_stated(run, ended) and may_go_on(run, number):
             right, good = True, good + 1
+        if ended.err in [it + last for it in cut]:
+            right = (ended.out, ended.status) == (whole(run), run.status)
         tools.expect(run, ended, right, f"growth {number} refused {more}")
         number += 1
     tools.expect(run, ended, number > 1 and is_as_stated(run, ended), "no growth refused")
