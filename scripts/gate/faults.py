@@ -438,21 +438,31 @@ def stack(tools):
 
 # Bytes of memory that the system gives to a run.
 BOUND = 20_000_000
+# Runs whose sets of items need more, and how many bytes they get.
+BOUNDED = [
+    (abnf("a line of 10,001 letters", b's = "a" s "a" / "a"', b"a\n" + b"a" * 10001 + b"\n", [YES],
+          b"out of memory\n", 5, words=["-w"]), BOUND),
+    (abnf("a line whose explanation needs as much again", b's = "a" s "a" / "a"', b"a\n" + b"a" * 2000 + b"b\na\n",
+          [YES, NO, YES], b"line 2: no\n  not explained: out of memory\n", 1, words=["-x"]), 25_000_000),
+]
 
 
-def bound(tools):
-    """A line whose sets of items need more memory than the system gives."""
-    run = abnf("a line of 10,001 letters", b's = "a" s "a" / "a"', b"a\n" + b"a" * 10001 + b"\n", [YES],
-               b"out of memory\n", 5, words=["-w"])
-    if not tools.has(run.program):
-        return
+def run_within(tools, run, size):
+    """Runs a program to which the system gives so many bytes of memory."""
     file = tools.folder / "grammar"
     file.write_bytes(run.grammar)
     ran = subprocess.run([TOP / "bin" / run.program, *run.words, file], input=run.given, capture_output=True,
-                         preexec_fn=lambda: resource.setrlimit(resource.RLIMIT_AS, (BOUND, BOUND)), timeout=120,
+                         preexec_fn=lambda: resource.setrlimit(resource.RLIMIT_AS, (size, size)), timeout=120,
                          check=False)
-    ended = Ended(ran.stdout, ran.stderr, ran.returncode, False)
-    tools.expect(run, ended, is_as_stated(run, ended), f"{BOUND} bytes of memory")
+    return Ended(ran.stdout, ran.stderr, ran.returncode, False)
+
+
+def bound(tools):
+    """Lines whose judging, and whose explanation, needs more memory than the system gives."""
+    for run, size in BOUNDED:
+        if tools.has(run.program):
+            ended = run_within(tools, run, size)
+            tools.expect(run, ended, is_as_stated(run, ended), f"{size} bytes of memory")
 
 
 def main():
