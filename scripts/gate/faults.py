@@ -12,6 +12,7 @@ import argparse
 import collections
 import os
 import pathlib
+import re
 import resource
 import shutil
 import subprocess
@@ -229,17 +230,31 @@ def explained_beginnings(told):
     return [b"".join(lines[:count]) for count in sorted(counts)]
 
 
+def not_explained(run):
+    """Returns what may stand of the explanations of rejected lines where there is no memory for one of them: those
+    before it, and a line in its place."""
+    lines = run.told.splitlines(keepends=True)
+    heads = [(at, re.match(rb"line (\d+)(,| ends too early:)", line)) for at, line in enumerate(lines)]
+    return [b"%sline %s: no\n  not explained: out of memory\n" % (b"".join(lines[:at]), head[1])
+            for at, head in heads if head]
+
+
 def refuse_each(tools, run, **more):
     """Refuses each growth of a run in turn. Returns how many it has, and how many of them were made good."""
     fronts = [b"".join(run.texts[:k]) for k in range(len(run.texts) + 1)]
     number, good = 1, 0
     messages = explained_beginnings(run.told) if "-x" in run.words else [b""]
     messages += [run.told] * (run.program == "abnfx")
-    stops = [it + b"out of memory\n" for it in messages]
+    cut = not_explained(run) if run.program == "abnfi" and "-x" in run.words else []
+    stops = [it + b"out of memory\n" for it in messages + cut]
+    # the message in which a run ends stands without its explanation
+    last = b"".join(re.findall(rb"^line \d+ longer than .*\n", run.told, re.MULTILINE))
     while (ended := tools.run(run, GROWTH=number, **more)).refused:
         right = ended.out in fronts and ended.err in stops and ended.status == 5
         if is_as_stated(run, ended) and may_go_on(run, number):
             right, good = True, good + 1
+        if ended.err in [it + last for it in cut]:
+            right = (ended.out, ended.status) == (whole(run), run.status)
         tools.expect(run, ended, right, f"growth {number} refused {more}")
         number += 1
     tools.expect(run, ended, number > 1 and is_as_stated(run, ended), "no growth refused")
@@ -423,21 +438,31 @@ def stack(tools):
 
 # Bytes of memory that the system gives to a run.
 BOUND = 20_000_000
+# Runs whose sets of items need more, and how many bytes they get.
+BOUNDED = [
+    (abnf("a line of 10,001 letters", b's = "a" s "a" / "a"', b"a\n" + b"a" * 10001 + b"\n", [YES],
+          b"out of memory\n", 5, words=["-w"]), BOUND),
+    (abnf("a line whose explanation needs as much again", b's = "a" s "a" / "a"', b"a\n" + b"a" * 2000 + b"b\na\n",
+          [YES, NO, YES], b"line 2: no\n  not explained: out of memory\n", 1, words=["-x"]), 25_000_000),
+]
 
 
-def bound(tools):
-    """A line whose sets of items need more memory than the system gives."""
-    run = abnf("a line of 10,001 letters", b's = "a" s "a" / "a"', b"a\n" + b"a" * 10001 + b"\n", [YES],
-               b"out of memory\n", 5, words=["-w"])
-    if not tools.has(run.program):
-        return
+def run_within(tools, run, size):
+    """Runs a program to which the system gives so many bytes of memory."""
     file = tools.folder / "grammar"
     file.write_bytes(run.grammar)
     ran = subprocess.run([TOP / "bin" / run.program, *run.words, file], input=run.given, capture_output=True,
-                         preexec_fn=lambda: resource.setrlimit(resource.RLIMIT_AS, (BOUND, BOUND)), timeout=120,
+                         preexec_fn=lambda: resource.setrlimit(resource.RLIMIT_AS, (size, size)), timeout=120,
                          check=False)
-    ended = Ended(ran.stdout, ran.stderr, ran.returncode, False)
-    tools.expect(run, ended, is_as_stated(run, ended), f"{BOUND} bytes of memory")
+    return Ended(ran.stdout, ran.stderr, ran.returncode, False)
+
+
+def bound(tools):
+    """Lines whose judging, and whose explanation, needs more memory than the system gives."""
+    for run, size in BOUNDED:
+        if tools.has(run.program):
+            ended = run_within(tools, run, size)
+            tools.expect(run, ended, is_as_stated(run, ended), f"{size} bytes of memory")
 
 
 def main():

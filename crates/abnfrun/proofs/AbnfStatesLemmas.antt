@@ -1,6 +1,6 @@
 -- What is stated for a text in ABNF, settings and an input is one, but for want of memory.
--- Serves: one_statement_of_abnf
-use Rattle.std.proofs.Common.{◌≡◌, ◌≢◌, ℕ, inl, inr, List, [], refl, sym, ◌∙◌, ap, map, subst, arith, Option}
+-- Serves: one_statement_of_abnf, explanations_change_no_answer
+use Rattle.std.proofs.Common.{◌≡◌, ◌≢◌, ℕ, Bool, inl, inr, List, [], refl, sym, ◌∙◌, ap, map, subst, arith, Option}
 use Rattle.ruletable.specs.Notes.{Said, said}
 use Rattle.ruletable.specs.declared.fault.ReadFault.{ReadFault}
 use Rattle.ruletable.specs.declared.fault.ReadFault.TheVariants.{TooLong}
@@ -20,13 +20,14 @@ use Rattle.abnfprint.specs.AbnfReadBack.{file_rules}
 use Rattle.abnfrun.specs.AbnfNoted.{all_rules, again_in, judged_of, AreNotesOn, IsRefusedFor, AreAgain}
 use Rattle.abnfrun.specs.AbnfNoted.{rule_given}
 use Rattle.abnfrun.specs.AbnfTextHints.{AreTextHints}
-use Rattle.abnfrun.specs.AbnfReply.{AnswersFor, RefusalFor, form_of, printed_rules, JudgeReply}
+use Rattle.abnfrun.specs.AbnfReply.{AnswersFor, RefusalFor, form_of, printed_rules}
 use Rattle.abnfrun.proofs.IsAnswerOnLemmas.{FurthestIsOne}
 use Rattle.abnfrun.proofs.IsAnswerToLemmas.{TextIsOne, one_answer}
-use Rattle.letters.specs.declared.alphabet.Alphabet.{Alphabet}
-use Rattle.refusedlines.specs.Refusals.{IsRefusalTold}
 use Rattle.linejudge.specs.declared.answers.Answer.{Answer}
-use Rattle.linejudge.proofs.LinesReplyLemmas.{one_lines_reply}
+use Rattle.linejudge.specs.InputLines.{Lines, LinesEnd, place_taken}
+use Rattle.linejudge.specs.LineRefusals.{SameButWhy}
+use Rattle.linejudge.proofs.LineRunLemmas.{same_but_why}
+use Rattle.linejudge.proofs.LinesReplyLemmas.{one_plain}
 use Rattle.toolrun.specs.Input.{Input}
 use Rattle.toolrun.specs.Explained.{Explained, IsLongReply}
 use Rattle.toolrun.specs.Reply.{Reply, refusal, unexplained_fault}
@@ -38,17 +39,13 @@ use Rattle.toolrun.proofs.ToldNotesLemmas.{hinted-one, told-one}
 use Rattle.toolrun.specs.ToldNotes.{HintedNotes, ToldNotes, WhyNoted}
 
 -- each line has one answer
-abbrev AnswersAreOne : AbnfSettings → Type 0
+abbrev pub AnswersAreOne : AbnfSettings → Type 0
 AnswersAreOne settings = (rules : List Rule) (judged : ℕ) (line : List ℕ) (a b : Answer)
     → AnswersFor rules judged settings line a → AnswersFor rules judged settings line b → a ≡ b
 
--- a refused line is explained by one text
-abbrev pub RefusalsAreOne : Type 0
-RefusalsAreOne = (alphabet : Alphabet) (rules : List Rule) (judged : ℕ) (line : List ℕ) (number : ℕ) (a b : List ℕ)
-    → IsRefusalTold alphabet rules judged line number a → IsRefusalTold alphabet rules judged line number b → a ≡ b
-
 -- the notes on redefinitions are one list
-one_again : (definitions : List Definition) (a b : List Said) → AreAgain definitions a → AreAgain definitions b → a ≡ b
+pub one_again : (definitions : List Definition) (a b : List Said) → AreAgain definitions a → AreAgain definitions b
+    → a ≡ b
 one_again definitions a b g h =
     let names = those_same (Contains (again_in definitions)) g.are_those h.are_those in
     g.all ∙ ap (map (said Redefined)) names ∙ sym h.all
@@ -69,25 +66,20 @@ HintsAreOne = (text : List ℕ) (settings : AbnfSettings) (a b : List ℕ) → A
     → AreTextHints text settings b → a ≡ b
 
 module _ (settings : AbnfSettings) (input : Input) where
-  -- what a run of these definitions states
-  abbrev RunOf : List Definition → Reply → Type 0
-  RunOf definitions = JudgeReply (all_rules definitions) (judged_of definitions (rule_given settings)) settings input
+  -- what a run of these definitions states without explanations
+  abbrev pub PlainOf : List Definition → Reply → Type 0
+  PlainOf definitions reply = steps.Replies
+      (Lines (AnswersFor (all_rules definitions) (judged_of definitions (rule_given settings)) settings)
+      (form_of settings) input) (LinesEnd (form_of settings) input) (place_taken (form_of settings).limit input) reply
 
-  one_run : AnswersAreOne settings → RefusalsAreOne → (definitions : List Definition) (a b : Reply)
-      → RunOf definitions a → RunOf definitions b → a.status ≢ 5 → b.status ≢ 5 → a ≡ b
-  one_run one refusal definitions a b (steps.replied_told r g) (steps.replied_told q h) m n =
+  pub one_run : AnswersAreOne settings → (definitions : List Definition) (a b : Reply) → PlainOf definitions a
+      → PlainOf definitions b → a.status ≢ 5 → b.status ≢ 5 → a ≡ b
+  one_run one definitions a b r q m n =
       let rules = all_rules definitions in
       let judged = judged_of definitions (rule_given settings) in
-      one_lines_reply (AnswersFor rules judged settings) (one rules judged) (form_of settings) input settings.explain
-      (RefusalFor rules judged settings) (refusal settings.options.letters rules judged) a b g h
-  one_run one refusal definitions a b (steps.unexplained plain replies told tells lack) h m n = absurd (m refl)
-  one_run one refusal definitions a b (steps.cut_short point out told reply before tells replies front) h m n =
-      absurd (m refl)
-  one_run one refusal definitions a b g (steps.unexplained plain replies told tells lack) m n = absurd (n refl)
-  one_run one refusal definitions a b g (steps.cut_short point out told reply before tells replies front) m n =
-      absurd (n refl)
+      one_plain (AnswersFor rules judged settings) (one rules judged) (form_of settings) input a b r q
 
-  notes_are_one : (definitions : List Definition) (a b : List Said) → AreNotesOn definitions (rule_given settings) a
+  pub notes_are_one : (definitions : List Definition) (a b : List Said) → AreNotesOn definitions (rule_given settings) a
       → AreNotesOn definitions (rule_given settings) b → a ≡ b
   notes_are_one definitions = notes_same (file_rules definitions) (all_rules definitions) (again_in definitions)
       (earlies (body_of core_list) 0 [] definitions) (rule_given settings)
@@ -99,12 +91,20 @@ module _ (settings : AbnfSettings) (input : Input) where
         (λ definitions notes. IsRefusedFor definitions (rule_given settings))
         (λ definitions notes. IsRefusedFor definitions (rule_given settings) → ⊥) AreAgain
         (HintedNotes settings (ExplainsAbnfNote text) (AreTextHints text settings))
-        (ToldNotes settings (ExplainsAbnfNote text)) RunOf
+        (ToldNotes settings (ExplainsAbnfNote text)) PlainOf
         (λ definitions. printed_rules (file_rules definitions)) settings.mode
 
+    -- it is stated, but for what explains a run
+    abbrev IsAlmost : List ℕ → Reply → Type 0
+    IsAlmost notes reply = (plain : Reply) × IsStated notes plain × SameButWhy settings.explain reply plain
+
+    is_itself : (notes : List ℕ) (reply : Reply) → IsStated notes reply → IsAlmost notes reply
+    is_itself notes reply is =
+        (reply, is, record { out = refl; status = refl; taken = refl; err = λ unasked. refl })
+
     parts_of_states : (notes : List ℕ) (reply : Reply) → AbnfStates text settings input notes reply → reply.status ≢ 5
-        → IsStated notes reply
-    parts_of_states notes reply (refused fault why f m told) ample = inl (record {
+        → IsAlmost notes reply
+    parts_of_states notes reply (refused fault why f m told) ample = is_itself notes reply (inl (record {
       fault = fault;
       is_fault = f;
       other = m;
@@ -112,54 +112,89 @@ module _ (settings : AbnfSettings) (input : Input) where
       explains = told;
       none = refl;
       told = refl;
-    })
+    }))
     parts_of_states notes reply (unexplained fault f m asked) ample = absurd (ample refl)
     parts_of_states notes reply (noted ds said told r are tells bad mode) ample =
-        inr (record { definitions = ds; reads = r; states = is_noted said told are tells bad mode })
+        is_itself notes reply (inr (record {
+          definitions = ds;
+          reads = r;
+          states = is_noted said told are tells bad mode;
+        }))
     parts_of_states notes reply (checked ds said told r are tells fine mode) ample =
-        inr (record { definitions = ds; reads = r; states = is_checked said told are tells fine mode })
+        is_itself notes reply (inr (record {
+          definitions = ds;
+          reads = r;
+          states = is_checked said told are tells fine mode;
+        }))
     parts_of_states notes reply (judges ds said told stated r are tells fine mode run) ample =
-        inr (record { definitions = ds; reads = r; states = is_run said told stated are tells fine mode run })
+        let rules = all_rules ds in
+        let judged = judged_of ds (rule_given settings) in
+        let plain = same_but_why (AnswersFor rules judged settings) settings.explain (RefusalFor rules judged settings)
+        (form_of settings) input stated run ample in (
+          plain.0,
+          inr (record {
+            definitions = ds;
+            reads = r;
+            states = is_run said told plain.0 are tells fine mode plain.1;
+          }),
+          plain.2,
+        )
     parts_of_states notes reply (cut_notes ds said told r are cut mode) ample = absurd (ample refl)
     parts_of_states notes reply (again ds said told r are tells some mode) ample =
-        inr (record { definitions = ds; reads = r; states = is_again said told are tells some mode })
+        is_itself notes reply (inr (record {
+          definitions = ds;
+          reads = r;
+          states = is_again said told are tells some mode;
+        }))
     parts_of_states notes reply (cut_again ds said told r are cut mode) ample = absurd (ample refl)
     parts_of_states notes reply (printed ds r are mode) ample =
-        inr (record { definitions = ds; reads = r; states = is_printed are mode })
+        is_itself notes reply (inr (record { definitions = ds; reads = r; states = is_printed are mode }))
     parts_of_states notes reply (no_memory within) ample = absurd (ample refl)
 
-    one_of_text : ExplanationsAreOne → NotesAreOne → HintsAreOne → AnswersAreOne settings → RefusalsAreOne
+    one_of_text : ExplanationsAreOne → NotesAreOne → HintsAreOne → AnswersAreOne settings
         → (notes others : List ℕ) (a b : Reply) → IsStated notes a → IsStated others b → a.status ≢ 5
         → b.status ≢ 5 → (notes ≡ others) × (a ≡ b)
-    one_of_text explained told hints one refusal = one_stated (IsFaultOf text)
+    one_of_text explained told hints one = one_stated (IsFaultOf text)
         (λ fault. Explained settings (Explains text fault)) (Reads text)
         (λ definitions. AreNotesOn definitions (rule_given settings))
         (λ definitions notes. IsRefusedFor definitions (rule_given settings))
         (λ definitions notes. IsRefusedFor definitions (rule_given settings) → ⊥) AreAgain
         (HintedNotes settings (ExplainsAbnfNote text) (AreTextHints text settings))
-        (ToldNotes settings (ExplainsAbnfNote text)) RunOf
+        (ToldNotes settings (ExplainsAbnfNote text)) PlainOf
         (λ definitions. printed_rules (file_rules definitions)) settings.mode (one-reading text) (one-fault text)
         (λ fault. one-explained settings (Explains text fault) (explained text fault)) (no-fault text) notes_are_one
         one_again
         (hinted-one settings (ExplainsAbnfNote text) (AreTextHints text settings) one_line (hints text settings))
         (λ notes. told-one one_line)
-        (λ definitions notes bad fine. fine bad) (one_run one refusal)
+        (λ definitions notes bad fine. fine bad) (one_run one)
       where
         one_line : (note : Said) (a b : List ℕ) → WhyNoted settings (ExplainsAbnfNote text) note a
             → WhyNoted settings (ExplainsAbnfNote text) note b → a ≡ b
         one_line note = one-explained settings (ExplainsAbnfNote text (rule_given settings) note)
             (told text (rule_given settings) note)
 
--- one list of notes and one reply
-pub one_statement : ExplanationsAreOne → NotesAreOne → HintsAreOne → TextIsOne → FurthestIsOne → RefusalsAreOne
+-- two replies that are one, but for what explains them
+pub same_twice : (asked : Bool) (a b p q : Reply) → SameButWhy asked a p → SameButWhy asked b q → p ≡ q
+    → SameButWhy asked a b
+same_twice asked a b p q g h is = record {
+  out = g.out ∙ ap (λ r. r.out) is ∙ sym h.out;
+  status = g.status ∙ ap (λ r. r.status) is ∙ sym h.status;
+  taken = g.taken ∙ ap (λ r. r.taken) is ∙ sym h.taken;
+  err = λ unasked. g.err unasked ∙ ap (λ r. r.err) is ∙ sym (h.err unasked);
+}
+
+-- one list of notes, and one reply but for what explains it
+pub one_statement : ExplanationsAreOne → NotesAreOne → HintsAreOne → TextIsOne → FurthestIsOne
     → (text : List ℕ) (settings : AbnfSettings) (input : Input) (notes others : List ℕ) (a b : Reply) →
     AbnfStates text settings input notes a → AbnfStates text settings input others b → a.status ≢ 5 → b.status ≢ 5
-    → (notes ≡ others) × (a ≡ b)
-one_statement explained told hints one furthest refusal text settings input notes others a b g h m n =
-    one_of_text settings input text explained told hints
+    → (notes ≡ others) × SameButWhy settings.explain a b
+one_statement explained told hints one furthest text settings input notes others a b g h m n =
+    let p = parts_of_states settings input text notes a g m in
+    let q = parts_of_states settings input text others b h n in
+    let same = one_of_text settings input text explained told hints
     (λ rules judged line. one_answer one furthest settings.options.letters rules judged line
-    settings.options.viable) refusal notes others a b (parts_of_states settings input text notes a g m)
-    (parts_of_states settings input text others b h n) m n
+    settings.options.viable) notes others p.0 q.0 p.1 q.1 (λ e. m (p.2.status ∙ e)) (λ e. n (q.2.status ∙ e)) in
+    (same.0, same_twice settings.explain a b p.0 q.0 p.2 q.2 same.1)
 
 -- what spells definitions is not too long
 long-unread : {text : List ℕ} {definitions : List Definition} → IsFaultOf text TooLong → Reads text definitions → ⊥

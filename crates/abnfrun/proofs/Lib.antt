@@ -3,6 +3,7 @@ pub mod AbnfStatesLemmas
 pub mod AbnfTextHintsLemmas
 pub mod AllRulesLemmas
 pub mod AreRedefinitionsLemmas
+mod ExplainedByLemmas
 pub mod IsAnswerOnLemmas
 pub mod IsAnswerToLemmas
 pub mod OpenAbnfLemmas

@@ -24,6 +24,7 @@ use Rattle.linejudge.specs.declared.answers.Answer.TheVariants.{Yes, No, NoAfter
 use Rattle.linejudge.specs.declared.line.LineForm.{LineForm}
 use Rattle.linejudge.specs.declared.reached.At.{At}
 use Rattle.linejudge.proofs.KeptLineLemmas.{kept_short}
+use Rattle.linejudge.proofs.LineRunLemmas.{whole_states}
 use Rattle.linejudge.proofs.LinesLemmas.{ends_quietly}
 use Rattle.ruletable.specs.Notes.{Said}
 use Rattle.ruletable.specs.Rules as table
@@ -31,7 +32,6 @@ use Rattle.toolrun.specs.Input.{Input}
 use Rattle.toolrun.specs.Reply.{Reply}
 use Rattle.toolrun.specs.Explained.{ExplainedIf}
 use Rattle.toolrun.specs.RunEnd.{more_refused}
-use Rattle.toolrun.specs.RunSteps.{replied_told}
 use Rattle.toolrun.specs.Status.{code_of}
 use Rattle.toolrun.specs.ToldNotes.{HintedNotes}
 use Rattle.toolrun.specs.declared.settings.Mode.TheVariants.{Run}
@@ -176,6 +176,7 @@ open_states text line settings notes told judge said why run is tells one within
     let rules = all_rules is.definitions in
     let judged = judged_of is.definitions (rule_given settings) in
     judges is.definitions notes told (answer_alone settings line said why) is.reads is.are_notes tells is.ready.0 run
-    (replied_told _ (one_line_replies (AnswersFor rules judged settings) settings.explain
-    (RefusalFor rules judged settings) (form_of settings) line said why one (rw (← j.limit) within)
+    (whole_states (AnswersFor rules judged settings) settings.explain (RefusalFor rules judged settings)
+    (form_of settings) (line_alone settings line) _ (one_line_replies (AnswersFor rules judged settings)
+    settings.explain (RefusalFor rules judged settings) (form_of settings) line said why one (rw (← j.limit) within)
     (rw (j.letters, j.viable, j.rules, j.judged) at answers) (rw (j.letters, j.rules, j.judged) at explains)))

@@ -160,9 +160,7 @@ impl Language for AbnfLanguage {
         let Ok(flat) = lowered(alloc, grammar, settings) else {
             return Ok(Ending::Plain(Stop::NoMemory));
         };
-        let Ok(explainer) = explainer_of(alloc, grammar, settings) else {
-            return Ok(Ending::Plain(Stop::NoMemory));
-        };
+        let explainer = explainer_of(alloc, grammar, settings);
         let mut work = Work::new(alloc, &flat);
         let explainer = explainer.as_ref();
         let judge = LineJudge {
@@ -170,6 +168,7 @@ impl Language for AbnfLanguage {
             letters: settings.options.letters,
             viable: settings.options.viable,
             flat: &flat,
+            explains: settings.explain,
             explainer,
         };
         run_lines(alloc, &judge, &mut work, line_form(settings), reader, out)

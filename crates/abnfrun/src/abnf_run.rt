@@ -53,8 +53,10 @@ use toolrun::{Status, run_tool};
 ///   Where `err` fails in the notes, nothing is read, and nothing is written on `out`. Writers that have not failed are
 ///   flushed at the end, `out` first; no clause sees a flush.
 /// - If an allocation fails, the answers before stand whole: `out of memory`, `NoMemory`. If that happens in an
-///   explanation, the fault's line comes before it, without its explanation, or the first notes do, the last perhaps
-///   without its own.
+///   explanation of the grammar, the fault's line comes before it, without its explanation, or the first notes do, the
+///   last perhaps without its own.
+/// - If an allocation fails in the explanation of a line, `line K: no` and `  not explained: out of memory` stand in
+///   its place, and nothing after it is explained. All answers and the status are those without explanations.
 pub fn run_abnf<R: Source, O: Sink, E: Sink>(
     alloc: Global,
     grammar: &[u8],

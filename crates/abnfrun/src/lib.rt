@@ -17,7 +17,7 @@ pub use abnf_language::AbnfLanguage;
 pub use abnf_places::AbnfPlaces;
 pub use abnf_run::run_abnf;
 pub use feed::{Broken, Source, SourceOf};
-pub use laws::{one_reply_of_abnf, one_statement_of_abnf};
+pub use laws::{explanations_change_no_answer, one_reply_of_abnf, one_statement_of_abnf};
 pub use letters::Alphabet;
 pub use linejudge::{Answer, Printed};
 pub use open_law::answers_as_a_run;

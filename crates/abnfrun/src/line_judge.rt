@@ -1,6 +1,5 @@
 //! The lines of an input, judged by a grammar.
 ghost use Rattle.std.specs.Prelude.{◌≡◌, ◌≤◌, ◌+◌, ℕ, Bool, List, None, false, true, length, map, IfOk, IfSome};
-ghost use Rattle.std.specs.Prelude.{is_some};
 ghost use Rattle.abnfread.specs.Element.{Rule};
 ghost use Rattle.abnfread.specs.AbnfViews.{rules_of};
 ghost use Rattle.abnfcheck.specs.Derivable.{AreLetters};
@@ -39,7 +38,10 @@ pub struct LineJudge<'a> {
     pub(crate) viable: bool,
     /// The lowered grammar: with `viable`, its productive parts alone.
     pub(crate) flat: &'a Flat,
-    /// The flat grammar for lines of one symbol more, by which rejected lines are explained, if they are.
+    /// Whether rejected lines are explained.
+    pub(crate) explains: bool,
+    /// The flat grammar for lines of one symbol more, by which rejected lines are explained; `None` if they are not, or
+    /// an allocation failed in making it.
     pub(crate) explainer: Option<&'a Flat>,
     ghost lowered: { viable ≡ false → ∥ IsLowered (rules_of grammar.now.rules) grammar.now.judged flat.now ∥₁ },
     ghost tells: { viable ≡ true → ∥ TellsBeginnings (has letters) (rules_of grammar.now.rules) grammar.now.judged
@@ -173,8 +175,9 @@ fn judge_points(judges: &LineJudge<'_>, work: &mut Work, line: &[u8]) -> Result<
     Ok(Answer::No)
 }
 
-/// Returns the lines that explain a rejected line of that number, by the flat grammar for lines of one symbol more.
-/// `Memory` if an allocation fails.
+/// Returns the lines that explain a rejected line of that number, by the flat grammar for lines of one symbol more. It
+/// frees all memory that it takes but that of an automaton, which serves the next lines. `Memory` if an allocation
+/// fails; then that automaton is freed too.
 fn explain_line(
     judges: &LineJudge<'_>,
     more: &Flat,
@@ -185,7 +188,7 @@ fn explain_line(
     requires explains { ExplainsLines (rules_of judges.now.grammar.now.rules) judges.now.grammar.now.judged
         judges.now.letters judges.now.flat.now.limit more.now }
     requires more { IfSome work.old.explainer (λ a. a ≡ more.now) }
-    ensures same { work.new.engines.automaton ≡ work.old.engines.automaton }
+    ensures same { work.new.engines ≡ work.old.engines }
     ensures more { IfSome work.new.explainer (λ a. a ≡ more.now) }
     ensures told { IfOk result (λ why. IsRefusalTold judges.now.letters (rules_of judges.now.grammar.now.rules)
         judges.now.grammar.now.judged line.entry.bytes.now line.entry.number why.items) }
@@ -198,22 +201,28 @@ fn explain_line(
     if work.explainer.is_none() {
         work.explainer = automaton_of(work.alloc, more);
     }
+    let mut chart = Chart::new(work.alloc);
     let mut why = Vec::new(work.alloc);
-    explain_refused(
+    match explain_refused(
         work.alloc,
-        &mut work.engines.chart,
+        &mut chart,
         &mut work.explainer,
         &explainer,
         line,
         &mut why,
-    )?;
-    Ok(why)
+    ) {
+        Ok(()) => Ok(why),
+        Err(Memory) => {
+            work.explainer = None;
+            Err(Memory)
+        }
+    }
 }
 
 impl Judge<Work> for LineJudge<'_> {
     ghost told = { λ j. IsAnswerTo j.letters j.viable (rules_of j.grammar.now.rules) j.grammar.now.judged };
 
-    ghost explains = { λ j. is_some j.explainer };
+    ghost explains = { λ j. j.explains };
 
     ghost refusal = { λ j. IsRefusalTold j.letters (rules_of j.grammar.now.rules) j.grammar.now.judged };
 
@@ -234,7 +243,7 @@ impl Judge<Work> for LineJudge<'_> {
     }
 
     fn is_explained(&self) -> bool {
-        self.explainer.is_some()
+        self.explains
     }
 
     fn explain(&self, work: &mut Work, line: &[u8], number: usize) -> Result<Vec<u8>, Memory> {
@@ -246,7 +255,6 @@ impl Judge<Work> for LineJudge<'_> {
                 };
                 explain_line(self, more, work, refused)
             }
-            // its contract says that rejected lines are explained
             None => Err(Memory),
         }
     }
@@ -292,23 +300,21 @@ pub(crate) fn lowered(
     lower(alloc, grammar, judged_limit(settings))
 }
 
-/// Lowers a grammar for lines of one symbol more than settings allow, by which rejected lines are explained, if
-/// settings ask for that. `Memory` if an allocation fails.
+/// Lowers a grammar for lines of one symbol more than settings allow, by which rejected lines are explained. `None` if
+/// settings do not ask for that, or an allocation fails.
 pub(crate) fn explainer_of(
     alloc: Global,
     grammar: &SoundAbnf,
     settings: &AbnfSettings<'_>,
-) -> Result<Option<Flat>, Memory>
-    ensures asked { IfOk result (λ made. is_some made ≡ settings.now.explain) }
-    ensures explains { IfOk result (λ made. IfSome made (ExplainsLines (rules_of grammar.now.rules)
-        grammar.now.judged settings.now.options.letters (judged_size settings.now settings.now.limit))) }
+) -> Option<Flat>
+    ensures { IfSome result (ExplainsLines (rules_of grammar.now.rules) grammar.now.judged
+        settings.now.options.letters (judged_size settings.now settings.now.limit)) }
 {
-    if settings.explain {
-        let limit = judged_limit(settings) + 1;
-        let more = lower_viable(alloc, grammar, settings.options.letters, limit)?;
-        return Ok(Some(more));
+    if !settings.explain {
+        return None;
     }
-    Ok(None)
+    let limit = judged_limit(settings) + 1;
+    lower_viable(alloc, grammar, settings.options.letters, limit).ok()
 }
 
 /// Returns an automaton of a flat grammar; `None` if it has none, or an allocation fails.

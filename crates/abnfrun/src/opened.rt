@@ -74,6 +74,7 @@ impl AbnfJudge {
             letters: self.letters,
             viable: self.viable,
             flat: &self.flat,
+            explains: false,
             explainer: None,
         };
         judge.judge(&mut self.work, line)

@@ -1,6 +1,6 @@
 -- A batch of lines, and the run after it.
 -- Serves: run_lines
-use Rattle.std.proofs.Common.{◌≡◌, ℕ, suc, ◌+◌, ◌≤◌, Bool, false, Some, List, [], ◌∷◌, ◌++◌, length, take, drop}
+use Rattle.std.proofs.Common.{◌≡◌, ℕ, suc, ◌+◌, ◌≤◌, Bool, true, false, Some, List, [], ◌∷◌, ◌++◌, length, take, drop}
 use Rattle.std.proofs.Common.{refl, sym, ◌∙◌, ap, arith, subst, append_assoc}
 use Rattle.std.proofs.lemmas.List.{append-nil, drop-append-le, drop-drop}
 use Rattle.memchr.specs.Find.{IsFirstByte, is_byte}
@@ -12,7 +12,7 @@ use Rattle.toolrun.proofs.AgreesLemmas.{rest_is}
 use Rattle.toolrun.proofs.ExplainedIfLemmas.{if_not_asked}
 use Rattle.linejudge.specs.InputLines.{GoesBy, Lines, StandsAt, behind, kept_line, kept_size, printed_line, one_more}
 use Rattle.linejudge.specs.InputLines.{with_end}
-use Rattle.linejudge.specs.LineRefusals.{Refusals, is_told, one_told}
+use Rattle.linejudge.specs.LineRefusals.{Refusals, ToldUpTo, is_told, none_after, one_told}
 use Rattle.linejudge.specs.LineSteps.{AddsLines}
 use Rattle.linejudge.specs.declared.answers.Answer.{Answer}
 use Rattle.linejudge.specs.declared.line.LineForm.{LineForm}
@@ -42,7 +42,17 @@ found_stands form input start len n s front rest is here within (before, found) 
 module _ (Told : List ℕ → Answer → Type 0) (asked : Bool) (Refusal : List ℕ → ℕ → List ℕ → Type 0) (form : LineForm)
     (input : Input) where
   pub goes_nowhere : (at : At) → AddsLines Told asked Refusal form input at at []
-  goes_nowhere at = record { lines = λ text l. rw append-nil l; refusals = λ told r. r }
+  goes_nowhere at = record { lines = λ text l. rw append-nil l; refusals = λ lacks told r. r }
+
+  -- a line of which nothing is explained
+  told_on : asked ≡ false → (lacks : Bool) (at : At) (told line : List ℕ) (n : ℕ) (said : Answer)
+      → ToldUpTo Told asked Refusal form input lacks at told → GoesBy form input at line n → Told line said
+      → ToldUpTo Told asked Refusal form input lacks (behind at n said) told
+  told_on not false at told line n said r stands says =
+      subst (λ t. Refusals Told asked Refusal form input (behind at n said) t) (append-nil told)
+      (one_told at told line n said [] r stands says
+      (if_not_asked (is_told asked at.refused said) (Refusal line (at.count + 1)) (rw not refl)))
+  told_on not true at told line n said r stands says = none_after at told line n said r stands says
 
   pub goes_one_on : asked ≡ false → (old at : At) (added line : List ℕ) (n : ℕ) (said : Answer)
       → AddsLines Told asked Refusal form input old at added → GoesBy form input at line n → Told line said
@@ -52,9 +62,7 @@ module _ (Told : List ℕ → Answer → Type 0) (asked : Bool) (Refusal : List 
     lines = λ text l. subst (λ t. Lines Told form input (behind at n said) t)
         (append_assoc text added (printed_line form (at.count + 1) line said))
         (one_more at (text ++ added) line n said (goes.lines text l) stands says);
-    refusals = λ told r. subst (λ t. Refusals Told asked Refusal form input (behind at n said) t) (append-nil told)
-        (one_told at told line n said [] (goes.refusals told r) stands says
-        (if_not_asked (is_told asked at.refused said) (Refusal line (at.count + 1)) (rw not refl)));
+    refusals = λ lacks told r. told_on not lacks at told line n said (goes.refusals lacks told r) stands says;
   }
 
   -- a batch of lines that was judged in bytes at the front of what is held

@@ -1,8 +1,8 @@
 -- The lines so far, the step that follows them, and the run of them all.
--- Serves: run_lines, run_abnf (right)
-use Rattle.std.proofs.Common.{◌≡◌, ℕ, ◌+◌, ◌≤◌, Bool, true, false, Option, List, [], ◌++◌, length, refl, sym, ap}
+-- Serves: run_lines, run_abnf (right), one_statement_of_abnf
+use Rattle.std.proofs.Common.{◌≡◌, ◌≢◌, ℕ, ◌+◌, ◌≤◌, Bool, true, false, Option, List, [], ◌++◌, length, refl, sym, ap}
 use Rattle.std.proofs.Common.{◌∙◌, subst, arith, inl, inr, ◌⊎◌}
-use Rattle.std.specs.Prelude.{Result, Ok, Err}
+use Rattle.std.specs.Prelude.{Result, Ok, Err, ◌&&◌, if◌then◌else◌, not}
 use Rattle.std.proofs.lemmas.List.{append-nil}
 use Rattle.std.specs.Io.KnownBytes.{Appends, Consumes}
 use Rattle.ruletable.specs.Writing.{AppendsPart, Flags}
@@ -16,7 +16,7 @@ use Rattle.toolrun.specs.Explained.{ExplainedIf}
 use Rattle.toolrun.specs.Input.{Input}
 use Rattle.toolrun.specs.Reply.{Reply, cut_reply, explained_reply}
 use Rattle.toolrun.specs.RunEnd.{more_refused}
-use Rattle.toolrun.specs.RunSteps.{Begins, EndsTold, HasToldRun, cut_short, replied_told}
+use Rattle.toolrun.specs.RunSteps.{Begins, EndsTold, HasToldRun, Replies, cut_short, replied_told, unexplained}
 use Rattle.toolrun.specs.Status.{code_of}
 use Rattle.toolrun.specs.Stop.{message_of, status_of}
 use Rattle.toolrun.specs.Stopped.{Fulfils}
@@ -27,28 +27,28 @@ use Rattle.toolrun.specs.declared.stop.Stop.{Stop}
 use Rattle.toolrun.specs.declared.stop.Stop.TheVariants.{NoMemory}
 use Rattle.toolrun.proofs.ExplainedIfLemmas.{if_asked, if_not_asked, not_asked_nothing}
 use Rattle.toolrun.proofs.StopsAsLemmas.{run_told, did_not_tell}
-use Rattle.linejudge.specs.InputLines.{LinesEnd, Lines, at_front, behind, printed_line, none, one_more, place_taken}
-use Rattle.linejudge.specs.InputLines.{taken_at}
-use Rattle.linejudge.specs.LineRefusals.{LinesStates, MayLack, Refusals, Tells, WhyStopped, count_untold}
-use Rattle.linejudge.specs.LineRefusals.{IsLong, is_told, none_told, one_told, stop_lines}
-use Rattle.linejudge.specs.LineSteps.{AddsLines, IsStep, IsToldEnding, StepText, of_end, of_line}
+use Rattle.linejudge.specs.InputLines.{GoesBy, LinesEnd, Lines, at_front, behind, printed_line, none, one_more}
+use Rattle.linejudge.specs.InputLines.{place_taken, taken_at}
+use Rattle.linejudge.specs.LineRefusals.{CutRefusals, EndsAt, LinesReply, LinesStates, LinesTo, NeverLacks, Refusals}
+use Rattle.linejudge.specs.LineRefusals.{RunPoint, SameButWhy, TellsTo, ToldUpTo, WhyTo, count_untold, is_told}
+use Rattle.linejudge.specs.LineRefusals.{none_after, none_told, one_lacks, one_told, stop_lines, taken_by}
+use Rattle.linejudge.specs.LineSteps.{AddsBy, AddsLines, IsStep, IsToldEnding, StepText, of_end, of_line}
 use Rattle.linejudge.specs.declared.answers.Answer.{Answer}
 use Rattle.linejudge.specs.declared.line.LineForm.{LineForm}
 use Rattle.linejudge.specs.declared.line_loop.Step.TheVariants.{Answers, Stops}
 use Rattle.linejudge.specs.declared.reached.At.{At}
+use Rattle.linejudge.specs.declared.reached.Explanations.{Explanations}
 use Rattle.linejudge.proofs.LinesLemmas.{lines_go_on, goes_further}
 
 module _ (Told : List ℕ → Answer → Type 0) (asked : Bool) (Refusal : List ℕ → ℕ → List ℕ → Type 0) (form : LineForm)
     (input : Input) where
   abbrev Runs : ℕ → Option (List ℕ) → Option (List ℕ) → Result Ending WriteFault → Type 0
-  Runs taken a b r = HasToldRun (Lines Told form input) (LinesEnd form input) (place_taken form.limit input)
-      (Tells Told asked Refusal form input) (WhyStopped Told asked Refusal form input)
-      (MayLack Told asked Refusal form input) taken a b r
+  Runs taken a b r = HasToldRun (LinesTo Told form input) (EndsAt form input) (taken_by form.limit input)
+      (TellsTo Told asked Refusal form input) (WhyTo asked input) (NeverLacks input) taken a b r
 
-  abbrev EndsSo : At → List ℕ → Ending → Type 0
-  EndsSo at last ending = EndsTold (Lines Told form input) (LinesEnd form input) (place_taken form.limit input)
-      (Tells Told asked Refusal form input) (WhyStopped Told asked Refusal form input)
-      (MayLack Told asked Refusal form input) at last ending
+  abbrev EndsSo : RunPoint → List ℕ → Ending → Type 0
+  EndsSo point last ending = EndsTold (LinesTo Told form input) (EndsAt form input) (taken_by form.limit input)
+      (TellsTo Told asked Refusal form input) (WhyTo asked input) (NeverLacks input) point last ending
 
   -- where it is not asked, no line is explained
   untold_lines : asked ≡ false → (at : At) (told : List ℕ) → Refusals Told asked Refusal form input at told → told ≡ []
@@ -59,216 +59,367 @@ module _ (Told : List ℕ → Answer → Type 0) (asked : Bool) (Refusal : List 
       text (rw not refl) tells in
       rw (nothing, none) refl
 
+  -- .. and no explanation is missing
+  nothing_lacks : asked ≡ false → (at : At) (told : List ℕ) → CutRefusals Told asked Refusal form input at told → ⊥
+  nothing_lacks not at told (one_lacks before first line n said lines stands says is) =
+      let none : is_told asked before.refused said ≡ false = rw not refl in absurd (cc)
+  nothing_lacks not at told (none_after before all line n said lines stands says) =
+      nothing_lacks not before all lines
+
+  none_told_by : asked ≡ false → (b : Bool) (at : At) (told : List ℕ)
+      → ToldUpTo Told asked Refusal form input b at told → told ≡ []
+  none_told_by not false at told first = untold_lines not at told first
+  none_told_by not true at told first = absurd (nothing_lacks not at told first)
+
+  all_untold : asked ≡ false → (point : RunPoint) (told : List ℕ) → TellsTo Told asked Refusal form input point told
+      → told ≡ []
+  all_untold not point told tells =
+      tells.is ∙ rw (none_told_by not point.lacks point.at tells.first tells.refusals, not) refl
+
+  -- nothing explains where it is not asked
+  nothing_explains : (b : Bool) (Why : List ℕ → Type 0) (why : List ℕ) → b ≡ false → why ≡ [] → ExplainedIf b Why why
+  nothing_explains true Why why is empty = absurd (cc)
+  nothing_explains false Why why is empty = empty
+
+  -- no lines explain that memory was refused
+  no_lines : (b : Bool) → (if b then [] else stop_lines NoMemory) ≡ []
+  no_lines true = refl
+  no_lines false = refl
+
   -- what explains a stop by these lines, where that is asked
   some_lines : (b : Bool) (lines : List ℕ) → (why : List ℕ) × ExplainedIf b (λ t. t ≡ lines) why
   some_lines true lines = (lines, refl)
   some_lines false lines = ([], refl)
 
-  no_more : asked ≡ false → (refused : ℕ) → more_refused (count_untold asked refused) ≡ []
-  no_more not refused = rw not refl
-
-  module _ (at : At) (old mid : Option (List ℕ)) (text told : List ℕ) (lines : Lines Told form input at text)
-      (refusals : Refusals Told asked Refusal form input at told) (wrote : Appends old mid text) where
-    pub one_more_line : (new : Option (List ℕ)) (more : List ℕ) (said : Answer) (n : ℕ)
-        → IsStep Told asked Refusal form input at mid new told more (Ok (Answers said n)) →
-        (longer : List ℕ) × Lines Told form input (behind at n said) longer
-        × Refusals Told asked Refusal form input (behind at n said) more × Appends old new longer
-    one_more_line new more said n (line, stands, says, adds, writes) = (
-      text ++ printed_line form (at.count + 1) line said,
-      one_more at text line n said lines stands says,
+  -- the explanations after one more line
+  told_more : (o b : Bool) (at : At) (line : List ℕ) (n : ℕ) (said : Answer) (old new : List ℕ)
+      → ToldUpTo Told asked Refusal form input o at old → GoesBy form input at line n → Told line said
+      → AddsBy Told asked Refusal o b at line said old new
+      → ToldUpTo Told asked Refusal form input b (behind at n said) new
+  told_more false false at line n said old new lines stands says adds =
       subst (λ t. Refusals Told asked Refusal form input (behind at n said) t) (sym adds.added)
-          (one_told at told line n said adds.text refusals stands says adds.is),
-      Appends-join old mid new text (printed_line form (at.count + 1) line said) wrote writes,
-    )
+      (one_told at old line n said adds.text lines stands says adds.is)
+  told_more false true at line n said old new lines stands says (is, same) =
+      subst (λ t. CutRefusals Told asked Refusal form input (behind at n said) t) (sym same)
+      (one_lacks at old line n said lines stands says is)
+  told_more true false at line n said old new lines stands says (lacks, same) = absurd (cc)
+  told_more true true at line n said old new lines stands says (lacks, same) =
+      subst (λ t. CutRefusals Told asked Refusal form input (behind at n said) t) (sym same)
+      (none_after at old line n said lines stands says)
 
-    -- a batch of lines
-    pub more_lines : (next : At) (new : Option (List ℕ)) (added : List ℕ)
-        → AddsLines Told asked Refusal form input at next added → Appends mid new added →
-        (longer : List ℕ) × Lines Told form input next longer
-        × Refusals Told asked Refusal form input next told × Appends old new longer
-    more_lines next new added goes writes = (
-      text ++ added,
-      goes.lines text lines,
-      goes.refusals told refusals,
-      Appends-join old mid new text added wrote writes,
-    )
+  -- a reply, at a point
+  on_point : (b : Bool) (reply : Reply)
+      → Replies (Lines Told form input) (LinesEnd form input) (place_taken form.limit input) reply
+      → Replies (LinesTo Told form input) (EndsAt form input) (taken_by form.limit input) reply
+  on_point b reply r = record {
+    point = record { at = r.point; lacks = b };
+    before = r.before;
+    last = r.last;
+    stop = r.stop;
+    steps = r.steps;
+    ends = r.ends;
+    out = r.out;
+    err = r.err;
+    status = r.status;
+    taken = r.taken;
+  }
 
-    -- the explanations there, where it is asked
-    all_told : asked ≡ true → (all : List ℕ) → all ≡ told ++ more_refused (count_untold true at.refused)
-        → Tells Told asked Refusal form input at all
-    all_told is all same = record { first = told; refusals = refusals; is = same ∙ rw is refl }
+  -- .. and without its point
+  off_point : (reply : Reply) → Replies (LinesTo Told form input) (EndsAt form input) (taken_by form.limit input) reply
+      → Replies (Lines Told form input) (LinesEnd form input) (place_taken form.limit input) reply
+  off_point reply r = record {
+    point = r.point.at;
+    before = r.before;
+    last = r.last;
+    stop = r.stop;
+    steps = r.steps;
+    ends = r.ends;
+    out = r.out;
+    err = r.err;
+    status = r.status;
+    taken = r.taken;
+  }
 
-    nothing_told : asked ≡ false → Tells Told asked Refusal form input at []
-    nothing_told not = record {
-      first = told;
-      refusals = refusals;
-      is = rw (untold_lines not at told refusals, no_more not at.refused) refl;
-    }
+  and_true : (b : Bool) → (b && true) ≡ b
+  and_true true = refl
+  and_true false = refl
 
-    -- how the run ends there
-    module _ (stop : Stop) (last : List ℕ)
-        (either : ((stop ≡ NoMemory) × (last ≡ [])) ⊎ LinesEnd form input at last stop) where
-      ends_plainly : asked ≡ false → EndsSo at last (Plain stop)
-      ends_plainly not = (
-        nothing_told not,
-        elim either [
-          | inl (refused, nothing) ↦ inl (record { refused = refused; nothing = nothing; unexplained = refl })
-          | inr ends ↦ inr (ends, if_not_asked asked (λ t. t ≡ stop_lines stop) not)
-        ],
+  -- a run states its reply where no allocation fails
+  pub whole_states : (reply : Reply) → LinesReply Told asked Refusal form input reply
+      → LinesStates Told asked Refusal form input reply
+  unfolding on_point
+  whole_states reply r = replied_told reply (record {
+    plain = r.plain;
+    replies = on_point false r.plain r.replies;
+    before = r.before;
+    tells = record {
+      first = r.tells.first;
+      refusals = r.tells.refusals;
+      is = subst (λ (b : Bool). r.before ≡ r.tells.first ++ more_refused (count_untold b r.replies.point.refused))
+          (sym (and_true asked)) r.tells.is;
+    };
+    why = r.why;
+    explains = subst (λ (b : Bool). ExplainedIf b (λ t. t ≡ stop_lines r.replies.stop) r.why)
+        (sym (and_true asked)) r.explains;
+    told = r.told;
+  })
+
+  -- where no allocation fails but in an explanation, a run states its reply without explanations, but for these
+  pub same_but_why : (reply : Reply) → LinesStates Told asked Refusal form input reply → reply.status ≢ 5 →
+      (plain : Reply) × Replies (Lines Told form input) (LinesEnd form input) (place_taken form.limit input) plain
+      × SameButWhy asked reply plain
+  same_but_why reply (replied_told r g) ample = (
+    g.plain,
+    off_point g.plain g.replies,
+    record {
+      out = ap (λ a. a.out) g.told;
+      status = ap (λ a. a.status) g.told;
+      taken = ap (λ a. a.taken) g.told;
+      err = λ unasked.
+          let before = all_untold unasked g.replies.point g.before g.tells in
+          let why : g.why ≡ [] = not_asked_nothing (asked && not g.replies.point.lacks)
+          (λ t. t ≡ stop_lines g.replies.stop) g.why (rw unasked refl) g.explains in
+          ap (λ a. a.err) g.told ∙ rw (before, why) (append-nil g.plain.err);
+    },
+  )
+  same_but_why reply (unexplained plain replies told tells lack) ample = absurd lack
+  same_but_why reply (cut_short point out told all before tells replies front) ample = absurd (ample refl)
+
+  module _ (at : At) (old mid : Option (List ℕ)) (text : List ℕ) (told : Explanations)
+      (lines : Lines Told form input at text)
+      (refusals : ToldUpTo Told asked Refusal form input told.lacks at told.text.items) (wrote : Appends old mid text)
+    where
+      abbrev here : RunPoint
+      here = record { at = at; lacks = told.lacks }
+
+      pub one_more_line : (new : Option (List ℕ)) (more : Explanations) (said : Answer) (n : ℕ)
+          → IsStep Told asked Refusal form input at mid new told more (Ok (Answers said n)) →
+          (longer : List ℕ) × Lines Told form input (behind at n said) longer
+          × ToldUpTo Told asked Refusal form input more.lacks (behind at n said) more.text.items
+          × Appends old new longer
+      one_more_line new more said n (line, stands, says, adds, writes) = (
+        text ++ printed_line form (at.count + 1) line said,
+        one_more at text line n said lines stands says,
+        told_more told.lacks more.lacks at line n said told.text.items more.text.items refusals stands says adds,
+        Appends-join old mid new text (printed_line form (at.count + 1) line said) wrote writes,
       )
 
-      ends_so : asked ≡ true → (ending : Ending)
-          → IsToldEnding (told ++ more_refused (count_untold true at.refused)) stop ending → EndsSo at last ending
-      ends_so is (Plain it) told_so = absurd told_so
-      ends_so is (Explained before it why) (all, same, lines_are) = rw same (
-        all_told is _ all,
-        elim either [
-          | inl (refused, nothing) ↦ inl (record {
-            refused = refused;
-            nothing = nothing;
-            unexplained = lines_are ∙ ap stop_lines refused;
-          })
-          | inr ends ↦ inr (ends, if_asked asked (λ t. t ≡ stop_lines stop) why.items is lines_are)
-        ],
+      -- a batch of lines
+      pub more_lines : (next : At) (new : Option (List ℕ)) (added : List ℕ)
+          → AddsLines Told asked Refusal form input at next added → Appends mid new added →
+          (longer : List ℕ) × Lines Told form input next longer
+          × ToldUpTo Told asked Refusal form input told.lacks next told.text.items × Appends old new longer
+      more_lines next new added goes writes = (
+        text ++ added,
+        goes.lines text lines,
+        goes.refusals told.lacks told.text.items refusals,
+        Appends-join old mid new text added wrote writes,
       )
-      ends_so is (Unexplained before it) (all, same, long) = rw same (elim either [
-        | inl (refused, nothing) ↦ absurd (subst IsLong refused long)
-        | inr ends ↦ (all_told is _ all, ends, (is, long))
-      ])
 
-      ends_by : (b : Bool) → asked ≡ b → (ending : Ending) → (asked ≡ false → ending ≡ Plain stop)
-          → (asked ≡ true → IsToldEnding (told ++ more_refused (count_untold true at.refused)) stop ending)
-          → EndsSo at last ending
-      ends_by true is ending plain told_so = ends_so is ending (told_so is)
-      ends_by false is ending plain told_so = rw (plain is) (ends_plainly is)
+      -- the explanations there, where it is asked
+      all_told : asked ≡ true → (all : List ℕ)
+          → all ≡ told.text.items ++ more_refused (count_untold (not told.lacks) at.refused)
+          → TellsTo Told asked Refusal form input here all
+      all_told is all same = record { first = told.text.items; refusals = refusals; is = same ∙ rw is refl }
 
-    pub stops_there : (new : Option (List ℕ)) (more : List ℕ) (taken : ℕ) (stop : Stop) (ending : Ending)
-        → IsStep Told asked Refusal form input at mid new told more (Ok (Stops stop))
-        → (asked ≡ false → ending ≡ Plain stop)
-        → (asked ≡ true → IsToldEnding (more ++ more_refused (count_untold true at.refused)) stop ending)
-        → taken ≡ taken_at form.limit input at.place → Runs taken old new (Ok ending)
-    stops_there new more taken stop ending (same, either) plain told_so took =
-        let ends : asked ≡ true → IsToldEnding (told ++ more_refused (count_untold true at.refused)) stop ending =
-        λ is. subst (λ t. IsToldEnding (t ++ more_refused (count_untold true at.refused)) stop ending) same
-        (told_so is) in
-        elim either [
-          | inl (refused, kept) ↦ (
-            at,
-            text,
-            [],
-            lines,
-            rw append-nil (Appends-kept old mid new text wrote kept),
-            took,
-            ends_by stop [] (inl (refused, refl)) asked refl ending plain ends,
-          )
-          | inr (last, is, writes) ↦ (
-            at,
-            text,
-            last,
-            lines,
-            Appends-join old mid new text last wrote writes,
-            took,
-            ends_by stop last (inr is) asked refl ending plain ends,
-          )
-        ]
+      nothing_told : asked ≡ false → TellsTo Told asked Refusal form input here []
+      nothing_told not = record {
+        first = told.text.items;
+        refusals = refusals;
+        is = rw (none_told_by not told.lacks at told.text.items refusals, not) refl;
+      }
 
-    -- the output fails in the text of more lines
-    module _ (decided : (line : List ℕ) → (said : Answer) × Told line said) (new : Option (List ℕ)) (taken : ℕ)
-        (fault : WriteFault) (took : taken ≤ taken_at form.limit input at.place) where
-      fails_at : (next : At) (added more : List ℕ) → at.place ≤ next.place → Lines Told form input next (text ++ added)
-          → Refusals Told asked Refusal form input next more → AppendsPart mid new added
-          → Runs taken old new (Err fault)
-      fails_at next added more le further told_there part =
-          let goes = goes_further Told form input decided at.place next (text ++ added) le further in
-          let all : List ℕ = more ++ more_refused (count_untold asked next.refused) in (
-            text ++ added,
-            record {
-              reply = cut_reply all (text ++ added) goes.reply.taken;
-              states = cut_short next (text ++ added) all goes.reply further
-                  (record { first = more; refusals = told_there; is = refl }) goes.replies goes.front;
-              front = IsBeginning-same (text ++ added);
-              taken = omega (arith, took, goes.taken);
-            },
-            AppendsPart-join old mid new text added wrote part,
-          )
+      -- what explains the stop there
+      why_there : (stop : Stop) (why : List ℕ) (b : Bool) → asked ≡ true → why ≡ (if b then [] else stop_lines stop)
+          → WhyTo asked input (record { at = at; lacks = b }) stop why
+      why_there stop why true is same =
+          nothing_explains (asked && false) (λ t. t ≡ stop_lines stop) why (rw is refl) same
+      why_there stop why false is same = if_asked (asked && true) (λ t. t ≡ stop_lines stop) why (rw is refl) same
 
-      -- the output fails in what is printed last
-      fails_last : (last : List ℕ) (stop : Stop) → LinesEnd form input at last stop → AppendsPart mid new last
-          → Runs taken old new (Err fault)
-      fails_last last stop ends part =
-          let all : List ℕ = told ++ more_refused (count_untold asked at.refused) in
-          let why = some_lines asked (stop_lines stop) in
-          let plain : Reply = record {
-            out = text ++ last;
-            err = message_of stop;
-            status = code_of (status_of stop);
-            taken = taken_at form.limit input at.place;
-          } in (
-            text ++ last,
-            record {
-              reply = explained_reply all plain why.0;
-              states = replied_told (explained_reply all plain why.0) (record {
-                plain = plain;
-                replies = record {
-                  point = at;
-                  before = text;
-                  last = last;
-                  stop = stop;
-                  steps = lines;
-                  ends = ends;
-                  out = refl;
-                  err = refl;
-                  status = refl;
-                  taken = refl;
-                };
-                before = all;
-                tells = record { first = told; refusals = refusals; is = refl };
-                why = why.0;
-                explains = why.1;
-                told = refl;
-              });
-              front = IsBeginning-same (text ++ last);
-              taken = took;
-            },
-            AppendsPart-join old mid new text last wrote part,
-          )
+      -- how the run ends there
+      module _ (stop : Stop) (last : List ℕ)
+          (either : ((stop ≡ NoMemory) × (last ≡ [])) ⊎ LinesEnd form input at last stop) where
+        ends_plainly : asked ≡ false → EndsSo here last (Plain stop)
+        ends_plainly not_asked = (
+          nothing_told not_asked,
+          elim either [
+            | inl (refused, nothing) ↦ inl (record { refused = refused; nothing = nothing; unexplained = refl })
+            | inr ends ↦ inr (
+              ends,
+              if_not_asked (asked && not told.lacks) (λ t. t ≡ stop_lines stop) (rw not_asked refl),
+            )
+          ],
+        )
 
-      fails_in : (added more : List ℕ) → StepText Told asked Refusal form input at told more added
-          → AppendsPart mid new added → Runs taken old new (Err fault)
-      fails_in added more (of_line line n said stands says adds) part =
-          fails_at (behind at n said) added (told ++ adds.text) (omega arith)
-          (one_more at text line n said lines stands says)
-          (one_told at told line n said adds.text refusals stands says adds.is) part
-      fails_in added more (of_end last why ends same) part = fails_last last why ends part
+        ends_so : asked ≡ true → (ending : Ending) → IsToldEnding told.lacks
+            (told.text.items ++ more_refused (count_untold (not told.lacks) at.refused)) stop ending
+            → EndsSo here last ending
+        ends_so is (Plain it) told_so = absurd told_so
+        ends_so is (Explained before it why) (all, same, lines_are) = rw same (
+          all_told is _ all,
+          elim either [
+            | inl (refused, nothing) ↦ inl (record {
+              refused = refused;
+              nothing = nothing;
+              unexplained = lines_are ∙ ap (λ v. if told.lacks then [] else stop_lines v) refused
+                  ∙ no_lines told.lacks;
+            })
+            | inr ends ↦ inr (ends, why_there stop why.items told.lacks is lines_are)
+          ],
+        )
+        ends_so is (Unexplained before it) told_so = absurd told_so
 
-      pub fails_there : (more : List ℕ) → IsStep Told asked Refusal form input at mid new told more (Err fault)
-          → Runs taken old new (Err fault)
-      fails_there more (added, texts, part) = fails_in added more texts part
+        ends_by : (b : Bool) → asked ≡ b → (ending : Ending) → (asked ≡ false → ending ≡ Plain stop)
+            → (asked ≡ true → IsToldEnding told.lacks
+            (told.text.items ++ more_refused (count_untold (not told.lacks) at.refused)) stop ending)
+            → EndsSo here last ending
+        ends_by true is ending plain told_so = ends_so is ending (told_so is)
+        ends_by false is ending plain told_so = rw (plain is) (ends_plainly is)
 
-      pub fails_further : (next : At) (added : List ℕ) → at.place ≤ next.place
-          → AddsLines Told asked Refusal form input at next added → AppendsPart mid new added
-          → Runs taken old new (Err fault)
-      fails_further next added le goes part =
-          fails_at next added told le (goes.lines text lines) (goes.refusals told refusals) part
+      pub stops_there : (new : Option (List ℕ)) (more : Explanations) (taken : ℕ) (stop : Stop) (ending : Ending)
+          → IsStep Told asked Refusal form input at mid new told more (Ok (Stops stop))
+          → (asked ≡ false → ending ≡ Plain stop)
+          → (asked ≡ true → IsToldEnding more.lacks
+          (more.text.items ++ more_refused (count_untold (not more.lacks) at.refused)) stop ending)
+          → taken ≡ taken_at form.limit input at.place → Runs taken old new (Ok ending)
+      stops_there new more taken stop ending (same, either) plain told_so took =
+          let ends : asked ≡ true → IsToldEnding told.lacks
+          (told.text.items ++ more_refused (count_untold (not told.lacks) at.refused)) stop ending =
+          λ is. subst (λ (t : Explanations). IsToldEnding t.lacks
+          (t.text.items ++ more_refused (count_untold (not t.lacks) at.refused)) stop ending) same (told_so is) in
+          elim either [
+            | inl (refused, kept) ↦ (
+              here,
+              text,
+              [],
+              lines,
+              rw append-nil (Appends-kept old mid new text wrote kept),
+              took,
+              ends_by stop [] (inl (refused, refl)) asked refl ending plain ends,
+            )
+            | inr (last, is, writes) ↦ (
+              here,
+              text,
+              last,
+              lines,
+              Appends-join old mid new text last wrote writes,
+              took,
+              ends_by stop last (inr is) asked refl ending plain ends,
+            )
+          ]
+
+      -- the output fails in the text of more lines
+      module _ (decided : (line : List ℕ) → (said : Answer) × Told line said) (new : Option (List ℕ)) (taken : ℕ)
+          (fault : WriteFault) (took : taken ≤ taken_at form.limit input at.place) where
+        fails_at : (next : At) (b : Bool) (added more : List ℕ) → at.place ≤ next.place
+            → Lines Told form input next (text ++ added)
+            → ToldUpTo Told asked Refusal form input b next more → AppendsPart mid new added
+            → Runs taken old new (Err fault)
+        fails_at next b added more le further told_there part =
+            let goes = goes_further Told form input decided at.place next (text ++ added) le further in
+            let all : List ℕ = more ++ more_refused (count_untold (asked && not b) next.refused) in (
+              text ++ added,
+              record {
+                reply = cut_reply all (text ++ added) goes.reply.taken;
+                states = cut_short (record { at = next; lacks = b }) (text ++ added) all goes.reply further
+                    (record { first = more; refusals = told_there; is = refl }) (on_point b goes.reply goes.replies)
+                    goes.front;
+                front = IsBeginning-same (text ++ added);
+                taken = omega (arith, took, goes.taken);
+              },
+              AppendsPart-join old mid new text added wrote part,
+            )
+
+        -- the output fails in what is printed last
+        fails_last : (last : List ℕ) (stop : Stop) → LinesEnd form input at last stop → AppendsPart mid new last
+            → Runs taken old new (Err fault)
+        fails_last last stop ends part =
+            let all : List ℕ = told.text.items ++ more_refused (count_untold (asked && not told.lacks) at.refused) in
+            let why = some_lines (asked && not told.lacks) (stop_lines stop) in
+            let plain : Reply = record {
+              out = text ++ last;
+              err = message_of stop;
+              status = code_of (status_of stop);
+              taken = taken_at form.limit input at.place;
+            } in (
+              text ++ last,
+              record {
+                reply = explained_reply all plain why.0;
+                states = replied_told (explained_reply all plain why.0) (record {
+                  plain = plain;
+                  replies = record {
+                    point = here;
+                    before = text;
+                    last = last;
+                    stop = stop;
+                    steps = lines;
+                    ends = ends;
+                    out = refl;
+                    err = refl;
+                    status = refl;
+                    taken = refl;
+                  };
+                  before = all;
+                  tells = record { first = told.text.items; refusals = refusals; is = refl };
+                  why = why.0;
+                  explains = why.1;
+                  told = refl;
+                });
+                front = IsBeginning-same (text ++ last);
+                taken = took;
+              },
+              AppendsPart-join old mid new text last wrote part,
+            )
+
+        fails_in : (added : List ℕ) (more : Explanations) → StepText Told asked Refusal form input at told more added
+            → AppendsPart mid new added → Runs taken old new (Err fault)
+        fails_in added more (of_line line n said stands says adds) part =
+            fails_at (behind at n said) more.lacks added more.text.items (omega arith)
+            (one_more at text line n said lines stands says)
+            (told_more told.lacks more.lacks at line n said told.text.items more.text.items refusals stands says adds)
+            part
+        fails_in added more (of_end last why ends same) part = fails_last last why ends part
+
+        pub fails_there : (more : Explanations) → IsStep Told asked Refusal form input at mid new told more (Err fault)
+            → Runs taken old new (Err fault)
+        fails_there more (added, texts, part) = fails_in added more texts part
+
+        pub fails_further : (next : At) (added : List ℕ) → at.place ≤ next.place
+            → AddsLines Told asked Refusal form input at next added → AppendsPart mid new added
+            → Runs taken old new (Err fault)
+        fails_further next added le goes part =
+            fails_at next told.lacks added told.text.items le (goes.lines text lines)
+            (goes.refusals told.lacks told.text.items refusals) part
 
 module _ (Told : List ℕ → Answer → Type 0) (asked : Bool) (Refusal : List ℕ → ℕ → List ℕ → Type 0) (form : LineForm)
     (decided : (line : List ℕ) → (said : Answer) × Told line said) where
-  goes_on : (input : Input) (at : At) (text : List ℕ) → Lines Told form input at text →
-      Begins (Lines Told form input) (LinesEnd form input) (place_taken form.limit input)
-      (place_taken form.limit input at) text
-  goes_on input at text lines = lines_go_on Told form input decided at text lines
+  goes_on : (input : Input) (point : RunPoint) (text : List ℕ) → LinesTo Told form input point text →
+      Begins (LinesTo Told form input) (EndsAt form input) (taken_by form.limit input)
+      (taken_by form.limit input point) text
+  goes_on input point text lines =
+      let goes = lines_go_on Told form input decided point.at text lines in
+      record {
+        reply = goes.reply;
+        replies = on_point Told asked Refusal form input point.lacks goes.reply goes.replies;
+        front = goes.front;
+        taken = goes.taken;
+      }
+
+  -- before the first line
+  abbrev first_point : RunPoint
+  first_point = record { at = at_front; lacks = false }
 
   -- nothing is explained before the first line
-  nothing_yet : (b : Bool) → asked ≡ b → (input : Input) → Tells Told asked Refusal form input at_front []
+  nothing_yet : (b : Bool) → asked ≡ b → (input : Input) → TellsTo Told asked Refusal form input first_point []
   nothing_yet true is input = record { first = []; refusals = none_told; is = rw is refl }
   nothing_yet false is input = record { first = []; refusals = none_told; is = rw is refl }
 
   -- something is stated for each input
   pub some_states : (input : Input) → (reply : Reply) × LinesStates Told asked Refusal form input reply
   some_states input =
-      let goes = goes_on input at_front [] none in (
+      let goes = goes_on input first_point [] none in (
         _,
-        cut_short at_front [] [] goes.reply none (nothing_yet asked refl input) goes.replies
+        cut_short first_point [] [] goes.reply none (nothing_yet asked refl input) goes.replies
             (IsBeginning-nil goes.reply.out),
       )
 
@@ -281,9 +432,8 @@ module _ (Told : List ℕ → Answer → Type 0) (asked : Bool) (Refusal : List 
       → Flags out.was out.failed r →
       Fulfils (LinesStates Told asked Refusal form) (passed remaining failed old final) out r
   lines_were_run remaining failed ended old now final out left flow r is told run flag =
-      run_told (Lines Told form) (LinesEnd form) (place_taken form.limit) goes_on (Tells Told asked Refusal form)
-      (WhyStopped Told asked Refusal form) (MayLack Told asked Refusal form) remaining failed ended old now final out
-      left flow r is told run flag
+      run_told (LinesTo Told form) (EndsAt form) (taken_by form.limit) goes_on (TellsTo Told asked Refusal form)
+      (WhyTo asked) NeverLacks remaining failed ended old now final out left flow r is told run flag
 
   -- an allocation failed before the first line
   pub no_line_was_run : (r0 s0 : Option (List ℕ)) (r_was r_failed o_was : Bool) →
@@ -291,6 +441,5 @@ module _ (Told : List ℕ → Answer → Type 0) (asked : Bool) (Refusal : List 
       Fulfils (LinesStates Told asked Refusal form) (record { old = r0; new = r0; was = r_was; failed = r_failed })
       (record { old = s0; new = s0; was = o_was; failed = o_was }) r
   no_line_was_run r0 s0 r_was r_failed o_was =
-      did_not_tell (Lines Told form) (LinesEnd form) (place_taken form.limit) goes_on (Tells Told asked Refusal form)
-      (WhyStopped Told asked Refusal form) (MayLack Told asked Refusal form) at_front (λ input. none)
-      (nothing_yet asked refl) r0 s0 r_was r_failed o_was
+      did_not_tell (LinesTo Told form) (EndsAt form) (taken_by form.limit) goes_on (TellsTo Told asked Refusal form)
+      (WhyTo asked) NeverLacks first_point (λ input. none) (nothing_yet asked refl) r0 s0 r_was r_failed o_was

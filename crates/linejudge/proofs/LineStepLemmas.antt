@@ -20,10 +20,11 @@ use Rattle.linejudge.specs.declared.line.LineForm.{LineForm}
 use Rattle.linejudge.specs.declared.line_loop.Step.{Step}
 use Rattle.linejudge.specs.declared.line_loop.Step.TheVariants.{Stops}
 use Rattle.linejudge.specs.declared.reached.At.{At}
+use Rattle.linejudge.specs.declared.reached.Explanations.{Explanations}
 use Rattle.linejudge.proofs.KeptLineLemmas.{kept_is}
 
 module _ (Told : List ℕ → Answer → Type 0) (asked : Bool) (Refusal : List ℕ → ℕ → List ℕ → Type 0) (form : LineForm)
-    (input : Input) (at : At) (old new : Option (List ℕ)) (told more : List ℕ) where
+    (input : Input) (at : At) (old new : Option (List ℕ)) (told more : Explanations) where
   abbrev rest : List ℕ
   rest = drop at.place input.bytes
 
@@ -65,7 +66,7 @@ module _ (Told : List ℕ → Answer → Type 0) (asked : Bool) (Refusal : List 
       line_is rest n text answered r (record { goes = goes; stands = stands }) (rw all at answers) fails steps
 
 module _ (Told : List ℕ → Answer → Type 0) (asked : Bool) (Refusal : List ℕ → ℕ → List ℕ → Type 0) (form : LineForm)
-    (input : Input) (at : At) (old new : Option (List ℕ)) (told : List ℕ) where
+    (input : Input) (at : At) (old new : Option (List ℕ)) (told : Explanations) where
   -- no line
   pub long_is : is_over form at ≡ false → IsNext form input at.place line.Overlong
       → IsStep Told asked Refusal form input at old old told told (Ok (Stops (LongLine (at.count + 1) form.limit)))

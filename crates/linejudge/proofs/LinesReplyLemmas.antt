@@ -245,6 +245,9 @@ module _ (Told : List ℕ → Answer → Type 0) (one_answer : (line : List ℕ)
       ≡ record { out = b.out; err = b.err; status = b.status; taken = b.taken } = cc in
       is
 
+  pub one_plain : (a b : Reply) → HasReply a → HasReply b → a ≡ b
+  one_plain a b r q = same_reply a b r q (one_plain_reply a b r q)
+
   module _ (asked : Bool) (Refusal : List ℕ → ℕ → List ℕ → Type 0) (one_refusal : (line : List ℕ) (number : ℕ)
       (a b : List ℕ) → Refusal line number a → Refusal line number b → a ≡ b) where
     abbrev ToldTo : At → List ℕ → Type 0

@@ -1,5 +1,5 @@
 -- The explanations of the rejected lines of an input, and what a run of its lines states.
-use Rattle.std.specs.Prelude.{◌≡◌, ℕ, ◌+◌, ◌-◌, nat_lt, ◌&&◌, not, ⊤, Bool, true, List, [], ◌++◌, codes}
+use Rattle.std.specs.Prelude.{◌≡◌, ℕ, ◌+◌, ◌-◌, nat_lt, ◌&&◌, not, Bool, true, false, List, [], ◌++◌, codes, decimal}
 use Rattle.std.specs.Prelude.{if◌then◌else◌}
 use Rattle.toolrun.specs.Explained.{ExplainedIf}
 use Rattle.toolrun.specs.Input.{Input}
@@ -27,17 +27,6 @@ count_untold asked refused = if asked then refused - 16 else 0
 abbrev pub limit_line : List ℕ
 limit_line = codes "  -l allows at most 16777216\n"
 
--- a line was too long
-abbrev pub IsLong : Stop → Type 0
-IsLong (Quiet status) = ⊥
-IsLong (NoMatch at) = ⊥
-IsLong (LongUnit at limit) = ⊥
-IsLong (LongLine line limit) = ⊤
-IsLong Broken = ⊥
-IsLong NoMemory = ⊥
-IsLong (Refused fault) = ⊥
-IsLong Unreadable = ⊥
-
 -- the lines that explain a stop: that of a line that is too long is
 abbrev pub stop_lines : Stop → List ℕ
 stop_lines (Quiet status) = []
@@ -48,6 +37,43 @@ stop_lines Broken = []
 stop_lines NoMemory = []
 stop_lines (Refused fault) = []
 stop_lines Unreadable = []
+
+-- an allocation failed in the explanation of the rejected line of that number
+abbrev pub unexplained_line : ℕ → List ℕ
+unexplained_line number = codes "line " ++ (decimal number ++ codes ": no\n  not explained: out of memory\n")
+
+-- Two replies are the same but for what explains: without explanations they are the same.
+pub record SameButWhy (asked : Bool) (a b : Reply) : Type 0 where
+  pub out : a.out ≡ b.out
+  pub status : a.status ≡ b.status
+  pub taken : a.taken ≡ b.taken
+  pub err : asked ≡ false → a.err ≡ b.err
+
+-- a position in a run, and whether an allocation failed in an explanation before it
+pub record RunPoint : Type 0 where
+  pub at : At
+  pub lacks : Bool
+
+-- the lines up to a point, and what is printed for them, where Told says which answer is that of a line
+abbrev pub LinesTo : (List ℕ → Answer → Type 0) → LineForm → Input → RunPoint → List ℕ → Type 0
+LinesTo Told form input point text = Lines Told form input point.at text
+
+-- how a run ends at a point, and what is printed then
+abbrev pub EndsAt : LineForm → Input → RunPoint → List ℕ → Stop → Type 0
+EndsAt form input point last stop = LinesEnd form input point.at last stop
+
+-- how many bytes are taken where the last line is looked for there
+abbrev pub taken_by : ℕ → Input → RunPoint → ℕ
+taken_by limit input point = place_taken limit input point.at
+
+-- What explains a stop at a point, where that is asked. It needs no memory that can be refused then. Nothing explains
+-- it after an explanation that is missing.
+abbrev pub WhyTo : Bool → Input → RunPoint → Stop → List ℕ → Type 0
+WhyTo asked input point stop why = ExplainedIf (asked && not point.lacks) (λ text. text ≡ stop_lines stop) why
+
+-- no explanation of a stop is missing
+abbrev pub NeverLacks : Input → RunPoint → Stop → Type 0
+NeverLacks input point stop = ⊥
 
 -- Told says which answer is that of a line, asked whether rejected lines are explained, and Refusal by what, where a
 -- line has that number.
@@ -64,7 +90,27 @@ module _ (Told : List ℕ → Answer → Type 0) (asked : Bool) (Refusal : List 
           → GoesBy form input at line n → Told line said → TellsLine at line said text
           → Refusals (behind at n said) (before ++ text)
 
-    -- and how many more are rejected
+    -- the explanations of the lines before one that would be explained, a line in place of its explanation, and nothing
+    -- of the lines after it
+    pub data CutRefusals : At → List ℕ → Type 0 where
+      one_lacks : (at : At) (before line : List ℕ) (n : ℕ) (said : Answer) → Refusals at before
+          → GoesBy form input at line n → Told line said → is_told asked at.refused said ≡ true
+          → CutRefusals (behind at n said) (before ++ unexplained_line (at.count + 1))
+      none_after : (at : At) (told line : List ℕ) (n : ℕ) (said : Answer) → CutRefusals at told
+          → GoesBy form input at line n → Told line said → CutRefusals (behind at n said) told
+
+    -- the explanations of the lines up to a position: all of them, or those before one that is missing
+    abbrev pub ToldUpTo : Bool → At → List ℕ → Type 0
+    ToldUpTo false at told = Refusals at told
+    ToldUpTo true at told = CutRefusals at told
+
+    -- and how many more lines are rejected, unless an explanation is missing
+    pub record TellsTo (point : RunPoint) (told : List ℕ) : Type 0 where
+      pub first : List ℕ
+      pub refusals : ToldUpTo point.lacks point.at first
+      pub is : told ≡ first ++ more_refused (count_untold (asked && not point.lacks) point.at.refused)
+
+    -- the explanations where none is missing
     pub record Tells (at : At) (told : List ℕ) : Type 0 where
       pub first : List ℕ
       pub refusals : Refusals at first
@@ -74,16 +120,15 @@ module _ (Told : List ℕ → Answer → Type 0) (asked : Bool) (Refusal : List 
     abbrev pub WhyStopped : At → Stop → List ℕ → Type 0
     WhyStopped at stop why = ExplainedIf asked (λ text. text ≡ stop_lines stop) why
 
-    -- an allocation may fail in explaining it
-    abbrev pub MayLack : At → Stop → Type 0
-    MayLack at stop = (asked ≡ true) × IsLong stop
-
-    -- the lines of the input in turn, the explanations of those that are rejected, and how the run ends
+    -- the lines of the input in turn, the explanations of those that are rejected, and how the run ends; no allocation
+    -- fails
     abbrev pub LinesReply : Reply → Type 0
     LinesReply reply = steps.RepliesTold (Lines Told form input) (LinesEnd form input) (place_taken form.limit input)
-        Tells WhyStopped MayLack reply
+        Tells WhyStopped (λ at stop. ⊥) reply
 
-    -- a run states its reply, or the text of the first lines if an allocation fails
+    -- So a run states its reply. Where an allocation fails in an explanation, that one is missing and none follows, but
+    -- all that the run writes otherwise, and its status, are as ever. Where any other allocation fails, it states the
+    -- text of the first lines, and what is told of them.
     abbrev pub LinesStates : Reply → Type 0
-    LinesStates reply = steps.ToldStates (Lines Told form input) (LinesEnd form input) (place_taken form.limit input)
-        Tells WhyStopped MayLack reply
+    LinesStates reply = steps.ToldStates (LinesTo Told form input) (EndsAt form input) (taken_by form.limit input)
+        TellsTo (WhyTo asked input) (NeverLacks input) reply

@@ -1,15 +1,15 @@
 //! The answer to one line.
-ghost use Rattle.std.specs.Prelude.{◌≡◌, ◌≤◌, ◌<◌, ◌+◌, ◌^◌, ℕ, Bool, List, length, take, true};
+ghost use Rattle.std.specs.Prelude.{◌≡◌, ◌≤◌, ◌<◌, ◌+◌, ◌^◌, ℕ, Bool, List, length, take, true, false};
 ghost use Rattle.std.specs.Prelude.{IfOk, OnOk, OnErr, IsTrue};
 ghost use Rattle.feed.specs.Feed.{SameFeed, bytes_of};
 ghost use Rattle.linejudge.specs.InputLines.{says_yes};
-ghost use Rattle.linejudge.specs.LineRefusals.{TellsLine, is_told as may_tell};
-ghost use Rattle.linejudge.specs.LineSteps.{Adds, Answered};
+ghost use Rattle.linejudge.specs.LineRefusals.{is_told as may_tell};
+ghost use Rattle.linejudge.specs.LineSteps.{Adds, AddsTold, Answered, HasRoom};
 ghost use Rattle.linejudge.specs.declared.answers.Answer.{Answer};
 
 use crate::line::LineForm;
 use crate::printed::push_line;
-use crate::reached::{At, MAX_TOLD, Reached};
+use crate::reached::{At, Explanations, MAX_TOLD, Reached};
 use feed::{Feed, Source};
 use ruletable::Memory;
 
@@ -82,47 +82,54 @@ fn is_told(asked: bool, refused: usize, said: Answer) -> bool
     asked && !is_yes(said) && refused < MAX_TOLD
 }
 
-/// Adds the lines that explain a rejected line of that number; nothing if an allocation fails.
+/// Adds the lines that explain a rejected line of that number. `Memory` if an allocation fails; then nothing is added.
 fn push_refusal<W, J: Judge<W>>(
     judge: &J,
     work: &mut W,
     line: &[u8],
     number: usize,
-    told: &mut Vec<u8>,
+    told: &mut Explanations,
 ) -> Result<(), Memory>
     requires asked { J.explains judge.now ≡ true }
     requires served { length line.now ≤ J.served judge.now }
     requires work { J.works_in judge.now work.old }
+    requires room { HasRoom told.old }
+    requires whole { told.old.lacks ≡ false }
     ensures work { J.works_in judge.now work.new }
-    ensures ok { OnOk result (Adds (J.refusal judge.now line.now number) told.old.items told.new.items) }
-    ensures err { OnErr result (told.new.items ≡ told.old.items) }
+    ensures room { HasRoom told.new }
+    ensures whole { told.new.lacks ≡ false }
+    ensures ok { OnOk result (Adds (J.refusal judge.now line.now number) told.old.text.items told.new.text.items) }
+    ensures err { OnErr result (told.new.text.items ≡ told.old.text.items) }
 {
     let why = judge.explain(work, line, number)?;
-    told.extend_from_slice(why.as_slice())?;
-    Ok(())
+    told.add(why.as_slice())
 }
 
-/// Adds the explanation of a line with that answer at a position, if it has one; nothing if an allocation fails.
+/// Adds the explanation of a line with that answer at a position, if it has one. Where an allocation fails in it, a
+/// line says so, and after that nothing is added.
 fn tell_line<W, J: Judge<W>>(
     judge: &J,
     work: &mut W,
     line: &[u8],
     said: Answer,
     at: At,
-    told: &mut Vec<u8>,
-) -> Result<(), Memory>
+    told: &mut Explanations,
+)
     requires served { length line.now ≤ J.served judge.now }
     requires work { J.works_in judge.now work.old }
     requires counted { at.count + 1 < 2 ^ 64 }
+    requires room { J.explains judge.now ≡ true → HasRoom told.old }
     ensures work { J.works_in judge.now work.new }
-    ensures ok { OnOk result (Adds (TellsLine (J.told judge.now) (J.explains judge.now) (J.refusal judge.now)
-        at line.now said) told.old.items told.new.items) }
-    ensures err { OnErr result (told.new.items ≡ told.old.items) }
+    ensures room { J.explains judge.now ≡ true → HasRoom told.new }
+    ensures told { AddsTold (J.told judge.now) (J.explains judge.now) (J.refusal judge.now) at line.now said told.old
+        told.new }
 {
-    if is_told(judge.is_explained(), at.refused, said) {
-        return push_refusal(judge, work, line, at.count + 1, told);
+    if told.lacks || !is_told(judge.is_explained(), at.refused, said) {
+        return;
     }
-    Ok(())
+    if push_refusal(judge, work, line, at.count + 1, told).is_err() {
+        told.end_at(at.count + 1);
+    }
 }
 
 /// A line of an input.
@@ -137,26 +144,28 @@ struct FoundLine<'a> {
 }
 
 /// Judges a line, puts what is printed for it into `text`, in place of what that holds, and adds its explanation, if it
-/// has one. `Memory` if an allocation fails; then no explanation is added.
+/// has one. `Memory` if an allocation fails in that but the explanation; then no explanation is added.
 fn answer_line<W, J: Judge<W>>(
     judge: &J,
     work: &mut W,
     line: FoundLine<'_>,
-    told: &mut Vec<u8>,
+    told: &mut Explanations,
     text: &mut Vec<u8>,
 ) -> Result<Answer, Memory>
     requires served { length line.bytes.now ≤ J.served judge.now }
     requires work { J.works_in judge.now work.old }
     requires counted { line.at.count + 1 < 2 ^ 64 }
+    requires room { J.explains judge.now ≡ true → HasRoom told.old }
     ensures work { J.works_in judge.now work.new }
+    ensures room { J.explains judge.now ≡ true → HasRoom told.new }
     ensures answered { IfOk result (Answered (J.told judge.now) (J.explains judge.now) (J.refusal judge.now)
-        line.entry.form line.entry.at line.entry.bytes.now told.old.items told.new.items text.new.items) }
-    ensures err { OnErr result (told.new.items ≡ told.old.items) }
+        line.entry.form line.entry.at line.entry.bytes.now told.old told.new text.new.items) }
+    ensures err { OnErr result (told.new ≡ told.old) }
 {
     let said = judge.judge(work, line.bytes)?;
     text.clear();
     push_line(line.form, line.at.count + 1, line.bytes, said, text)?;
-    tell_line(judge, work, line.bytes, said, line.at, told)?;
+    tell_line(judge, work, line.bytes, said, line.at, told);
     Ok(said)
 }
 
@@ -169,8 +178,9 @@ fn is_copied<R: Source>(feed: &Feed<'_, R>, n: usize, line: &mut Vec<u8>) -> boo
 }
 
 /// Judges the first `n` bytes that are held as a line, puts what is printed for it into `reached.text`, and adds its
-/// explanation, if it has one. `Memory` if an allocation fails; then no explanation is added. Bytes in two pieces are
-/// copied. Where they are too many for that, or the copy gets no memory, all that is held is put in one piece.
+/// explanation, if it has one. `Memory` if an allocation fails in that but the explanation; then no explanation is
+/// added. Bytes in two pieces are copied. Where they are too many for that, or the copy gets no memory, all that is
+/// held is put in one piece.
 pub fn answer_held<W, J: Judge<W>, R: Source>(
     judge: &J,
     work: &mut W,
@@ -183,13 +193,14 @@ pub fn answer_held<W, J: Judge<W>, R: Source>(
     requires served { n ≤ J.served judge.now }
     requires work { J.works_in judge.now work.old }
     requires counted { reached.old.at.count + 1 < 2 ^ 64 }
+    requires room { J.explains judge.now ≡ true → HasRoom reached.old.told }
     ensures work { J.works_in judge.now work.new }
+    ensures room { J.explains judge.now ≡ true → HasRoom reached.new.told }
     ensures same { SameFeed feed.old feed.new }
     ensures at { reached.new.at ≡ reached.old.at }
     ensures answered { IfOk result (Answered (J.told judge.now) (J.explains judge.now) (J.refusal judge.now) form
-        reached.old.at (take n (bytes_of feed.old)) reached.old.told.items reached.new.told.items
-        reached.new.text.items) }
-    ensures err { OnErr result (reached.new.told.items ≡ reached.old.told.items) }
+        reached.old.at (take n (bytes_of feed.old)) reached.old.told reached.new.told reached.new.text.items) }
+    ensures err { OnErr result (reached.new.told ≡ reached.old.told) }
 {
     let at = reached.at;
     let front = feed.front();

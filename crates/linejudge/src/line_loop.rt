@@ -1,5 +1,6 @@
 //! The lines of an input that is read as far as they need it.
-ghost use Rattle.std.specs.Prelude.{◌≡◌, ◌≤◌, ◌+◌, ℕ, Bool, List, [], ◌++◌, codes, length, true, false, IfErr, IfOk};
+ghost use Rattle.std.specs.Prelude.{◌≡◌, ◌≤◌, ◌+◌, ℕ, List, [], ◌++◌, length, not, true, false, IfOk, vec_capacity};
+ghost use Rattle.std.specs.Prelude.{vec_len};
 ghost use Rattle.std.specs.Io.KnownBytes.{Consumes};
 ghost use Rattle.ruletable.specs.Writing.{Flags, Writes};
 ghost use Rattle.feed.specs.Feed.{Grows, IsTrueOfReader, SameLoan, allowance_of, bytes_of, capacity_of, flow_of};
@@ -10,17 +11,16 @@ ghost use Rattle.toolrun.specs.RunEnd.{more_refused};
 ghost use Rattle.toolrun.specs.RunSteps.{HasToldRun};
 ghost use Rattle.toolrun.specs.Stopped.{Fulfils};
 ghost use Rattle.toolrun.specs.Stream.{passed};
-ghost use Rattle.linejudge.specs.InputLines.{LinesEnd, Lines, at_front, kept_size, printed_last, place_taken};
-ghost use Rattle.linejudge.specs.InputLines.{status_after, taken_at};
-ghost use Rattle.linejudge.specs.LineRefusals.{IsLong, LinesStates, MayLack, Tells, WhyStopped, count_untold};
-ghost use Rattle.linejudge.specs.LineRefusals.{stop_lines};
-ghost use Rattle.linejudge.specs.LineSteps.{FitsIn, IsStep, IsToldEnding, StepsBehind};
+ghost use Rattle.linejudge.specs.InputLines.{at_front, kept_size, printed_last, status_after, taken_at};
+ghost use Rattle.linejudge.specs.LineRefusals.{EndsAt, LinesStates, LinesTo, NeverLacks, TellsTo, WhyTo, count_untold};
+ghost use Rattle.linejudge.specs.LineRefusals.{stop_lines, taken_by};
+ghost use Rattle.linejudge.specs.LineSteps.{FitsIn, HasRoom, IsStep, IsToldEnding, StepsBehind};
 
 use crate::answers::{Answer, Judge, answer_held};
 use crate::batch::judge_front;
 use crate::line::{Line, LineForm, next_line};
 use crate::printed::write_end;
-use crate::reached::{At, MAX_TOLD, Reached};
+use crate::reached::{At, Explanations, MAX_TOLD, Reached};
 use feed::{Feed, Source};
 use ruletable::{Memory, Sink, WriteFault, write_whole};
 use std::alloc::Global;
@@ -83,8 +83,10 @@ fn next_step<W, J: Judge<W>, R: Source, O: Sink>(
     requires counted { reached.old.at.count ≤ reached.old.at.place }
     requires within { reached.old.at.place ≤ input_limit }
     requires told { IsTrueOfReader R.remaining R.failed R.ended feed.old }
+    requires room { J.explains judge.now ≡ true → HasRoom reached.old.told }
     requires out_is_fresh { O.failed out.old ≡ false }
     ensures work { J.works_in judge.now work.new }
+    ensures room { J.explains judge.now ≡ true → HasRoom reached.new.told }
     ensures at { reached.new.at ≡ reached.old.at }
     ensures loan { SameLoan feed.old feed.new }
     ensures told { IsTrueOfReader R.remaining R.failed R.ended feed.new }
@@ -92,7 +94,7 @@ fn next_step<W, J: Judge<W>, R: Source, O: Sink>(
     ensures follows { (before : List ℕ) (input : Input) → length before ≡ reached.old.at.place → Agrees (before
         ++ bytes_of feed.new) (flow_of feed.new) input →
         IsStep (J.told judge.now) (J.explains judge.now) (J.refusal judge.now) form input reached.old.at
-        (O.contents out.old) (O.contents out.new) reached.old.told.items reached.new.told.items result ×
+        (O.contents out.old) (O.contents out.new) reached.old.told reached.new.told result ×
         (length (before ++ bytes_of feed.new) ≤ taken_at form.limit input reached.old.at.place) }
     ensures fits { FitsIn (length (bytes_of feed.new)) result }
     ensures flag { Flags (O.failed out.old) (O.failed out.new) result }
@@ -121,39 +123,49 @@ fn next_step<W, J: Judge<W>, R: Source, O: Sink>(
     }
 }
 
-/// Returns the lines that explain a stop. `Memory` if an allocation fails.
-fn lines_of_stop(alloc: Global, stop: Stop) -> Result<Vec<u8>, Memory>
-    ensures lines { IfOk result (λ why. why.items ≡ stop_lines stop) }
-    ensures long { IfErr result (λ fault. IsLong stop) }
+/// Adds the lines that explain a stop to none, where there is room for them. It needs no memory.
+fn push_stop(stop: Stop, why: &mut Vec<u8>)
+    requires none { why.old.items ≡ [] }
+    requires room { vec_len why.old + 128 ≤ vec_capacity why.old }
+    ensures { why.new.items ≡ stop_lines stop }
 {
-    match stop {
-        Stop::LongLine { .. } => Ok(Vec::from_slice(alloc, b"  -l allows at most 16777216\n")?),
-        _ => Ok(Vec::new(alloc)),
+    if let Stop::LongLine { .. } = stop {
+        why.extend_from_slice(b"  -l allows at most 16777216\n")
+            .unwrap();
     }
 }
 
-/// Returns the ending of a run: the explanations of lines, the stop, and the lines that explain it.
-fn told_ending(reached: Reached, stop: Stop) -> Ending
-    ensures { IsToldEnding (reached.told.items ++ more_refused (count_untold true reached.at.refused)) stop result }
+/// Returns the ending of a run after so many rejected lines: the explanations of lines, the stop, and the lines that
+/// explain it, unless an explanation is missing.
+fn told_ending(told: Explanations, refused: usize, stop: Stop) -> Ending
+    requires room { HasRoom told }
+    ensures { IsToldEnding told.lacks (told.text.items ++ more_refused (count_untold (not told.lacks) refused)) stop
+        result }
 {
-    let told = ToldRefusals {
-        text: reached.told,
-        more: reached.at.refused.saturating_sub(MAX_TOLD),
-    };
-    match lines_of_stop(reached.alloc, stop) {
-        Ok(why) => Ending::Explained { told, stop, why },
-        Err(Memory) => Ending::Unexplained { told, stop },
+    let Explanations {
+        text,
+        mut why,
+        lacks,
+    } = told;
+    if lacks {
+        let told = ToldRefusals { text, more: 0 };
+        return Ending::Explained { told, stop, why };
     }
+    let more = refused.saturating_sub(MAX_TOLD);
+    let told = ToldRefusals { text, more };
+    push_stop(stop, &mut why);
+    Ending::Explained { told, stop, why }
 }
 
 /// Wraps the stop of a run as its ending. If `asked`, it adds the explanations of rejected lines and of the stop.
 fn ending_at(asked: bool, reached: Reached, stop: Stop) -> Ending
+    requires room { asked ≡ true → HasRoom reached.told }
     ensures plain { asked ≡ false → result ≡ Ending.Plain stop }
-    ensures told { asked ≡ true → IsToldEnding (reached.told.items
-        ++ more_refused (count_untold true reached.at.refused)) stop result }
+    ensures told { asked ≡ true → IsToldEnding reached.told.lacks (reached.told.text.items
+        ++ more_refused (count_untold (not reached.told.lacks) reached.at.refused)) stop result }
 {
     if asked {
-        return told_ending(reached, stop);
+        return told_ending(reached.told, reached.at.refused, stop);
     }
     Ending::Plain(stop)
 }
@@ -173,7 +185,8 @@ fn answer_lines<W, J: Judge<W>, R: Source, O: Sink>(
     requires capacity { capacity_of feed.old ≡ form.limit + 1 }
     requires empty { bytes_of feed.old ≡ [] }
     requires allowance { allowance_of feed.old ≡ input_limit }
-    requires front { (reached.at ≡ at_front) × (reached.told.items ≡ []) }
+    requires front { (reached.at ≡ at_front) × (reached.told.text.items ≡ []) × (reached.told.lacks ≡ false) }
+    requires room { J.explains judge.now ≡ true → HasRoom reached.told }
     requires told { IsTrueOfReader R.remaining R.failed R.ended feed.old }
     requires out_is_fresh { O.failed out.old ≡ false }
     ensures work { J.works_in judge.now work.new }
@@ -183,11 +196,10 @@ fn answer_lines<W, J: Judge<W>, R: Source, O: Sink>(
         (reader_of feed.new)) seen ×
         (allowance_of feed.new + length seen ≡ input_limit) ×
         ((input : Input) → Agrees seen (flow_of feed.new) input →
-        HasToldRun (Lines (J.told judge.now) form input) (LinesEnd form input) (place_taken form.limit input)
-        (Tells (J.told judge.now) (J.explains judge.now) (J.refusal judge.now) form input)
-        (WhyStopped (J.told judge.now) (J.explains judge.now) (J.refusal judge.now) form input)
-        (MayLack (J.told judge.now) (J.explains judge.now) (J.refusal judge.now) form input) (length seen)
-        (O.contents out.old) (O.contents out.new) result) }
+        HasToldRun (LinesTo (J.told judge.now) form input) (EndsAt form input) (taken_by form.limit input)
+        (TellsTo (J.told judge.now) (J.explains judge.now) (J.refusal judge.now) form input)
+        (WhyTo (J.explains judge.now) input) (NeverLacks input) (length seen) (O.contents out.old)
+        (O.contents out.new) result) }
     ensures flag { Flags (O.failed out.old) (O.failed out.new) result }
 {
     judge.decided();
@@ -236,8 +248,10 @@ fn answer_lines<W, J: Judge<W>, R: Source, O: Sink>(
 ///   ends after the first rejected line, as if that were the last one.
 /// - If the judge explains rejected lines, the ending has the explanations of the first `MAX_TOLD` of them, and how
 ///   many more there are. For a line that is too long it has the greatest length that `-l` allows.
-/// - `NoMemory` if an allocation fails. The output for the lines before stands whole, and so do the explanations of
-///   those lines.
+/// - Where an allocation fails in such an explanation, a line says so in its place, nothing after it is explained, and
+///   the run goes on.
+/// - `NoMemory` if any other allocation fails. The output for the lines before stands whole, and so do the explanations
+///   of those lines.
 /// - `WriteFault` if the output fails; then a prefix is written.
 pub fn run_lines<W, J: Judge<W>, R: Source, O: Sink>(
     alloc: Global,
@@ -261,7 +275,7 @@ pub fn run_lines<W, J: Judge<W>, R: Source, O: Sink>(
         Ok(ring) => ring,
         Err(_) => return Ok(Ending::Plain(Stop::NoMemory)),
     };
-    let Ok(reached) = Reached::new(alloc) else {
+    let Ok(reached) = Reached::new(alloc, judge.is_explained()) else {
         return Ok(Ending::Plain(Stop::NoMemory));
     };
     let mut feed = Feed::new(ring, reader);

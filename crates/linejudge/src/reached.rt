@@ -1,8 +1,11 @@
 //! A position after some lines, and the explanations of those that were rejected.
-ghost use Rattle.std.specs.Prelude.{◌≡◌, ◌<◌, ◌+◌, ◌^◌, [], IfOk};
+ghost use Rattle.std.specs.Prelude.{◌≡◌, ◌<◌, ◌+◌, ◌++◌, ◌^◌, [], true, false, IfOk, OnOk, OnErr};
 ghost use Rattle.linejudge.specs.InputLines.{at_front, behind as the_place, refused_by as count_of, status_after};
+ghost use Rattle.linejudge.specs.LineRefusals.{unexplained_line};
+ghost use Rattle.linejudge.specs.LineSteps.{HasRoom};
 
 use crate::answers::Answer;
+use itoa::Buffer;
 use ruletable::Memory;
 use std::alloc::Global;
 use toolrun::Status;
@@ -24,16 +27,66 @@ pub struct At {
     pub refused: usize,
 }
 
+/// How many bytes the line has at most that says that an explanation is missing, and the lines that explain a stop.
+const ROOM: usize = 128;
+
+/// The explanations of a run after some lines. Where explanations are asked for, `text` has room for the line that says
+/// that one is missing, and `why` for the lines that explain a stop.
+#[derive(Drop)]
+pub struct Explanations {
+    /// The explanations of the rejected lines, of at most the first `MAX_TOLD`.
+    pub text: Vec<u8>,
+    /// The lines that explain the stop; empty before it.
+    pub why: Vec<u8>,
+    /// Whether an allocation failed in an explanation. After that nothing is explained.
+    pub lacks: bool,
+}
+
+impl Explanations {
+    /// Adds the lines that explain a rejected line, and keeps the room. `Memory` if an allocation fails; then nothing
+    /// is added.
+    pub(crate) fn add(&mut self, lines: &[u8]) -> Result<(), Memory>
+        requires room { HasRoom self.old }
+        requires whole { self.old.lacks ≡ false }
+        ensures room { HasRoom self.new }
+        ensures whole { self.new.lacks ≡ false }
+        ensures ok { OnOk result (self.new.text.items ≡ self.old.text.items ++ lines.now) }
+        ensures err { OnErr result (self.new.text.items ≡ self.old.text.items) }
+    {
+        self.text.reserve(lines.len() + ROOM)?;
+        self.text.extend_from_slice(lines)?;
+        Ok(())
+    }
+
+    /// Adds the line that says that an allocation failed in the explanation of the line of that number. It needs no
+    /// memory.
+    pub(crate) fn end_at(&mut self, number: usize)
+        requires room { HasRoom self.old }
+        requires whole { self.old.lacks ≡ false }
+        ensures room { HasRoom self.new }
+        ensures lacks { self.new.lacks ≡ true }
+        ensures text { self.new.text.items ≡ self.old.text.items ++ unexplained_line number }
+    {
+        let mut digits = Buffer::new();
+        self.text.extend_from_slice(b"line ").unwrap();
+        self.text
+            .extend_from_slice(digits.format(number).as_bytes())
+            .unwrap();
+        self.text
+            .extend_from_slice(b": no\n  not explained: out of memory\n")
+            .unwrap();
+        self.lacks = true;
+    }
+}
+
 /// The state of a run after some lines: its position, the explanations so far, and two buffers that serve line after
 /// line.
 #[derive(Drop)]
 pub struct Reached {
-    /// Allocates the explanations and the buffers.
-    pub alloc: Global,
     /// The position after the last line.
     pub at: At,
-    /// The explanations of the rejected lines, of at most the first `MAX_TOLD`.
-    pub told: Vec<u8>,
+    /// The explanations so far.
+    pub told: Explanations,
     /// The copy of a line that lies in two pieces.
     pub line: Vec<u8>,
     /// The output for a line, or for a batch of lines.
@@ -41,22 +94,28 @@ pub struct Reached {
 }
 
 impl Reached {
-    /// Returns the position before the first line. `Memory` if an allocation fails.
-    pub(crate) fn new(alloc: Global) -> Result<Reached, Memory>
-        ensures { IfOk result (λ made. (made.at ≡ at_front) × (made.told.items ≡ [])) }
+    /// Returns the position before the first line. If explanations are asked for, there is room for them in place of
+    /// the buffer for a batch, since no batch is judged then. `Memory` if an allocation fails.
+    pub(crate) fn new(alloc: Global, asked: bool) -> Result<Reached, Memory>
+        ensures { IfOk result (λ made. (made.at ≡ at_front) × (made.told.text.items ≡ []) ×
+            (made.told.lacks ≡ false) × (asked ≡ true → HasRoom made.told)) }
     {
-        let text = Vec::with_capacity(alloc, BATCH)?;
+        let (batch, room) = if asked { (0, ROOM) } else { (BATCH, 0) };
         let at = At {
             place: 0,
             count: 0,
             refused: 0,
         };
+        let told = Explanations {
+            text: Vec::with_capacity(alloc, room)?,
+            why: Vec::with_capacity(alloc, room)?,
+            lacks: false,
+        };
         Ok(Reached {
-            alloc,
             at,
-            told: Vec::new(alloc),
+            told,
             line: Vec::new(alloc),
-            text,
+            text: Vec::with_capacity(alloc, batch)?,
         })
     }
 }

@@ -17,7 +17,7 @@ returns-clause-whole c = one_statement c.one_explanation_of_abnf.ensures
     (explanation_is_one c.one_note_explanation_of_abnf.ensures c.one_reading.ensures.definitions
     c.one_name_chain.ensures)
     (text_hints_are_one c.one_reading.ensures.definitions c.one_text_of_abnf_hints.ensures)
-    c.utf8_is_decided.ensures.one c.furthest_is_found.ensures.one c.refusal_is_one.ensures
+    c.utf8_is_decided.ensures.one c.furthest_is_found.ensures.one
 
 pub returns-clause-long : goal.returns-clause-long
 returns-clause-long c = long_is_told

@@ -21,13 +21,19 @@ loop-feed-init g c = record {
   within = let l = ap length c.requires.empty in rw c.requires.front.0 (omega (arith, l, c.requires.allowance));
   told = c.requires.told;
   work = c.requires.work;
+  room = c.requires.room;
   loan = refl;
   flag = refl;
   written = (
     [],
     rw c.requires.front.0 refl,
     rw c.requires.empty (Consumes-same _),
-    λ input a. ([], rw c.requires.front.0 none, rw (c.requires.front.0, c.requires.front.1) none_told, Appends-same _),
+    λ input a. (
+      [],
+      rw c.requires.front.0 none,
+      rw (c.requires.front.0, c.requires.front.1, c.requires.front.2) none_told,
+      Appends-same _,
+    ),
   );
 }
 
@@ -42,6 +48,7 @@ next_step-requires g c =
       counted = so_far.counted;
       within = omega (arith, so_far.within);
       told = so_far.told;
+      room = so_far.room;
       out_is_fresh = so_far.flag ∙ c.requires.out_is_fresh;
     }
 
@@ -95,6 +102,7 @@ loop-feed-preserved-then-at-next g c =
           omega (arith, kept, length-drop n items, c.skip.ensures.allowance, all, on.ahead, le);
       told = rw (c.skip.ensures.reader, c.skip.ensures.allowance, c.skip.ensures.flow) c.loop-feed.invariant.told;
       work = on.work;
+      room = c.loop-feed.invariant.room;
       loan = c.skip.ensures.loan ∙ c.loop-feed.invariant.loan;
       flag = c.in_default.ensures.flag ∙ c.loop-feed.invariant.flag;
       written = (
@@ -105,7 +113,7 @@ loop-feed-preserved-then-at-next g c =
             let a = rw (c.skip.ensures.bytes, slides-bytes so_far.0 items n, c.skip.ensures.flow) at b in
             let front = so_far.3 input a in
             more_lines (g.J.Judge.told c.args.judge.now) (g.J.Judge.explains c.args.judge.now)
-            (g.J.Judge.refusal c.args.judge.now) c.args.form input at _ _ front.0 c.loop-feed.reached.told.items front.1
+            (g.J.Judge.refusal c.args.judge.now) c.args.form input at _ _ front.0 c.loop-feed.reached.told front.1
             front.2 front.3 next _ c.judge_front-next.new.text.items
             (batch_goes (g.J.Judge.told c.args.judge.now) (g.J.Judge.explains c.args.judge.now)
             (g.J.Judge.refusal c.args.judge.now) c.args.form input so_far.0 items c.front.result.now
@@ -131,7 +139,7 @@ returns-in-Err g c =
         λ input a.
             let front = so_far.3 input a in
             fails_further (g.J.Judge.told c.args.judge.now) (g.J.Judge.explains c.args.judge.now)
-            (g.J.Judge.refusal c.args.judge.now) c.args.form input at _ _ front.0 c.loop-feed.reached.told.items front.1
+            (g.J.Judge.refusal c.args.judge.now) c.args.form input at _ _ front.0 c.loop-feed.reached.told front.1
             front.2 front.3 c.decided.ensures _ (length (so_far.0 ++ items)) c.in-Err.fault
             (rw so_far.1 at (held_within c.loop-feed.feed c.args.form so_far.0 input
             c.loop-feed.invariant.capacity (let len = c.len.ensures in omega (arith, len.len, len.within)) a))
@@ -175,6 +183,7 @@ loop-feed-preserved g c =
           ));
       told = rw (slid.reader, slid.allowance, slid.flow) c.in-Ok-Answers.ensures.told;
       work = c.in-Ok-Answers.ensures.work;
+      room = c.in-Ok-Answers.ensures.room;
       loan = slid.loan ∙ c.in-Ok-Answers.ensures.loan ∙ c.loop-feed.invariant.loan;
       flag = c.in-Ok-Answers.ensures.flag ∙ c.loop-feed.invariant.flag;
       written = (
@@ -189,8 +198,8 @@ loop-feed-preserved g c =
             let step = c.in-Ok-Answers.ensures.follows so_far.0 input so_far.1 a in
             rw (c.behind-reached.ensures, c.in-Ok-Answers.ensures.at) (one_more_line (g.J.Judge.told c.args.judge.now)
             (g.J.Judge.explains c.args.judge.now) (g.J.Judge.refusal c.args.judge.now) c.args.form input
-            c.loop-feed.reached.at _ _ front.0 c.loop-feed.reached.told.items front.1 front.2 front.3 _
-            c.next_step.new.reached.told.items c.in-Ok-Answers.said c.in-Ok-Answers.len
+            c.loop-feed.reached.at _ _ front.0 c.loop-feed.reached.told front.1 front.2 front.3 _
+            c.next_step.new.reached.told c.in-Ok-Answers.said c.in-Ok-Answers.len
             (rw c.in-Ok-Answers.field-0-is at step.0)),
       );
     }
@@ -227,7 +236,7 @@ returns-in-Ok-Stops g c = record {
             let step = c.in-Ok-Stops.ensures.follows so_far.0 input so_far.1 then_ in
             stops_there (g.J.Judge.told c.args.judge.now) (g.J.Judge.explains c.args.judge.now)
             (g.J.Judge.refusal c.args.judge.now) c.args.form input c.loop-feed.reached.at _ _ front.0
-            c.loop-feed.reached.told.items front.1 front.2 front.3 _ c.next_step.new.reached.told.items
+            c.loop-feed.reached.told front.1 front.2 front.3 _ c.next_step.new.reached.told
             (length (so_far.0 ++ bytes_of feed)) c.in-Ok-Stops.stop c.ending_at.result
             (rw c.in-Ok-Stops.field-0-is at step.0) (rw c.is_explained.ensures at c.ending_at.ensures.plain)
             (rw (c.is_explained.ensures, c.in-Ok-Stops.ensures.at) at c.ending_at.ensures.told)
@@ -264,8 +273,8 @@ returns-in-Err-next_step g c = record {
             let step = c.in-Err-next_step.ensures.follows so_far.0 input so_far.1 a in
             fails_there (g.J.Judge.told c.args.judge.now) (g.J.Judge.explains c.args.judge.now)
             (g.J.Judge.refusal c.args.judge.now) c.args.form input c.loop-feed.reached.at _ _ front.0
-            c.loop-feed.reached.told.items front.1 front.2 front.3 c.decided.ensures _ (length (so_far.0 ++ items))
-            c.in-Err-next_step.fault step.1 c.next_step.new.reached.told.items step.0,
+            c.loop-feed.reached.told front.1 front.2 front.3 c.decided.ensures _ (length (so_far.0 ++ items))
+            c.in-Err-next_step.fault step.1 c.next_step.new.reached.told step.0,
       );
   flag = c.in-Err-next_step.ensures.flag;
 }

@@ -43,6 +43,7 @@ fits-end len why (Err fault) same = tt
 pub returns-then-is_over : goal.returns-then-is_over
 returns-then-is_over g c = record {
   work = c.requires.work;
+  room = c.requires.room;
   at = refl;
   loan = c.fill.ensures.loan;
   told = c.fill.ensures.told;
@@ -51,7 +52,7 @@ returns-then-is_over g c = record {
       let feed = c.fill.new.self in (
         end_is (g.J.Judge.told c.args.judge.now) (g.J.Judge.explains c.args.judge.now)
             (g.J.Judge.refusal c.args.judge.now) c.args.form input c.args.reached.now.at
-            (g.O.Sink.contents c.args.out.now) (g.O.Sink.contents c.end_step.new.out) c.args.reached.now.told.items
+            (g.O.Sink.contents c.args.out.now) (g.O.Sink.contents c.end_step.new.out) c.args.reached.now.told
             c.end_step.result (rejected (sym c.is_over.ensures ∙ c.if-is_over.true)) c.end_step.ensures.bytes
             c.end_step.ensures.step,
         rw here at (held_within feed c.args.form before input
@@ -68,6 +69,7 @@ returns-in-Whole g c =
     let step = c.step_of.ensures.step in
     record {
       work = on.ensures.work;
+      room = on.ensures.room;
       at = on.ensures.at;
       loan = same.loan ∙ c.next_line.ensures.loan;
       told = rw (same.reader, same.allowance, same.flow) c.next_line.ensures.told;
@@ -83,7 +85,7 @@ returns-in-Whole g c =
             whole_is (g.J.Judge.told c.args.judge.now) (g.J.Judge.explains c.args.judge.now)
                 (g.J.Judge.refusal c.args.judge.now) c.args.form input c.args.reached.now.at
                 (g.O.Sink.contents c.args.out.now) (g.O.Sink.contents c.step_of.new.out)
-                c.args.reached.now.told.items on.new.reached.told.items c.in-Whole.n _ on.new.reached.text.items
+                c.args.reached.now.told on.new.reached.told c.in-Whole.n _ on.new.reached.text.items
                 on.result c.step_of.result (sym c.is_over.ensures ∙ c.if-is_over.false) front next.0
                 (rw c.kept_size.ensures.size at on.ensures.answered) on.ensures.err
                 (rw c.as_slice.ensures.value at step),
@@ -102,6 +104,7 @@ returns-in-Last g c =
     let step = c.step_of-in-Last.ensures.step in
     record {
       work = on.ensures.work;
+      room = on.ensures.room;
       at = on.ensures.at;
       loan = same.loan ∙ c.next_line.ensures.loan;
       told = rw (same.reader, same.allowance, same.flow) c.next_line.ensures.told;
@@ -115,7 +118,7 @@ returns-in-Last g c =
             last_is (g.J.Judge.told c.args.judge.now) (g.J.Judge.explains c.args.judge.now)
                 (g.J.Judge.refusal c.args.judge.now) c.args.form input c.args.reached.now.at
                 (g.O.Sink.contents c.args.out.now) (g.O.Sink.contents c.step_of-in-Last.new.out)
-                c.args.reached.now.told.items on.new.reached.told.items c.in-Last.n _ on.new.reached.text.items
+                c.args.reached.now.told on.new.reached.told c.in-Last.n _ on.new.reached.text.items
                 on.result c.step_of-in-Last.result (sym c.is_over.ensures ∙ c.if-is_over.false) front next.0
                 on.ensures.answered on.ensures.err
                 (rw c.as_slice-in-Last.ensures.value at step),
@@ -130,6 +133,7 @@ returns-in-Last g c =
 pub returns-in-Overlong : goal.returns-in-Overlong
 returns-in-Overlong g c = record {
   work = c.requires.work;
+  room = c.requires.room;
   at = refl;
   loan = c.next_line.ensures.loan;
   told = c.next_line.ensures.told;
@@ -139,7 +143,7 @@ returns-in-Overlong g c = record {
       (c.next_line.ensures.grows.capacity ∙ c.requires.capacity) a) in (
         long_is (g.J.Judge.told c.args.judge.now) (g.J.Judge.explains c.args.judge.now)
             (g.J.Judge.refusal c.args.judge.now) c.args.form input c.args.reached.now.at
-            (g.O.Sink.contents c.args.out.now) (g.O.Sink.contents c.args.out.now) c.args.reached.now.told.items
+            (g.O.Sink.contents c.args.out.now) (g.O.Sink.contents c.args.out.now) c.args.reached.now.told
             (sym c.is_over.ensures ∙ c.if-is_over.false) next.0,
         next.1,
       );
@@ -150,6 +154,7 @@ returns-in-Overlong g c = record {
 pub returns-in-End : goal.returns-in-End
 returns-in-End g c = record {
   work = c.requires.work;
+  room = c.requires.room;
   at = refl;
   loan = c.next_line.ensures.loan;
   told = c.next_line.ensures.told;
@@ -160,7 +165,7 @@ returns-in-End g c = record {
         end_is (g.J.Judge.told c.args.judge.now) (g.J.Judge.explains c.args.judge.now)
             (g.J.Judge.refusal c.args.judge.now) c.args.form input c.args.reached.now.at
             (g.O.Sink.contents c.args.out.now) (g.O.Sink.contents c.end_step-in-End.new.out)
-            c.args.reached.now.told.items
+            c.args.reached.now.told
             c.end_step-in-End.result (finished (sym c.is_over.ensures ∙ c.if-is_over.false) next.0)
             c.end_step-in-End.ensures.bytes c.end_step-in-End.ensures.step,
         next.1,
@@ -172,6 +177,7 @@ returns-in-End g c = record {
 pub returns-in-Broken : goal.returns-in-Broken
 returns-in-Broken g c = record {
   work = c.requires.work;
+  room = c.requires.room;
   at = refl;
   loan = c.next_line.ensures.loan;
   told = c.next_line.ensures.told;
@@ -181,7 +187,7 @@ returns-in-Broken g c = record {
       (c.next_line.ensures.grows.capacity ∙ c.requires.capacity) a) in (
         broken_is (g.J.Judge.told c.args.judge.now) (g.J.Judge.explains c.args.judge.now)
             (g.J.Judge.refusal c.args.judge.now) c.args.form input c.args.reached.now.at
-            (g.O.Sink.contents c.args.out.now) (g.O.Sink.contents c.args.out.now) c.args.reached.now.told.items
+            (g.O.Sink.contents c.args.out.now) (g.O.Sink.contents c.args.out.now) c.args.reached.now.told
             (sym c.is_over.ensures ∙ c.if-is_over.false) next.0,
         next.1,
       );

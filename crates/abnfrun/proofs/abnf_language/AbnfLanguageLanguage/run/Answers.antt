@@ -1,6 +1,4 @@
 -- Memory was refused before the first line, or the lines were judged.
-use Rattle.std.proofs.Common.{◌≡◌, ◌∙◌}
-use Rattle.std.specs.Prelude.{is_some}
 use Rattle.abnfread.specs.AbnfViews.{rules_of}
 use Rattle.abnfrun.specs.AbnfReply.{AnswersFor, RefusalFor, form_of}
 use Rattle.linejudge.proofs.LineRunLemmas.{no_line_was_run}
@@ -14,16 +12,5 @@ returns-in_default g c =
     no_line_was_run (AnswersFor rules judged s) s.explain (RefusalFor rules judged s) (form_of s)
     (c.lines_have_answers.ensures s.options.letters s.options.viable rules judged) _ _ _ _ _
 
-pub returns-in_default-explainer_of : goal.returns-in_default-explainer_of
-returns-in_default-explainer_of g c =
-    let s = c.args.settings.now in
-    let rules = rules_of c.args.grammar.now.rules in
-    let judged = c.args.grammar.now.judged in
-    no_line_was_run (AnswersFor rules judged s) s.explain (RefusalFor rules judged s) (form_of s)
-    (c.lines_have_answers.ensures s.options.letters s.options.viable rules judged) _ _ _ _ _
-
 pub returns : goal.returns
-returns g c =
-    let asked : is_some c.as_ref-explainer.result ≡ c.args.settings.now.explain =
-    c.as_ref-explainer.ensures.variant ∙ c.in-Ok-explainer_of.ensures.asked in
-    rw (c.line_form.ensures, asked) at c.run_lines.ensures
+returns g c = rw c.line_form.ensures at c.run_lines.ensures
