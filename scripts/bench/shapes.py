@@ -121,6 +121,14 @@ RFC = {
     "additions": Shape('r = "a"\n', numbered('r =/ "a#"\n')),
     "undefined names": Shape('', numbered('r# = u#\n')),
     "carriage returns": Shape('r = "a"\n', '\r', '\n'),
+    "elements of XML": Shape('<rfc>\n', numbered('<artwork>\nr# = "x"\n</artwork>\n')),
+    "open elements of XML": Shape('<rfc>\n', numbered('<artwork>\nr# = "x"\n')),
+    "open tags of XML": Shape('<rfc>\n', '<artwork type="c" a='),
+    "types of a tag of XML": Shape('<rfc><artwork ', 'type   type =', '>'),
+    "open comments of XML": Shape('<rfc>\n', '<!-- a --'),
+    "references of XML": Shape('<rfc><artwork>r = "', '&#0060;&lt;&b', '"\n'),
+    "a long reference of XML": Shape('<rfc><artwork>r = "&#', '0', '"\n'),
+    "CDATA of XML": Shape('<rfc><artwork>', '<![CDATA[ ]]]]>\n'),
 }
 
 

@@ -45,8 +45,9 @@ TWINS = set(
     """.split()
 )
 # The most crates of the workspace, and the most that a chain of uses has which ends in a program. A program is a crate
-# of its own, as `abnfd`. `derivedlines` holds what a program that lists lines will run.
-MOST_CRATES = 52
+# of its own, as `abnfd`. `derivedlines` holds what a program that lists lines will run. `rfcforms` reads XML, for which
+# `abnfblocks` has no room.
+MOST_CRATES = 53
 LONGEST_CHAIN = 10
 # The programs, each with the parts of crates.txt of which it uses nothing, and the most crates below it.
 PROGRAMS = {

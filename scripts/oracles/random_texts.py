@@ -1,8 +1,8 @@
 #!/usr/bin/env python3
-"""Makes random texts in the manner of RFCs, of rules, prose, pages, fenced blocks and tags, and compares what abnfx
-writes of them with what slow_abnfx.py works out, and its canonical text with what `abnfi -m print` prints of the
-grammar, unless abnfi refuses that. A grammar that is too long is tried too, and so are words and files that it
-refuses.
+"""Makes random texts in the manner of RFCs, of rules, prose, pages, fenced blocks and tags, and texts in XML, and
+compares what abnfx writes of them with what slow_abnfx.py works out, and its canonical text with what `abnfi -m print`
+prints of the grammar, unless abnfi refuses that. A grammar that is too long is tried too, and so are words and files
+that it refuses.
 
 usage: random_texts.py [-n TEXTS] [-s SEED]
 
@@ -87,6 +87,47 @@ def text(made):
     return mark + (end.join(found) + made.choice(("", end))).encode()
 
 
+# What begins a text in XML, the tags that begin and end elements, what stands in them, and what stands outside.
+XML_FRONTS = ("<?xml version='1.0'?>", "\n <rfc>", "<!DOCTYPE rfc>", "<rfcs a='<artwork>'>")
+OPENINGS = (
+    "<artwork>", "<sourcecode>", "<sourcecode type='abnf'>", '<artwork a="b>c" type = "ABNF"\n>', "<artwork type=''>",
+    "<artwork type='json'>", "<sourcecode\ntype='c'>", "<artwork/>", "<sourcecodes>", "<artwork type='abnf' />",
+    "<sourcecode a='type=\"c\"'>", "<artwork atype='c'>", "<sourcecode type=abnf>", "<artwork type='abnf' type='c'>"
+)
+CLOSINGS = (
+    "</artwork>", "</sourcecode>", "</sourcecode\n>", "</artworks>", "", "</artwork", "\n</artwork>", "\n</sourcecode>"
+)
+INSIDE = (
+    "<![CDATA[", "]]>", "&lt;b&gt;", "&amp;lt;", "&quot;&apos;", "&#x41;", "&#65;", "&#065;", "&#x7f;", "&#31;",
+    "&#x20;", "&#;", "&#X41;", "&nbsp;", "&", "]]", "<!--", "-->", "<b>",
+    '"<![CDATA[&lt;]]>"', "&#9999999999999999999999;", "&#xg;"
+)
+OUTSIDE = ("<t>", "<!-- ", " -->", "<!-->", "a = b", "&lt;", "<![CDATA[", "]]>", " ", "<!-- <artwork> -->", "'", "x")
+
+
+def xml(made):
+    """Returns a text in XML."""
+    found = made.choice(XML_FRONTS) + "\n"
+    for _ in range(made.randrange(1, 6)):
+        found += "".join(made.choice(OUTSIDE) + made.choice(("", "\n", "\n\n")) for _ in range(made.choice((0, 1, 2))))
+        found += made.choice(OPENINGS) + made.choice(("", "\n", "\n", "<![CDATA[\n"))
+        for _ in range(made.choice((0, 1, 2, 3))):
+            size = made.choice((0, 0, 2, 3))
+            lines = "\n".join(rule(made, size))
+            if made.random() < 0.5:
+                lines = lines.replace("<", "&lt;").replace(">", made.choice((">", "&gt;", "&#62;")))
+            if made.random() < 0.3:
+                at = made.randrange(len(lines))
+                lines = lines[:at] + made.choice(INSIDE) + lines[at:]
+            found += lines + made.choice(("\n", "\n\n", ""))
+            if made.random() < 0.2:
+                found += made.choice(INSIDE) + made.choice(("", "\n"))
+        found += made.choice(("", "]]>")) + made.choice(CLOSINGS) + made.choice(("\n", "\n", "\n\n", ""))
+    if made.random() < 0.2:
+        found = found.replace("\n", "\r\n")
+    return made.choice((b"", b"", b"\xEF\xBB\xBF")) + found.encode()
+
+
 class Trials:
     """Runs of abnfx in a folder, and how many went wrong."""
 
@@ -144,7 +185,7 @@ def main():
         trials.long_grammar()
         trials.refusals()
         for _ in range(words.n):
-            texts = [(f"t{it}.txt", text(made)) for it in range(made.choice((1, 1, 2, 3)))]
+            texts = [(f"t{it}.txt", made.choice((text, text, xml))(made)) for it in range(made.choice((1, 1, 2, 3)))]
             trials.put(texts)
             grammar, listed, told, status = slow_abnfx.joined(texts)
             trials.expect(texts, [], grammar, told.encode(), status)

@@ -1,7 +1,7 @@
 #!/usr/bin/env python3
 """What stands in the text of an RFC, worked out slowly and plainly: its lines without page furniture, with title
-blocks, blocks in other languages and long tags masked, and the rules of ABNF among them; and the grammar that several
-texts make up. It shares nothing with the crates.
+blocks, blocks in other languages and long tags masked, of XML the contents of some elements, and the rules of ABNF
+among them; and the grammar that several texts make up. It shares nothing with the crates.
 
 usage: slow_abnfx.py [TEXT ..]
 
@@ -116,6 +116,78 @@ def masked(rows):
             spans.append(it.span())
     shown = without(rows, spans)
     return without(shown, [it.span() for it in TAG.finditer(text_of(shown))])
+
+
+# What begins a text that is read as XML, a tag of an element that can hold ABNF, and one attribute of it. Quotes in a
+# tag hold any byte.
+XML = re.compile(rb"\s*(?:<\?xml|<rfc|<!DOCTYPE)")
+QUOTED = rb"""(?:[^>"']|"[^"]*(?:"|\Z)|'[^']*(?:'|\Z))*"""
+OPENING = re.compile(rb"<!--.*?(?:-->|\Z)|<(sourcecode|artwork)(?=[ \t\r\n/>])" + QUOTED + rb"(?:>|\Z)", re.S)
+TYPE = re.compile(rb"""[ \t\r\n]type[ \t\r\n]*=[ \t\r\n]*(?:"([^"]*)"?|'([^']*)'?)|"[^"]*"|'[^']*'""")
+REFERENCES = {b"lt": b"<", b"gt": b">", b"amp": b"&", b"quot": b'"', b"apos": b"'"}
+
+
+def type_of(tag):
+    """Returns the value of `type` in a tag, in small letters."""
+    values = [it for it in TYPE.finditer(tag) if it[0][:1] not in (b'"', b"'")]
+    return (values[0][1] or values[0][2] or b"").lower() if values else b""
+
+
+def decoded(it):
+    """Returns the bytes for which a reference stands."""
+    name = it[1]
+    if name[:1] != b"#":
+        return REFERENCES.get(name, it[0])
+    number = int(name[2:], 16) if name[1:2] == b"x" else int(name[1:])
+    return bytes([number]) if 0x20 <= number <= 0x7E else it[0]
+
+
+def contents(text):
+    """Returns the places of the bytes of an XML text that are contents, each with the bytes that it stands for."""
+    found, place = {}, 0
+    while opened := OPENING.search(text, place):
+        place = opened.end()
+        if not opened[1] or opened[0].endswith(b"/>") or type_of(opened[0]) not in (b"", b"abnf"):
+            continue
+        closing = re.compile(rb"(<!\[CDATA\[)|(</" + opened[1] + rb"(?=[ \t\r\n/>])" + QUOTED + rb"(?:>|\Z))|"
+                             rb"&(#x[0-9A-Fa-f]+|#[0-9]+|lt|gt|amp|quot|apos);", re.S)
+        while True:
+            it = closing.search(text, place)
+            stop = it.start() if it else len(text)
+            found.update((at, text[at:at + 1]) for at in range(place, stop))
+            place = it.end() if it else len(text)
+            if not it or it[2]:
+                break
+            if it[1]:
+                end = text.find(b"]]>", place)
+                found.update((at, text[at:at + 1]) for at in range(place, end if end >= 0 else len(text)))
+                place = end + 3 if end >= 0 else len(text)
+            else:
+                found[it.start()] = decoded(re.fullmatch(rb"&(.*);", it[0]))
+                if len(found[it.start()]) > 1:
+                    found.update((at, text[at:at + 1]) for at in range(it.start(), it.end()))
+                else:
+                    found.update((at, b"") for at in range(it.start() + 1, it.end()))
+    return found
+
+
+def xml_text(text):
+    """Returns the text that is read of an XML text: a line for each of its lines."""
+    held, shown, start = contents(text), b"", 0
+    for part in re.findall(rb"[^\n]*\n|[^\n]+\Z", text):
+        line = part.removesuffix(b"\n")
+        if part.endswith(b"\r\n"):
+            line = line.removesuffix(b"\r")
+        places = range(start, start + len(line))
+        inside = b"".join(held.get(at, b"") for at in places)
+        is_other = any(at not in held for at in places)
+        shown += (b"<" if is_other and not inside.strip(b" \t\f\r") else inside) + b"\n"
+        start += len(part)
+    return shown
+
+
+def is_xml(text):
+    return bool(XML.match(text.removeprefix(b"\xEF\xBB\xBF")))
 
 
 def margin(line):
@@ -235,7 +307,12 @@ def in_text(why, some):
 
 def found(name, text):
     """Returns for each line of a text that begins a rule the rule, or its number and the fault."""
-    rest, told = masked(kept(lines(text))), []
+    bare, told = text.removeprefix(b"\xEF\xBB\xBF"), []
+    if is_xml(bare):
+        shown = kept(lines(xml_text(bare)))
+        rest = without(shown, [it.span() for it in TAG.finditer(text_of(shown))])
+    else:
+        rest = masked(kept(lines(text)))
     for place, (number, line, _) in enumerate(rest):
         if opens(line):
             some = rest[place:place + size_of(rest[place:])]

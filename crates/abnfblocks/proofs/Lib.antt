@@ -8,6 +8,7 @@ pub mod KeptLemmas
 pub mod CutPartLemmas
 pub mod MaskedLinesLemmas
 pub mod OpenTagLemmas
+pub mod XmlLineLemmas
 pub mod LineEndLemmas
 pub mod LineTokenLemmas
 pub mod RuleEndLemmas

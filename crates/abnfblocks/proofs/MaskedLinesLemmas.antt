@@ -6,7 +6,7 @@ use Rattle.std.proofs.Common.{inl, inr, subst, append_assoc, append-nil}
 use Rattle.std.proofs.lemmas.Bool.{cases_Bool}
 use Rattle.std.proofs.lemmas.Bool.Decides.{nat_tests}
 use Rattle.std.proofs.lemmas.Grind.{take_at_read}
-use Rattle.std.specs.List.{drop-map}
+use Rattle.std.specs.List.{drop-map, flat_map}
 use Rattle.std.proofs.lemmas.List.{drop_all, drop-drop, get_or-map, length-drop, length-map, length-take}
 use Rattle.std.proofs.lemmas.List.{map-append, reverse-append, take_all}
 use Rattle.std.proofs.lemmas.List.{take-map}
@@ -14,10 +14,14 @@ use Rattle.abnfblocks.specs.Fences.{opened_size, closing_length, fenced_size, hi
 use Rattle.abnfblocks.specs.Fences.{opening_length, title_size}
 use Rattle.abnfblocks.specs.MaskSteps.{each_longest, line_shown, lines_shown, longest_closing}
 use Rattle.abnfblocks.specs.MaskedLines.{AreRead, MasksBlocks, MasksMarkdown, MasksTags, none_left, no_block, stays}
+use Rattle.abnfblocks.specs.MaskedLines.{ReadsLines, ReadsMarkdown, ReadsPlain, ShowsText}
 use Rattle.abnfblocks.specs.MaskedLines.{behind_blanks, hidden, masked_line}
 use Rattle.abnfblocks.specs.OpenTags.{tag_size}
 use Rattle.abnfblocks.specs.RuleCuts.{blanks_first}
-use Rattle.abnfblocks.specs.TextLines.{NumberedLine, numbered}
+use Rattle.abnfblocks.specs.TextLines.{NumberedLine, line_parts, numbered}
+use Rattle.abnfblocks.specs.XmlLines.{HoldsXml, shown_part}
+use Rattle.rfcforms.proofs.XmlPieceLemmas.{one-marking}
+use Rattle.rfcforms.specs.XmlTags.{begins_xml}
 use Rattle.abnfblocks.specs.declared.rfctext.text_line.TextLine.{TextLine}
 use Rattle.abnfblocks.proofs.FurnitureLemmas.{one-kept}
 use Rattle.abnfblocks.proofs.RuleCutLemmas.{one-fails, one-passes, rest-rows, row-behind}
@@ -314,12 +318,36 @@ one-markdown {lines} x y =
     x.is ∙ ap (λ (xs : List NumberedLine). take n lines ++ (map masked_line (take k (drop n lines)) ++ xs))
     (one-blocks fenced_size hides_block x.blocks y.blocks) ∙ sym y.is
 
--- a text has one list of lines in which rules are looked for
-pub one-read : {text : List ℕ} {a b : List NumberedLine} → AreRead text a → AreRead text b → a ≡ b
-one-read {a} x y =
+one-plain : {text : List ℕ} {a b : List NumberedLine} → ReadsPlain text a → ReadsPlain text b → a ≡ b
+one-plain {a} x y =
+    let kept : x.kept ≡ y.kept = one-kept x.keeps y.keeps in
+    let tags : MasksTags y.kept a = subst (λ (xs : List NumberedLine). MasksTags xs a) kept x.tags in
+    one-blocks tag_size (λ line. true) tags y.tags
+
+one-shown : {text : List ℕ} {a b : List NumberedLine} → ReadsMarkdown text a → ReadsMarkdown text b → a ≡ b
+one-shown {a} x y =
     let kept : x.kept ≡ y.kept = one-kept x.keeps y.keeps in
     let masks : MasksMarkdown y.kept x.shown =
     subst (λ (xs : List NumberedLine). MasksMarkdown xs x.shown) kept x.masks in
     let shown : x.shown ≡ y.shown = one-markdown masks y.masks in
     let tags : MasksTags y.shown a = subst (λ (xs : List NumberedLine). MasksTags xs a) shown x.tags in
     one-blocks tag_size (λ line. true) tags y.tags
+
+-- an XML text has one text that is read of it
+one-xml : {text a b : List ℕ} → HoldsXml text a → HoldsXml text b → a ≡ b
+one-xml (marked, m, e) (other, n, f) =
+    e ∙ ap (λ (xs : List ℕ). flat_map shown_part (line_parts xs)) (one-marking m n) ∙ sym f
+
+lines-alike : (of_xml : Bool) (text other : List ℕ) (a b : List NumberedLine) → text ≡ other
+    → ReadsLines of_xml text a → ReadsLines of_xml other b → a ≡ b
+lines-alike true text other a b e x y = one-plain x (subst (λ (xs : List ℕ). ReadsPlain xs b) (sym e) y)
+lines-alike false text other a b e x y = one-shown x (subst (λ (xs : List ℕ). ReadsMarkdown xs b) (sym e) y)
+
+texts-alike : (of_xml : Bool) (text a b : List ℕ) → ShowsText of_xml text a → ShowsText of_xml text b → a ≡ b
+texts-alike true text a b x y = one-xml x y
+texts-alike false text a b x y = x ∙ sym y
+
+-- a text has one list of lines in which rules are looked for
+pub one-read : {text : List ℕ} {a b : List NumberedLine} → AreRead text a → AreRead text b → a ≡ b
+one-read {text} {a} {b} x y = lines-alike (begins_xml text) x.source y.source a b
+    (texts-alike (begins_xml text) text x.source y.source x.shows y.shows) x.reads y.reads

@@ -10,4 +10,5 @@ pub mod KeptSteps
 pub mod LineKinds
 pub mod TextLines
 pub mod LinkedLines
+pub mod XmlLines
 pub mod RuleEnds

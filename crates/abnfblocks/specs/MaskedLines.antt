@@ -5,6 +5,8 @@ use Rattle.abnfblocks.specs.Furniture.{KeepsLines}
 use Rattle.abnfblocks.specs.OpenTags.{tag_size}
 use Rattle.abnfblocks.specs.RuleCuts.{blanks_first}
 use Rattle.abnfblocks.specs.TextLines.{NumberedLine, text_lines}
+use Rattle.abnfblocks.specs.XmlLines.{HoldsXml}
+use Rattle.rfcforms.specs.XmlTags.{begins_xml}
 use Rattle.abnfblocks.specs.declared.rfctext.line_kind.LineKind.TheVariants.{Other}
 
 -- what a masked line is read as: `<`, which begins no rule, and ends one
@@ -42,10 +44,32 @@ pub record MasksMarkdown (lines masked : List NumberedLine) : Type 0 where
 abbrev pub MasksTags : List NumberedLine → List NumberedLine → Type 0
 MasksTags lines masked = MasksBlocks tag_size (λ line. true) lines masked
 
--- the lines of a text without furniture, with others masked
-pub record AreRead (text : List ℕ) (lines : List NumberedLine) : Type 0 where
+-- The lines of a text in Markdown without furniture, with others masked.
+pub record ReadsMarkdown (text : List ℕ) (lines : List NumberedLine) : Type 0 where
   pub kept : List NumberedLine
   pub keeps : KeepsLines [] (text_lines text) kept
   pub shown : List NumberedLine
   pub masks : MasksMarkdown kept shown
   pub tags : MasksTags shown lines
+
+-- In the text that is read of XML no blocks are masked.
+pub record ReadsPlain (text : List ℕ) (lines : List NumberedLine) : Type 0 where
+  pub kept : List NumberedLine
+  pub keeps : KeepsLines [] (text_lines text) kept
+  pub tags : MasksTags kept lines
+
+-- the lines of a text, which was read of XML, or can have blocks of Markdown
+abbrev pub ReadsLines : Bool → List ℕ → List NumberedLine → Type 0
+ReadsLines true text lines = ReadsPlain text lines
+ReadsLines false text lines = ReadsMarkdown text lines
+
+-- The text that is read of one: that of an XML text, or else the text.
+abbrev pub ShowsText : Bool → List ℕ → List ℕ → Type 0
+ShowsText true text shown = HoldsXml text shown
+ShowsText false text shown = shown ≡ text
+
+-- the lines of a text in which rules are looked for
+pub record AreRead (text : List ℕ) (lines : List NumberedLine) : Type 0 where
+  pub source : List ℕ
+  pub shows : ShowsText (begins_xml text) text source
+  pub reads : ReadsLines (begins_xml text) source lines

@@ -10,6 +10,8 @@ mod rule;
 mod rule_line;
 
 pub use found::{Found, find_rules, one_finding};
-pub use rfctext::{LineKind, TextLine, is_blank, one_masking, read_lines, without_mark};
+pub use rfctext::{
+    LineKind, TextLine, is_blank, one_masking, read_lines, source_text, without_mark,
+};
 pub use rule::{blank_count, joined_text};
 pub use rule_line::margin;

@@ -8,6 +8,7 @@ mod line_tests;
 mod masked;
 mod tag;
 mod text_line;
+mod xml_text;
 
 pub(crate) use kept::bare_len;
 pub use kept::without_mark;
@@ -15,3 +16,4 @@ pub use line_kind::LineKind;
 pub use line_tests::is_blank;
 pub use masked::{one_masking, read_lines};
 pub use text_line::TextLine;
+pub use xml_text::source_text;

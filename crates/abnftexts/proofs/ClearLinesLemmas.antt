@@ -8,13 +8,15 @@ use Rattle.abnfblocks.specs.Fences.{title_size}
 use Rattle.abnfblocks.specs.Furniture.{KeepsLines, none_left as none_kept, stays, goes}
 use Rattle.abnfblocks.specs.KeptSteps.{is_blank_kind}
 use Rattle.abnfblocks.specs.LineKinds.{is_blank, is_blank_line, is_dated, is_feed, is_foot, kind_of}
-use Rattle.abnfblocks.specs.MaskedLines.{AreRead, MasksBlocks, MasksMarkdown, behind_blanks, hidden, masked_line}
+use Rattle.abnfblocks.specs.MaskedLines.{AreRead, MasksBlocks, MasksMarkdown, ReadsLines, behind_blanks, hidden}
+use Rattle.abnfblocks.specs.MaskedLines.{masked_line}
 use Rattle.abnfblocks.specs.MaskedLines.{none_left, no_block, stays as stays_there}
 use Rattle.abnfblocks.specs.RuleCuts.{blanks_first}
 use Rattle.abnfblocks.specs.RuleLines.{begins_by}
 use Rattle.abnfblocks.specs.TextLines.{NumberedLine, line_in, line_parts, lines_from, with_byte}
 use Rattle.abnfblocks.specs.declared.rfctext.line_kind.LineKind.{LineKind}
 use Rattle.abnfread.specs.AbnfSlices.{is_inside}
+use Rattle.rfcforms.specs.XmlTags.{begins_xml}
 use Rattle.abnftexts.proofs.EachLemmas.{Each, each_none, each_next, each-drop}
 
 -- bytes without LF
@@ -123,7 +125,13 @@ markdown-clear {lines} m h =
     subst (Each IsClear) (sym m.is) (both-clear (first-clear n h) (both-clear
     (all-masked (take (title_size bare) bare)) (blocks-clear m.blocks (each-drop (title_size bare) (each-drop n h)))))
 
-pub kept-clear : (bytes : List ℕ) {lines : List NumberedLine} → AreRead bytes lines → Each IsClear lines
-kept-clear bytes r =
+read-clear : (of_xml : Bool) (bytes : List ℕ) {lines : List NumberedLine} → ReadsLines of_xml bytes lines
+    → Each IsClear lines
+read-clear true bytes r =
+    blocks-clear r.tags (keeps-clear r.keeps (lines-clear 1 (line_parts bytes) (parts-inside bytes)))
+read-clear false bytes r =
     blocks-clear r.tags (markdown-clear r.masks
     (keeps-clear r.keeps (lines-clear 1 (line_parts bytes) (parts-inside bytes))))
+
+pub kept-clear : (bytes : List ℕ) {lines : List NumberedLine} → AreRead bytes lines → Each IsClear lines
+kept-clear bytes r = read-clear (begins_xml bytes) r.source r.reads

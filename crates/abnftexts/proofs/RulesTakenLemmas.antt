@@ -1,21 +1,27 @@
 -- What is taken of texts, step by step.
 -- Serves: join_texts
-use Rattle.std.proofs.Common.{◌≡◌, ℕ, zero, suc, ◌+◌, ◌<◌, ◌≤◌, List, [], ◌∷◌, ◌++◌, length, get_or, map, take, drop}
-use Rattle.std.proofs.Common.{refl, sym, ap, ◌∙◌, append-nil, append_assoc, arith, subst}
+use Rattle.std.proofs.Common.{◌≡◌, ℕ, Bool, zero, suc, ◌+◌, ◌<◌, ◌≤◌, List, [], ◌∷◌, ◌++◌, length, get_or, map, take}
+use Rattle.std.proofs.Common.{drop, refl, sym, ap, ◌∙◌, append-nil, append_assoc, arith, subst}
 use Rattle.std.proofs.Math.Seq.{drop-cons}
-use Rattle.std.proofs.lemmas.List.{at_drop_all, drop-map, take-map}
+use Rattle.std.proofs.lemmas.Grind.{take_at_read}
+use Rattle.std.proofs.lemmas.List.{at_drop_all, drop-map, map-append, take-map, take_all}
 use Rattle.ruletable.specs.declared.fault.ReadFault.{ReadFault}
-use Rattle.abnfblocks.specs.TextLines.{NumberedLine, numbered}
+use Rattle.abnfblocks.specs.TextLines.{NumberedLine, behind_mark, numbered}
+use Rattle.abnfblocks.specs.FoundRules.{AreFound}
+use Rattle.abnfblocks.specs.MaskedLines.{AreRead, ReadsLines, ShowsText}
+use Rattle.rfcforms.specs.XmlTags.{begins_xml}
 use Rattle.abnfblocks.specs.declared.rfctext.text_line.TextLine.{TextLine}
 use Rattle.abnfblocks.specs.RuleCuts.{blanks_first, lines_text, margin_at}
 use Rattle.abnfblocks.specs.declared.found.Found.{Found}
 use Rattle.abnfblocks.specs.declared.found.Found.TheVariants as found
 use Rattle.abnftexts.specs.RulesGathered.{RuleLines, RulesGathered, NamedText, both_given, named_text}
 use Rattle.abnftexts.specs.RulesGathered.{none_given, one_rule, told_alone}
-use Rattle.abnftexts.specs.TakenRules.{TakesMore, TakesRule}
+use Rattle.abnftexts.specs.TakenRules.{TakesFound, TakesMore, TakesRule}
 use Rattle.abnftexts.specs.TextRules.{GivesFound, GivesText, GiveTexts, SpellRule, given_by, next_rule, next_text}
 use Rattle.abnftexts.specs.TextRules.{no_rule, no_texts, none_found, place_in}
 use Rattle.abnftexts.specs.TextPlaces.{not_abnf_told}
+use Rattle.abnftexts.specs.ShownTexts.{AreShown, IsShown, next_shown, none_shown}
+use Rattle.abnftexts.specs.declared.gathered.ShownText.{ShownText}
 use Rattle.abnftexts.specs.declared.gathered.SourceText.{SourceText}
 use Rattle.abnftexts.proofs.EachLemmas.{Each, each_next}
 use Rattle.abnftexts.proofs.PlacedRulesLemmas.{IsReadAlone, ReadAlone}
@@ -152,21 +158,94 @@ found-all name kept all i g le =
     subst (λ (xs : List Found). TakesMore (GivesFound name kept xs) g g) (sym (at_drop_all (λ xs. xs) all i le))
     (none-taken (GivesFound name kept []) g none_found)
 
+-- what a text gives is taken, where its lines are those that are read of what is shown
+pub text-taken : (text : NamedText) (shown : ShownText) (kept : List NumberedLine) (all : List Found)
+    (g h : RulesGathered) → IsShown text shown → ReadsLines shown.of_xml shown.bytes.items kept → AreFound 0 kept all
+    → TakesFound shown.name.now kept all g h → TakesMore (GivesText text) g h
+text-taken text shown kept all g h is reads finds takes =
+    let source : List ℕ = behind_mark text.bytes in
+    let are : AreRead source kept = record {
+      source = shown.bytes.items;
+      shows = subst (λ (b : Bool). ShowsText b source shown.bytes.items) is.of_xml is.shows;
+      reads = subst (λ (b : Bool). ReadsLines b shown.bytes.items kept) is.of_xml reads;
+    } in
+    let some = takes source are finds in
+    let gives : GivesText text some.0 = record {
+      kept = kept;
+      keeps = are;
+      all_found = all;
+      are_found = finds;
+      gives = subst (λ (name : List ℕ). GivesFound name kept all some.0) is.name some.1;
+    } in
+    (some.0, gives, some.2)
+
+-- of texts that are shown, one that is left is shown, and so are those after it
+shown-there : (i : ℕ) (d : ShownText) {named : List NamedText} {texts : List ShownText} → AreShown named texts
+    → i < length texts
+    → (text : NamedText) × IsShown text (get_or texts i d) × (drop i named ≡ text ∷ drop (suc i) named)
+shown-there i d none_shown lt = absurd (omega (arith, lt))
+shown-there zero d (next_shown {text} is more) lt = (text, is, refl)
+shown-there (suc i) d (next_shown is more) lt = shown-there i d more (omega (arith, lt))
+
+shown-length : {named : List NamedText} {texts : List ShownText} → AreShown named texts → length named ≡ length texts
+shown-length none_shown = refl
+shown-length (next_shown is more) = omega (arith, shown-length more)
+
 -- what one more text gives follows what was gathered
-pub text-more : (texts : List SourceText) (i : ℕ) (d : SourceText) (g h more : RulesGathered) → i < length texts
-    → TakesMore (GivesText (named_text (get_or texts i d))) g h → GiveTexts (map named_text (drop (i + 1) texts)) more
-    → (all : RulesGathered) × GiveTexts (map named_text (drop i texts)) all
-    × (both_given g all ≡ both_given h more)
-text-more texts i d g h more lt one others =
-    let here : map named_text (drop i texts) ≡ named_text (get_or texts i d) ∷ map named_text (drop (i + 1) texts) =
-    ap (λ (xs : List SourceText). map named_text xs) (one-behind texts i d lt) in (
+pub text-more : (named : List NamedText) (texts : List ShownText) (i : ℕ) (d : ShownText) (g h more : RulesGathered)
+    → i < length texts → AreShown named texts
+    → ((text : NamedText) → IsShown text (get_or texts i d) → TakesMore (GivesText text) g h)
+    → GiveTexts (drop (i + 1) named) more
+    → (all : RulesGathered) × GiveTexts (drop i named) all × (both_given g all ≡ both_given h more)
+text-more named texts i d g h more lt shown takes others =
+    let there = shown-there i d shown lt in
+    let next : suc i ≡ i + 1 = omega arith in
+    let here : drop i named ≡ there.0 ∷ drop (i + 1) named =
+    there.2 ∙ ap (λ (k : ℕ). there.0 ∷ drop k named) next in
+    let one = takes there.0 there.1 in (
       both_given one.0 more,
       subst (λ (xs : List NamedText). GiveTexts xs (both_given one.0 more)) (sym here) (next_text one.1 others),
       sym (ap (λ (x : RulesGathered). both_given x more) one.2 ∙ both-assoc g one.0 more),
     )
 
-pub texts-all : (texts : List SourceText) (i : ℕ) → length texts ≤ i
-    → GiveTexts (map named_text (drop i texts)) none_given
-texts-all texts i le =
-    subst (λ (xs : List SourceText). GiveTexts (map named_text xs) none_given) (sym (at_drop_all (λ xs. xs) texts i le))
-    no_texts
+pub texts-all : (named : List NamedText) (texts : List ShownText) (i : ℕ) → length texts ≤ i → AreShown named texts
+    → GiveTexts (drop i named) none_given
+texts-all named texts i le shown =
+    subst (λ (xs : List NamedText). GiveTexts xs none_given)
+    (sym (at_drop_all (λ xs. xs) named i (omega (arith, le, shown-length shown)))) no_texts
+
+-- a text is shown that has the bytes of a source
+pub shown-made : (text : NamedText) (shown : ShownText) (source : List ℕ) → shown.name.now ≡ text.name
+    → source ≡ behind_mark text.bytes → shown.of_xml ≡ begins_xml source
+    → ShowsText shown.of_xml source shown.bytes.items → IsShown text shown
+shown-made text shown source name e is shows = record {
+  name = name;
+  of_xml = is ∙ ap (λ (xs : List ℕ). begins_xml xs) e;
+  shows = subst (λ (xs : List ℕ). ShowsText shown.of_xml xs shown.bytes.items) e shows;
+}
+
+-- one more text is shown
+pub shown-more : {named : List NamedText} {texts : List ShownText} (text : NamedText) (shown : ShownText)
+    → AreShown named texts → IsShown text shown → AreShown (named ++ text ∷ []) (texts ++ shown ∷ [])
+shown-more text shown none_shown is = next_shown is none_shown
+shown-more text shown (next_shown x more) is = next_shown x (shown-more text shown more is)
+
+-- so it is with one more of these texts
+pub shown-next : (texts : List SourceText) (i : ℕ) (d : SourceText) (shown : ShownText) (all new : List ShownText)
+    → i < length texts → AreShown (map named_text (take i texts)) all → IsShown (named_text (get_or texts i d)) shown
+    → new ≡ all ++ shown ∷ [] → AreShown (map named_text (take (i + 1) texts)) new
+shown-next texts i d shown all new lt so_far is e =
+    let text : NamedText = named_text (get_or texts i d) in
+    let rows : map named_text (take (i + 1) texts) ≡ map named_text (take i texts) ++ text ∷ [] =
+    ap (λ (xs : List SourceText). map named_text xs) (take_at_read texts i d lt).1
+    ∙ map-append named_text (take i texts) (get_or texts i d ∷ []) in
+    let one : AreShown (map named_text (take i texts) ++ text ∷ []) (all ++ shown ∷ []) =
+    shown-more text shown so_far is in
+    let there : AreShown (map named_text (take (i + 1) texts)) (all ++ shown ∷ []) =
+    subst (λ (xs : List NamedText). AreShown xs (all ++ shown ∷ [])) (sym rows) one in
+    subst (λ (xs : List ShownText). AreShown (map named_text (take (i + 1) texts)) xs) (sym e) there
+
+pub shown-all : (texts : List SourceText) (i : ℕ) (all : List ShownText) → length texts ≤ i
+    → AreShown (map named_text (take i texts)) all → AreShown (map named_text texts) all
+shown-all texts i all le so_far =
+    subst (λ (xs : List SourceText). AreShown (map named_text xs) all) (take_all i texts le) so_far

@@ -16,3 +16,4 @@ pub mod JoinedRules
 pub mod LinkedTexts
 pub mod OnlyProse
 pub mod SameElements
+pub mod ShownTexts

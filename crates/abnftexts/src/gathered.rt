@@ -12,6 +12,17 @@ pub struct SourceText<'a> {
     pub bytes: &'a [u8],
 }
 
+/// A text as its lines are read.
+#[derive(Drop)]
+pub(crate) struct ShownText<'a> {
+    /// The name in reports of positions.
+    pub(crate) name: &'a [u8],
+    /// The bytes that are read.
+    pub(crate) bytes: Vec<u8>,
+    /// Whether they are the contents of an XML text.
+    pub(crate) of_xml: bool,
+}
+
 /// The position of a rule in a text.
 #[derive(Drop)]
 pub(crate) struct RulePlace<'a> {

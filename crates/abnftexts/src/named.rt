@@ -8,11 +8,11 @@ ghost use Rattle.abnftexts.specs.NamedRules.{AreLinesNamed, IsLineNamed, comment
 
 use crate::gathered::RulePlace;
 use crate::join::is_same_folded;
-use crate::parts::{items_before, items_behind};
 use crate::undefined::is_known;
 use abnfblocks::margin;
 use abnfread::{AbnfKind, Elem};
 use lexer::{Token, tokens};
+use rfcforms::{items_before, items_behind};
 use ruletable::{Memory, RuleTable};
 use std::alloc::Global;
 

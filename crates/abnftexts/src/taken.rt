@@ -1,20 +1,19 @@
 //! The rules that texts give.
-ghost use Rattle.std.specs.Prelude.{◌≡◌, map, IfOk, OnOk};
+ghost use Rattle.std.specs.Prelude.{◌≡◌, List, map, IfOk, OnOk};
 ghost use Rattle.abnfblocks.specs.RuleCuts.{margin_at};
 ghost use Rattle.abnftexts.specs.GivenRules.{text_rule};
 ghost use Rattle.abnfblocks.specs.TextLines.{numbered};
-ghost use Rattle.abnftexts.specs.RulesGathered.{both_given, lines_placed, named_text, one_rule, rules_gathered};
+ghost use Rattle.abnftexts.specs.RulesGathered.{NamedText, both_given, lines_placed, one_rule, rules_gathered};
+ghost use Rattle.abnftexts.specs.ShownTexts.{AreShown, IsShown};
 ghost use Rattle.abnftexts.specs.TakenRules.{TakesFound, TakesMore, TakesRule};
 ghost use Rattle.abnftexts.specs.TextRules.{GivesText, GiveTexts, place_in};
 
-use crate::gathered::{Gathered, RulePlace, SourceText};
+use crate::gathered::{Gathered, RulePlace, ShownText};
 use crate::join::GivenRule;
 use crate::own::read_rule;
-use crate::parts::{items_before, items_behind};
 use crate::told::push_not_abnf;
-use abnfblocks::{
-    Found, TextLine, blank_count, find_rules, joined_text, margin, read_lines, without_mark,
-};
+use abnfblocks::{Found, TextLine, blank_count, find_rules, joined_text, margin, read_lines};
+use rfcforms::{items_before, items_behind};
 use ruletable::Memory;
 use std::alloc::Global;
 
@@ -118,14 +117,15 @@ fn take_found<'a>(
 fn take_text<'a>(
     alloc: Global,
     gathered: &mut Gathered<'a>,
-    text: SourceText<'a>,
+    text: &'a ShownText<'_>,
 ) -> Result<(), Memory>
-    ensures { OnOk result (TakesMore (GivesText (named_text text.entry))
+    ensures { OnOk result ((named : NamedText) → IsShown named text.now → TakesMore (GivesText named)
         (rules_gathered gathered.old) (rules_gathered gathered.new)) }
 {
-    let kept = read_lines(alloc, without_mark(text.bytes))?;
+    let kept = read_lines(alloc, &text.bytes, text.of_xml)?;
     let found = find_rules(alloc, &kept)?;
-    take_found(alloc, gathered, text.name, &kept, &found)
+    take_found(alloc, gathered, text.name, &kept, &found)?;
+    Ok(())
 }
 
 /// Takes the rules of texts, one text after another.
@@ -134,9 +134,10 @@ fn take_text<'a>(
 /// `Memory` if an allocation fails.
 pub(crate) fn take_texts<'a>(
     alloc: Global,
-    texts: &[SourceText<'a>],
+    texts: &'a [ShownText<'_>],
 ) -> Result<Gathered<'a>, Memory>
-    ensures { IfOk result (λ gathered. GiveTexts (map named_text texts.now) (rules_gathered gathered)) }
+    ensures { IfOk result (λ gathered. (named : List NamedText) → AreShown named texts.now
+        → GiveTexts named (rules_gathered gathered)) }
 {
     let mut gathered = Gathered {
         places: Vec::new(alloc),
@@ -144,7 +145,7 @@ pub(crate) fn take_texts<'a>(
         told: Vec::new(alloc),
     };
     for text in texts {
-        take_text(alloc, &mut gathered, *text)?;
+        take_text(alloc, &mut gathered, text)?;
     }
     Ok(gathered)
 }

@@ -1,16 +1,24 @@
 //! Lines and rules of RFCs.
 
-use abnfblocks::{Found, LineKind, blank_count, find_rules, is_blank, read_lines, without_mark};
+use abnfblocks::{
+    Found, LineKind, blank_count, find_rules, is_blank, read_lines, source_text, without_mark,
+};
 use ruletable::{SinkOf, write_fault};
 use std::alloc::Global;
 use testio::{Fields, Text};
 
 /// `read_lines TEXT`: the numbers of the lines that are no page furniture.
 pub(crate) fn read_lines_of(alloc: Global, fields: &Fields, out: &mut Text) -> Option<()> {
-    for line in &read_lines(alloc, fields.text(0)).ok()? {
+    for line in &read_lines(alloc, fields.text(0), false).ok()? {
         out.add_number(line.number as u128);
         out.add(b";");
     }
+    Some(())
+}
+
+/// `xml TEXT`: the text that is read of an XML text.
+pub(crate) fn xml_text_of(alloc: Global, fields: &Fields, out: &mut Text) -> Option<()> {
+    out.add(&source_text(alloc, fields.text(0), true).ok()?);
     Some(())
 }
 
@@ -42,7 +50,7 @@ fn add_found(alloc: Global, found: &Found, out: &mut Text) -> Option<()> {
 
 /// `rules TEXT`: what is found among the lines of a text.
 pub(crate) fn rules_of(alloc: Global, fields: &Fields, out: &mut Text) -> Option<()> {
-    let lines = read_lines(alloc, fields.text(0)).ok()?;
+    let lines = read_lines(alloc, fields.text(0), false).ok()?;
     for found in &find_rules(alloc, &lines).ok()? {
         add_found(alloc, found, out)?;
     }
@@ -54,7 +62,7 @@ pub(crate) fn front_of(alloc: Global, fields: &Fields, out: &mut Text) -> Option
     let text = without_mark(fields.text(0));
     out.add_number(text.len() as u128);
     out.add(b";");
-    out.add_number(blank_count(&read_lines(alloc, text).ok()?) as u128);
+    out.add_number(blank_count(&read_lines(alloc, text, false).ok()?) as u128);
     Some(())
 }
 

@@ -39,6 +39,7 @@ impl Calls for AbnfCalls {
             "derived" => derived_lines::first_lines(alloc, fields, out),
             "rooms" => rooms::agree(alloc, fields, out),
             "read_lines" => blocks::read_lines_of(alloc, fields, out),
+            "xml" => blocks::xml_text_of(alloc, fields, out),
             "rules" => blocks::rules_of(alloc, fields, out),
             "front" => blocks::front_of(alloc, fields, out),
             "blank" => Some(blocks::are_blank(out)),

@@ -50,15 +50,15 @@ fn take_line<'a>(
 
 /// A text, cut at the end of its first line.
 #[derive(Clone, Copy)]
-struct Parts<'a> {
+pub(crate) struct Parts<'a> {
     /// The bytes before that end.
-    first: &'a [u8],
+    pub(crate) first: &'a [u8],
     /// The bytes after it.
-    rest: &'a [u8],
+    pub(crate) rest: &'a [u8],
 }
 
-// Cuts the text at the end of its first line: LF, or CR LF.
-fn cut_part(text: &[u8]) -> Parts<'_>
+/// Cuts the text at the end of its first line: LF, or CR LF.
+pub(crate) fn cut_part(text: &[u8]) -> Parts<'_>
     requires { 0 < length text.now }
     ensures parts { line_parts text.now ≡ result.first.now ∷ line_parts result.rest.now }
     ensures less { length result.rest.now < length text.now }

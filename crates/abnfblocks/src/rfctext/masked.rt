@@ -3,7 +3,7 @@ ghost use Rattle.std.specs.Prelude.{◌≡◌, ◌++◌, ◌<◌, ◌≤◌, ◌
 ghost use Rattle.std.specs.Prelude.{IfOk, OnOk};
 ghost use Rattle.abnfblocks.specs.Fences.{fenced_size as size_fenced, hides_block as block_hides, inside_title};
 ghost use Rattle.abnfblocks.specs.Fences.{lines_inside as inside, opened_size, title_size as size_of_title};
-ghost use Rattle.abnfblocks.specs.MaskedLines.{AreRead, MasksMarkdown, MasksTags};
+ghost use Rattle.abnfblocks.specs.MaskedLines.{AreRead, MasksMarkdown, MasksTags, ReadsLines};
 ghost use Rattle.abnfblocks.specs.MaskSteps.{MasksMore, each_longest, line_shown, lines_shown, longest_closing};
 ghost use Rattle.abnfblocks.specs.TextLines.{NumberedLine, numbered};
 
@@ -224,24 +224,27 @@ fn masked_tags<'a>(alloc: Global, lines: &[TextLine<'a>]) -> Result<Vec<TextLine
 }
 
 /// Returns the lines of a text in which rules are looked for: those that are no page furniture, where some are masked.
-/// A masked line is read as `<`.
+/// A masked line is read as `<`. `of_xml` says that `source_text` found it in XML.
 ///
 /// LF or CR LF ends a line; the last line may lack it. A CR that no LF follows belongs to its line. Form feeds that
 /// begin a line belong to none. Furniture are form feeds, the feet of pages, which end with `[Page N]`, the heads after
 /// a form feed or a foot, which are not indented and end with a year, and the blank lines round them. A text without
 /// pages keeps all lines.
 ///
-/// Masked are the fenced blocks of Markdown (CommonMark, section 4.5) in other languages than `abnf`, `bnf`, `text` and
-/// `txt`; and a title block, from `%%%` on the first line that is not blank to the next `%%%`. Then tags are masked,
-/// from a line that begins with `<` and a letter or `?` and has no `>` to the next line with `>`, unless a blank or a
-/// masked line comes first.
+/// Masked are, but in a text of XML, the fenced blocks of Markdown (CommonMark, section 4.5) in other languages than
+/// `abnf`, `bnf`, `text` and `txt`; and a title block, from `%%%` on the first line that is not blank to the next
+/// `%%%`. Then tags are masked, from a line that begins with `<` and a letter or `?` and has no `>` to the next line
+/// with `>`, unless a blank or a masked line comes first.
 ///
 /// # Errors
 /// `Memory` if an allocation fails.
-pub fn read_lines(alloc: Global, text: &[u8]) -> Result<Vec<TextLine<'_>>, Memory>
-    ensures { IfOk result (λ lines. AreRead text.now (map numbered lines.items)) }
+pub fn read_lines(alloc: Global, text: &[u8], of_xml: bool) -> Result<Vec<TextLine<'_>>, Memory>
+    ensures { IfOk result (λ lines. ReadsLines of_xml text.now (map numbered lines.items)) }
 {
     let kept = kept_lines(alloc, text)?;
+    if of_xml {
+        return masked_tags(alloc, &kept);
+    }
     let shown = masked_markdown(alloc, &kept)?;
     masked_tags(alloc, &shown)
 }

@@ -2,14 +2,14 @@
 ghost use Rattle.std.specs.Prelude.{◌≡◌, drop, take};
 
 /// Returns the items from that position on.
-pub(crate) fn items_behind<T>(items: &[T], place: usize) -> &[T]
+pub fn items_behind<T>(items: &[T], place: usize) -> &[T]
     ensures { result.now ≡ drop place items.now }
 {
     &items[place.min(items.len())..]
 }
 
 /// Returns so many of the items, or all if there are fewer.
-pub(crate) fn items_before<T>(items: &[T], count: usize) -> &[T]
+pub fn items_before<T>(items: &[T], count: usize) -> &[T]
     ensures { result.now ≡ take count items.now }
 {
     &items[..count.min(items.len())]

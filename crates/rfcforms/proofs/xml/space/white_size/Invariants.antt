@@ -1,0 +1,13 @@
+use Rattle.std.proofs.Common.{◌≡◌, ◌+◌, ◌==◌, ◌||◌, not, length}
+use Rattle.std.specs.List.{prefix_len}
+use Rattle.rfcforms.specs.XmlTags.{is_white}
+use Rattle.rfcforms.proofs.xml.space.white_size.Given as goal
+
+abbrev pub invariant-loop-first : goal.invariant-loop-first
+invariant-loop-first l = record {
+  size : l.size + length l.rest ≡ length l.text;
+  same : l.size + prefix_len is_white l.rest ≡ prefix_len is_white l.text;
+}
+
+abbrev pub decreases-loop-first : goal.decreases-loop-first
+decreases-loop-first l = length l.rest

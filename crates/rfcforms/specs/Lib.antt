@@ -1,0 +1,3 @@
+pub mod XmlTags
+pub mod XmlReferences
+pub mod XmlPieces

@@ -1,0 +1,1 @@
+abnfx draft.xml
