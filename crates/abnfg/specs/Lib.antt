@@ -1,0 +1,3 @@
+pub mod ListAnswers
+pub mod ListWords
+pub mod ListedLines
