@@ -1,0 +1,4 @@
+pub mod ListedLinesLemmas
+pub mod ListedReplyLemmas
+pub mod ListAnswersLemmas
+pub mod ListWordsLemmas

@@ -12,7 +12,7 @@ use Rattle.derivedlines.specs.declared.lines.Step.TheVariants.{Line, Done as End
 use Rattle.letters.specs.declared.alphabet.Alphabet.{Alphabet}
 use Rattle.ruletable.specs.Writing.{AppendsPart}
 use Rattle.ruletable.specs.declared.sink.WriteFault.{WriteFault}
-use Rattle.rulepairs.specs.FirstLines.{HasNoLine, IsShortlexBefore}
+use Rattle.rulepairs.specs.FirstLines.{ComesFirst, HasNoLine, IsShortlexBefore}
 use Rattle.rulepairs.specs.LineBytes.{line_bytes}
 use Rattle.toolrun.specs.Plan.{stopped}
 use Rattle.toolrun.specs.Reply.{Reply, without_memory}
@@ -64,11 +64,12 @@ module _ (lines : List ℕ → Type 0) where
   pub record AreListed (done : ℕ) (last : List ℕ) (ws : List (List ℕ)) : Type 0 where
     pub are : AreFirstLines ws
     pub count : length ws ≡ done
-    pub ends : 0 < done → (before : List (List ℕ)) × (ws ≡ before ++ last ∷ [])
+    pub last_is : 0 < done → Contains ws last
+    pub up_to : 0 < done → All (λ w. ComesFirst w last) ws
 
   -- the line after some first lines
   abbrev pub IsLineNext : List (List ℕ) → Vec ℕ Global → Type 0
-  IsLineNext ws line = AreFirstLines (ws ++ line.items ∷ [])
+  IsLineNext ws line = AreFirstLines (ws ++ line.items ∷ []) × All (λ w. IsShortlexBefore w line.items) ws
 
   -- it, or there is none
   abbrev pub IsStepOf : List (List ℕ) → Step → Type 0

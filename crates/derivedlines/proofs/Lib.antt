@@ -5,4 +5,5 @@ mod StateTableLemmas
 mod FirstKeyLemmas
 mod WordLemmas
 mod LineOrderLemmas
+mod OverLemmas
 mod LineSetLemmas

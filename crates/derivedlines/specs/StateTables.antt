@@ -144,7 +144,7 @@ IsFirstFrom lines least (Line w) = lines w.items × (least ≤ length w.items)
 IsFirstFrom lines least Done = (v : List ℕ) → lines v → least ≤ length v → ⊥
 
 -- each row is whole, and leads to states that have rows; the start has one
-pub record IsClosed (table : Table) : Type 0 where
+pub record AreRowsClosed (table : Table) : Type 0 where
   pub start : table.start < length table.rows.items
   pub whole : (s : ℕ) (row : Vec ℕ Global) → slice_get table.rows.items s ≡ Some row
       → length table.starts.items ≤ length row.items

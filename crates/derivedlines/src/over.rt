@@ -1,6 +1,6 @@
 //! The end of the lines: whether the start takes no list of so many symbols, or more, to the end.
 ghost use Rattle.std.specs.Prelude.{◌<◌, ◌≡◌, ℕ, Bool, IsTrue, Contains, false};
-ghost use Rattle.derivedlines.specs.StateTables.{HasNoRestFrom, IsClosed, IsStateTable};
+ghost use Rattle.derivedlines.specs.StateTables.{HasNoRestFrom, AreRowsClosed, IsStateTable};
 
 use crate::table::Table;
 
@@ -30,7 +30,7 @@ fn are_false(level: &[bool]) -> bool
 
 // Returns whether each row is whole and leads to states that have rows.
 fn is_closed(table: &Table) -> bool
-    ensures { IsTrue result → IsClosed table.now }
+    ensures { IsTrue result → AreRowsClosed table.now }
 {
     let count = table.rows.len();
     for row in &table.rows {

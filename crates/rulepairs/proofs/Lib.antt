@@ -1,9 +1,9 @@
-mod ComesFirstLemmas
-mod StatePairsLemmas
+pub mod ComesFirstLemmas
+pub mod StatePairsLemmas
 mod StackSetsLemmas
 mod FoundPairsLemmas
 mod SwappedLemmas
 mod CountsWithinLemmas
-mod SamplesLemmas
-mod SearchLemmas
+pub mod SamplesLemmas
+pub mod SearchLemmas
 mod OldAloneLemmas
