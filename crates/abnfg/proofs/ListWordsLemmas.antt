@@ -4,7 +4,8 @@ use Rattle.std.proofs.Common.{◌≡◌, ◌∙◌, ap, inl, inr, refl, subst, t
 use Rattle.std.specs.Prelude.{codes, option_copied}
 use Rattle.abnfg.specs.ListWords.{AskLines, IsAbnfgApp, IsNumberOf, abnfg_app, alphabet_listed}
 use Rattle.abnfg.specs.declared.lines.Settings.{Settings}
-use Rattle.clap.specs.Words.{App, HasKind, Kinds, Text, first_value, kind_of, is_simple, is_simple_and_free, one_text, rows_of}
+use Rattle.clap.specs.Words.{App, HasKind, Kinds, Text, first_value, is_simple, is_simple_and_free, kind_of, one_text}
+use Rattle.clap.specs.Words.{rows_of}
 use Rattle.clap.specs.declared.error.Error.{Error}
 use Rattle.clap.specs.declared.error.kind.ErrorKind.TheVariants.{OutOfMemory}
 use Rattle.clap.specs.declared.parser.matches.Found.{Found}

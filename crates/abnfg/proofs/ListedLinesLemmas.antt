@@ -123,7 +123,8 @@ module _ (lines : List ℕ → Type 0) where
       count = (let n = length-append ws (w.items ∷ []) in let e = l.count in omega (arith, n, e));
       last_is = λ lt. Contains-push ws w.items;
       up_to = λ lt. All-push (λ u. ComesFirst u w.items) ws w.items
-          (All-weaker (λ u. IsShortlexBefore u w.items) (λ u. ComesFirst u w.items) (λ u b. inr b) ws next.1) (inl refl);
+          (All-weaker (λ u. IsShortlexBefore u w.items) (λ u. ComesFirst u w.items) (λ u b. inr b) ws next.1)
+          (inl refl);
     }
 
   abbrev pub StepTold : ℕ → List ℕ → Result (Option Step) Memory → Type 0

@@ -27,10 +27,10 @@ module _ (lines : List ℕ → Type 0) (text_of : List ℕ → List ℕ) (count 
   Fulfilled r = Fulfils (λ input. LinesReply lines text_of count) no_input
       (record { old = s0; new = s1; was = was; failed = failed }) r
 
-  fulfilled : (out err : List ℕ) (status : Status) (ending : Ending)
+  text_fulfils : (out err : List ℕ) (status : Status) (ending : Ending)
       → LinesReply lines text_of count (record { out = out; err = err; status = code_of status; taken = 0 })
       → Appends s0 s1 out → EndsWith err status ending → failed ≡ was → Fulfilled (Ok ending)
-  fulfilled out err status ending states more ends flag = record {
+  text_fulfils out err status ending states more ends flag = record {
     stopped = (
       [],
       out,
@@ -50,14 +50,14 @@ module _ (lines : List ℕ → Type 0) (text_of : List ℕ → List ℕ) (count 
   pub halt_fulfils : (halt : Halt) (ending : Ending) → AreWritten lines text_of count s0 s1 (Ok halt)
       → HaltEnds halt ending → failed ≡ was → Fulfilled (Ok ending)
   halt_fulfils Finished ending is ends =
-      fulfilled (flat_map text_of is.0) [] Done ending (listed is.1 is.2) is.3 ends
-  halt_fulfils Nothing ending is ends = fulfilled [] [] NoMatch ending (no_line is.0) is.1 ends
+      text_fulfils (flat_map text_of is.0) [] Done ending (listed is.1 is.2) is.3 ends
+  halt_fulfils Nothing ending is ends = text_fulfils [] [] NoMatch ending (no_line is.0) is.1 ends
   halt_fulfils TooMany ending is (inl ends) =
-      fulfilled (flat_map text_of is.0) (codes "too many stacks\n") Overlong ending (too_many is.1 is.2) is.3 ends
+      text_fulfils (flat_map text_of is.0) (codes "too many stacks\n") Overlong ending (too_many is.1 is.2) is.3 ends
   halt_fulfils TooMany ending is (inr ends) =
-      fulfilled (flat_map text_of is.0) (message_of NoMemory) WithoutMemory ending (no_room is.1 is.2) is.3 ends
+      text_fulfils (flat_map text_of is.0) (message_of NoMemory) WithoutMemory ending (no_room is.1 is.2) is.3 ends
   halt_fulfils HaltsUnroomed ending is ends =
-      fulfilled (flat_map text_of is.0) (message_of NoMemory) WithoutMemory ending (no_room is.1 is.2) is.3 ends
+      text_fulfils (flat_map text_of is.0) (message_of NoMemory) WithoutMemory ending (no_room is.1 is.2) is.3 ends
 
   pub cut_fulfils : (fault : WriteFault) → AreWritten lines text_of count s0 s1 (Err fault) → failed ≡ true
       → Fulfilled (Err fault)
