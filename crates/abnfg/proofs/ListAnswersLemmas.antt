@@ -47,7 +47,7 @@ module _ {O : Type 0} (opening : Opening O) (Why : Option (List ℕ) → Said �
 pub judged_some : (settings : Settings) (rules : List Rule) (judged : Option ℕ)
     → (reply : Reply) × JudgedReply settings rules judged reply
 judged_some settings rules None = (_, refl)
-judged_some settings rules (Some id) = (_, no_room (no_lines_first _) (omega arith))
+judged_some settings rules (Some id) = (without_memory [] 0, no_room {ws = []} (no_lines_first _) (omega arith))
 
 module _ (text : List ℕ) (settings : Settings) (notes : List Said) (rules : table.Rules Elem) (input : Input)
     (out told : List ℕ) (reply : Reply) (same : told ≡ notes_text notes) where
@@ -70,9 +70,9 @@ module _ (text : List ℕ) (settings : Settings) (notes : List Said) (rules : ta
 -- a text that has a fault
 pub unread_states : (text : List ℕ) (settings : Settings) (input : Input) (fault : ReadFault) → IsFaultOf text fault
     → TextStates text settings input [] (stopped (unread fault))
-unread_states text settings input (Syntax line) is = faulty is (λ e. cc e)
-unread_states text settings input (Depth line) is = faulty is (λ e. cc e)
-unread_states text settings input (CodePredicate line) is = faulty is (λ e. cc e)
-unread_states text settings input TooLong is = faulty is (λ e. cc e)
+unread_states text settings input (Syntax line) is = faulty {fault = Syntax line} is (λ e. cc e)
+unread_states text settings input (Depth line) is = faulty {fault = Depth line} is (λ e. cc e)
+unread_states text settings input (CodePredicate line) is = faulty {fault = CodePredicate line} is (λ e. cc e)
+unread_states text settings input TooLong is = faulty {fault = TooLong} is (λ e. cc e)
 unread_states text settings input Memory is = no_memory
-unread_states text settings input (NumberTooLarge line) is = faulty is (λ e. cc e)
+unread_states text settings input (NumberTooLarge line) is = faulty {fault = NumberTooLarge line} is (λ e. cc e)

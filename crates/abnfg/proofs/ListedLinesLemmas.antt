@@ -14,7 +14,7 @@ use Rattle.abnfg.specs.ListedLines.{IsRecordWritten, IsStepOf, IsWrittenNext}
 use Rattle.abnfg.specs.declared.lines.Halt.{Halt}
 use Rattle.abnfg.specs.declared.lines.Halt.TheVariants.{NoMemory as HaltsUnroomed, Nothing, TooMany}
 use Rattle.abnfg.specs.declared.lines.Halt.TheVariants.{All as Finished}
-use Rattle.derivedlines.specs.LineSets.{HasNoneAfter, IsFirstAfter, IsFirstStep, IsLineAfter}
+use Rattle.derivedlines.specs.LineSets.{HasNoneAfter, IsFirstAfter, IsFirstStep, IsLineAfter, IsLineIn, LineSet}
 use Rattle.derivedlines.specs.declared.lines.Step.{Step}
 use Rattle.derivedlines.specs.declared.lines.Step.TheVariants.{Line, Done}
 use Rattle.ruletable.proofs.AppendsLemmas.{Appends-join, Appends-same, AppendsPart-join}
@@ -36,9 +36,9 @@ no_length (x ∷ xs) is = absurd (omega (arith, is))
 module _ (lines : List ℕ → Type 0) where
   pub no_lines_first : AreFirstLines lines []
   no_lines_first = record {
-    are = tt;
+    are = λ k d lt. absurd (omega (arith, lt));
     rise = λ i j d lt less. absurd (omega (arith, less));
-    rest = λ v line. inr tt;
+    rest = λ v line. inr (λ k d lt. absurd (omega (arith, lt)));
   }
 
   pub none_listed : (last : List ℕ) → AreListed lines 0 last []
@@ -53,17 +53,18 @@ module _ (lines : List ℕ → Type 0) where
   first_listed : (w : Vec ℕ Global) → IsFirstLine lines w.items → IsLineNext lines [] w
   first_listed w first = (
     record {
-      are = (first.0, tt);
+      are = All-push lines [] w.items (λ k d lt. absurd (omega (arith, lt))) first.0;
       rise = λ i j d lt less. absurd (omega (arith, lt, less));
       rest = λ v line. by v (first.1 v line);
     },
-    tt,
+    λ k d lt. absurd (omega (arith, lt)),
   )
     where
       by : (v : List ℕ) → ComesFirst w.items v → Contains (w.items ∷ []) v
           ⊎ All (λ u. IsShortlexBefore u v) (w.items ∷ [])
       by v (inl same) = inl (0, omega arith, same)
-      by v (inr b) = inr (b, tt)
+      by v (inr b) =
+          inr (All-push (λ u. IsShortlexBefore u v) [] w.items (λ k d lt. absurd (omega (arith, lt))) b)
 
   first_step : (step : Step) → IsFirstStep lines step → IsStepOf lines [] step
   first_step (Line w) first = first_listed w first
@@ -77,8 +78,8 @@ module _ (lines : List ℕ → Type 0) where
 
     module _ (some : 0 < done) where
       before_all : (w : List ℕ) → IsShortlexBefore last w → All (λ u. IsShortlexBefore u w) ws
-      before_all w later =
-          All-weaker (λ u. ComesFirst u last) (λ u. IsShortlexBefore u w) (λ u b. before_next u last w b later) ws
+      before_all w after =
+          All-weaker (λ u. ComesFirst u last) (λ u. IsShortlexBefore u w) (λ u b. before_next u last w b after) ws
           (l.up_to some)
 
       line_next : (w : Vec ℕ Global) → IsFirstAfter lines last w.items → IsLineNext lines ws w
@@ -231,6 +232,17 @@ module _ (lines : List ℕ → Type 0) where
         inl (let e = u.listed.count in omega (arith, e, same)),
         subst (λ v. Appends a v (flat_map text_of u.ws)) still u.text,
       )
+
+-- the next line of the same set
+pub written_of : (set other : LineSet) (text_of : List ℕ → List ℕ) → other ≡ set → (done : ℕ) (was last : List ℕ)
+    (b c : Option (List ℕ)) (r : Result (Option Halt) WriteFault)
+    → ((ws : List (List ℕ)) → AreListed (IsLineIn other) done was ws
+    → IsWrittenNext (IsLineIn other) text_of done ws last b c r)
+    → (ws : List (List ℕ)) → AreListed (IsLineIn set) done was ws
+    → IsWrittenNext (IsLineIn set) text_of done ws last b c r
+written_of set other text_of same done was last b c r is =
+    subst (λ (s : LineSet). (ws : List (List ℕ)) → AreListed (IsLineIn s) done was ws
+    → IsWrittenNext (IsLineIn s) text_of done ws last b c r) same is
 
 -- the same lines, stated otherwise
 module _ (A B : List ℕ → Type 0) (same : (w : List ℕ) → A w ↔ B w) where

@@ -94,8 +94,8 @@ module _ (table : Table) (is : IsStateTable table) (closed : AreRowsClosed table
     none_on zero = subst (λ v. TakeNone v) (omega arith) level_none
     none_on (suc d) = subst (λ v. TakeNone v) (omega arith) (none_before (count + d) (none_on d))
 
-    pub none_told : HasNoRestFrom table count
-    none_told k le s s_is rest =
+    pub over_told : HasNoRestFrom table count
+    over_told k le s s_is rest =
         none_on (k - count) table.start s closed.start s_is (subst (λ v. HasRestIn table s v) (omega (arith, le)) rest)
 
 -- no line is left

@@ -49,5 +49,8 @@ pub(crate) fn is_over(table: &Table, count: usize) -> bool
     let Some(level) = table.levels.get(count) else {
         return false;
     };
-    level.len() >= table.rows.len() && are_false(level) && is_closed(table)
+    if level.len() < table.rows.len() || !are_false(level) {
+        return false;
+    }
+    is_closed(table)
 }

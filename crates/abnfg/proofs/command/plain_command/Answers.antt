@@ -24,5 +24,6 @@ returns c =
     ∙ ap (λ (app : App). with_rule app (flag_rule (codes "null-data") (code "z"))) counted in
     IfOk-weaker c.arg.result _ _
     (λ r added.
-    added_rule c.in_ok-command-5.command r c.grammar_arg.result grammar_rule grammar.local grammar.rule added ∙ ap (λ (app : App). with_rule app grammar_rule) ended)
+    added_rule c.in_ok-command-5.command r c.grammar_arg.result grammar_rule grammar.local grammar.rule added
+    ∙ ap (λ (app : App). with_rule app grammar_rule) ended)
     c.arg.ensures
