@@ -21,9 +21,9 @@ end
 
 complete -c abnfg -s s -l rule -x -a '(__abnfg_rules)' -d 'List lines of this rule [default: the first rule]'
 complete -c abnfg -s m -l mode -x -a 'all' -d 'Choose which lines to list'
-complete -c abnfg -s l -l limit -x -d 'List lines of at most N letters, from 1 to 16777216'
+complete -c abnfg -s l -l limit -x -d 'List lines of at most N symbols, from 1 to 16777216'
 complete -c abnfg -s c -l count -x -d 'List at most N lines, from 1 to 4294967295'
-complete -c abnfg -s u -l letters -x -a 'bytes utf8' -d 'Take bytes or code points of UTF-8 as letters'
+complete -c abnfg -s u -l letters -x -a 'bytes utf8' -d 'Take bytes or code points of UTF-8 as symbols'
 complete -c abnfg -s z -l null-data -d 'End lines with NUL bytes in place of line feeds'
 complete -c abnfg -s h -l help -f -d 'Print this help'
 complete -c abnfg -l version -f -d 'Print the version'

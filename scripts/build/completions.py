@@ -108,9 +108,9 @@ PROGRAMS = (
     Program("abnfg", (
         Option("s", "rule", "RULE", (), "List lines of this rule [default: the first rule]"),
         Option("m", "mode", "MODE", ("all",), "Choose which lines to list"),
-        Option("l", "limit", "N", (), "List lines of at most N letters, from 1 to 16777216"),
+        Option("l", "limit", "N", (), "List lines of at most N symbols, from 1 to 16777216"),
         Option("c", "count", "N", (), "List at most N lines, from 1 to 4294967295"),
-        Option("u", "letters", "MODE", ("bytes", "utf8"), "Take bytes or code points of UTF-8 as letters"),
+        Option("u", "letters", "MODE", ("bytes", "utf8"), "Take bytes or code points of UTF-8 as symbols"),
         Option("z", "null-data", "", (), "End lines with NUL bytes in place of line feeds"),
         HELP,
         VERSION,

@@ -47,7 +47,7 @@ module _ {O : Type 0} (opening : Opening O) (Why : Option (List ℕ) → Said �
 pub judged_some : (settings : Settings) (rules : List Rule) (judged : Option ℕ)
     → (reply : Reply) × JudgedReply settings rules judged reply
 judged_some settings rules None = (_, refl)
-judged_some settings rules (Some id) = (without_memory [] 0, no_room {ws = []} (no_lines_first _) (omega arith))
+judged_some settings rules (Some id) = (_, no_room (no_lines_first _) (omega arith))
 
 module _ (text : List ℕ) (settings : Settings) (notes : List Said) (rules : table.Rules Elem) (input : Input)
     (out told : List ℕ) (reply : Reply) (same : told ≡ notes_text notes) where

@@ -32,9 +32,9 @@ Grammar:
 
 Lines:
   -m, --mode <MODE>     Choose which lines to list [default: all] [possible values: all]
-  -l, --limit <N>       List lines of at most N letters, from 1 to 16777216 [default: 256]
+  -l, --limit <N>       List lines of at most N symbols, from 1 to 16777216 [default: 256]
   -c, --count <N>       List at most N lines, from 1 to 4294967295 [default: 1000]
-  -u, --letters <MODE>  Take bytes or code points of UTF-8 as letters [default: bytes] [possible values: bytes, utf8]
+  -u, --letters <MODE>  Take bytes or code points of UTF-8 as symbols [default: bytes] [possible values: bytes, utf8]
   -z, --null-data       End lines with NUL bytes in place of line feeds
 
 Other options:
