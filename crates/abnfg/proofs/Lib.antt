@@ -1,3 +1,4 @@
+mod OrderLemmas
 pub mod ListedLinesLemmas
 pub mod ListedReplyLemmas
 pub mod ListAnswersLemmas

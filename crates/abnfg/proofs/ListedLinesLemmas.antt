@@ -21,7 +21,7 @@ use Rattle.ruletable.proofs.AppendsLemmas.{Appends-join, Appends-same, AppendsPa
 use Rattle.ruletable.specs.Writing.{AppendsPart}
 use Rattle.ruletable.specs.declared.memory.Memory.{Memory}
 use Rattle.ruletable.specs.declared.sink.WriteFault.{WriteFault}
-use Rattle.rulepairs.proofs.ComesFirstLemmas.{before_trans}
+use Rattle.abnfg.proofs.OrderLemmas.{before_trans}
 use Rattle.rulepairs.specs.FirstLines.{ComesFirst, HasNoLine, IsFirstLine, IsShortlexBefore}
 
 -- a line up to the last one is before each after that

@@ -8,10 +8,10 @@ ghost use Rattle.ruletable.specs.Writing.{Flags};
 ghost use Rattle.toolrun.specs.Stopped.{Fulfils};
 ghost use Rattle.toolrun.specs.Stream.{no_input, passed};
 
+use crate::symbols::push_line;
 use abnfcheck::SoundAbnf;
 use derivedlines::{Lines, Step};
 use letters::Alphabet;
-use rulepairs::push_line;
 use ruletable::{Memory, Sink, WriteFault, write_whole};
 use std::alloc::Global;
 use toolrun::{Ending, Status, Stop, ToldRefusals};

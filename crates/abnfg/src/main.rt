@@ -5,6 +5,7 @@ mod command;
 mod grammar;
 mod lines;
 mod run;
+mod symbols;
 
 use crate::command::abnfg_command;
 use crate::run::abnfg_main;

@@ -5,5 +5,4 @@ mod StateTableLemmas
 mod FirstKeyLemmas
 mod WordLemmas
 mod LineOrderLemmas
-mod OverLemmas
 mod LineSetLemmas

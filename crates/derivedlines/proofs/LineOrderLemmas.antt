@@ -11,8 +11,7 @@ use Rattle.letters.specs.Letters.{has}
 use Rattle.letters.specs.declared.alphabet.Alphabet.{Alphabet}
 use Rattle.letterclasses.proofs.StacksLemmas.{accepted_holds, holds_accepted}
 use Rattle.lazydfa.specs.StateSets.{grammar_of, last_in, StateSet}
-use Rattle.rulepairs.specs.FirstLines.{ComesFirst, IsShortlexBefore, shorter}
-use Rattle.rulepairs.proofs.ComesFirstLemmas.{before_length}
+use Rattle.rulepairs.specs.FirstLines.{ComesFirst, IsShortlexBefore, later, shorter, symbol}
 use Rattle.derivedlines.specs.declared.lines.Step.{Step}
 use Rattle.derivedlines.specs.declared.lines.Step.TheVariants.{Line, Done}
 use Rattle.derivedlines.specs.declared.search.Change.{Change}
@@ -40,6 +39,11 @@ pub inner_letters : (alphabet : Alphabet) (terminator : ℕ) (w : List ℕ)
 inner_letters alphabet terminator [] all = tt
 inner_letters alphabet terminator (c ∷ w) all =
     (inner_has alphabet terminator c all.0, inner_letters alphabet terminator w all.1)
+
+before_length : {u v : List ℕ} → IsShortlexBefore u v → length u ≤ length v
+before_length (shorter lt) = omega (arith, lt)
+before_length (symbol same lt) = omega (arith, same)
+before_length (later b) = omega (arith, before_length b)
 
 -- the lines of a table
 pub lines_same : (old new : Table) (limit : ℕ) → IsTableGrown old new → table_lines new limit ≡ table_lines old limit

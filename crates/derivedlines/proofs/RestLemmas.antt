@@ -4,17 +4,22 @@ use Rattle.std.proofs.Common.{◌≡◌, ◌⊎◌, inl, inr, ℕ, zero, suc, �
 use Rattle.std.proofs.Common.{refl, sym, ◌∙◌}
 use Rattle.std.proofs.Common.{ap, subst, arith}
 use Rattle.std.proofs.lemmas.Bool.{cases_lt}
+use Rattle.std.proofs.lemmas.Bool.Decides.{nat_tests}
 use Rattle.std.specs.Prelude.{Bool, true, None, Some, Contains}
 use Rattle.flatgrammar.specs.Flat.{Flat, Place}
 use Rattle.letterclasses.specs.Stacks.{IsNext}
 use Rattle.lazydfa.specs.StateSets.{StateSet}
 use Rattle.rulepairs.specs.FirstLines.{ComesFirst, IsShortlexBefore, later, shorter, sort_key, symbol}
 use Rattle.rulepairs.specs.Samples.{symbol_of}
-use Rattle.rulepairs.proofs.ComesFirstLemmas.{one_key}
-use Rattle.rulepairs.proofs.SamplesLemmas.{key_symbol}
 use Rattle.derivedlines.specs.Rests.{HasNoNextRest, HasRest, IsFirstKey, IsFirstRest, IsNextRest, IsRest, TakesKey}
 use Rattle.derivedlines.specs.Starts.{AreClassStarts, IsJoinedOn}
 use Rattle.derivedlines.proofs.TakesLemmas.{takes_after, takes_alike, takes_before}
+
+pub key_symbol : (b : ℕ) → symbol_of (sort_key b) ≡ b
+key_symbol b = grind (arith, nat_tests)
+
+one_key : (c d : ℕ) → sort_key c ≡ sort_key d → c ≡ d
+one_key c d same = sym (key_symbol c) ∙ (ap symbol_of same ∙ key_symbol d)
 
 module _ (flat : Flat) (last : Place → Bool) (has : ℕ → Bool) where
   abbrev Rest : StateSet → ℕ → List ℕ → Type 0

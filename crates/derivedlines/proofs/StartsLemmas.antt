@@ -3,7 +3,7 @@
 use Rattle.std.proofs.Common.{◌≡◌, ◌⊎◌, inl, inr, ℕ, zero, suc, ◌+◌, ◌-◌, ◌<◌, ◌≤◌, ◌^◌, Bool, true, false, List, []}
 use Rattle.std.proofs.Common.{◌∷◌, ◌++◌}
 use Rattle.std.proofs.Common.{length, refl, sym, ◌∙◌, ap, subst, arith, eqb, leb, leb-true, leb-false, get_or}
-use Rattle.std.proofs.lemmas.Bool.{cases_lt}
+use Rattle.std.proofs.lemmas.Bool.{cases_eq, cases_lt}
 use Rattle.std.proofs.lemmas.Bool.Decides.{nat_tests}
 use Rattle.std.proofs.lemmas.List.Elements.{Contains-append_left, Contains-append_right, Contains-push}
 use Rattle.std.proofs.lemmas.List.Filters.{dedup_is}
@@ -24,7 +24,6 @@ use Rattle.letterclasses.specs.Stacks.{AreAlike}
 use Rattle.letterclasses.proofs.AreClassesLemmas.{joined_alike, more_nodes_split}
 use Rattle.lazydfa.proofs.StateSetsLemmas.{got_at}
 use Rattle.rulepairs.specs.FirstLines.{sort_key}
-use Rattle.rulepairs.proofs.SamplesLemmas.{contains_or}
 use Rattle.derivedlines.specs.LineSets.{is_line_symbol}
 use Rattle.derivedlines.specs.Starts.{AreLineBounds, AreClassStarts, edges, HaveKeys, IsJoinedOn, IsLastUpTo}
 
@@ -37,6 +36,20 @@ bounds_made flat terminator samples bounds split is = record {
   }) split;
   edges_are = λ c h. subst (λ v. Contains v c) (sym is) (Contains-append_right samples (edges terminator) c h);
 }
+
+contains_or : (xs : List ℕ) (x : ℕ) → Contains xs x ⊎ (Contains xs x → ⊥)
+contains_or [] x = inr (λ h. let lt = h.1 in omega (arith, lt))
+contains_or (y ∷ xs) x = by (cases_eq y x) (contains_or xs x)
+  where
+    by : (y ≡ x) ⊎ (y ≡ x → ⊥) → Contains xs x ⊎ (Contains xs x → ⊥)
+        → Contains (y ∷ xs) x ⊎ (Contains (y ∷ xs) x → ⊥)
+    by (inl same) rest = inl (0, omega arith, same)
+    by (inr other) (inl h) = inl (suc h.0, (let lt = h.1 in omega (arith, lt)), h.2)
+    by (inr other) (inr none) = inr (λ h. at h.0 h.1 h.2)
+      where
+        at : (k : ℕ) → k < length (y ∷ xs) → get_or (y ∷ xs) k x ≡ x → ⊥
+        at zero lt is = other is
+        at (suc k) lt is = none (k, omega (arith, lt), is)
 
 inner_small : (alphabet : Alphabet) (terminator c : ℕ) → is_line_symbol alphabet terminator c ≡ true → c < 2 ^ 21
 inner_small Bytes terminator c is = grind (arith, nat_tests)

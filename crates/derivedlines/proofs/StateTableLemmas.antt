@@ -17,17 +17,25 @@ use Rattle.lazydfa.proofs.StateSetsLemmas.{got_at}
 use Rattle.rulepairs.specs.Alone.{AreOfGrammar}
 use Rattle.rulepairs.specs.FirstLines.{sort_key}
 use Rattle.rulepairs.specs.Samples.{symbol_of}
-use Rattle.rulepairs.proofs.SamplesLemmas.{key_symbol}
-use Rattle.rulepairs.proofs.SearchLemmas.{get_left, no_more}
-use Rattle.rulepairs.proofs.StatePairsLemmas.{element_at}
 use Rattle.derivedlines.specs.declared.table.Table.{Table}
 use Rattle.derivedlines.specs.Rests.{HasRest}
 use Rattle.derivedlines.specs.Starts.{AreClassStarts, IsLastUpTo}
 use Rattle.derivedlines.specs.StateTables.{AreLevelsOf, AreRowsOf, line_symbols, IsCanOf, IsEntryAdded, IsTableGrown}
 use Rattle.derivedlines.specs.StateTables.{IsRowOf}
 use Rattle.derivedlines.specs.StateTables.{HasRestIn, IsCan, IsStateTable, IsStep}
+use Rattle.derivedlines.proofs.RestLemmas.{key_symbol}
 use Rattle.derivedlines.proofs.StartsLemmas.{class_of_symbol}
 use Rattle.derivedlines.proofs.TakesLemmas.{next_alike}
+
+get_left : {A : Type 0} (xs ys : List A) (k : ℕ) (x : A) → slice_get xs k ≡ Some x → slice_get (xs ++ ys) k ≡ Some x
+get_left [] ys k x h = absurd (cc h)
+get_left (y ∷ xs) ys zero x h = h
+get_left (y ∷ xs) ys (suc k) x h = get_left xs ys k x h
+
+pub element_at : {A : Type 0} (xs : List A) (k : ℕ) → k < length xs → (a : A) × (slice_get xs k ≡ Some a)
+element_at [] k lt = absurd (omega (arith, lt))
+element_at (x ∷ xs) zero lt = (x, refl)
+element_at (x ∷ xs) (suc k) lt = element_at xs k (omega (arith, lt))
 
 pub one_element : {A : Type 0} (xs : List A) (k : ℕ) (x y : A) → slice_get xs k ≡ Some x → slice_get xs k ≡ Some y
     → x ≡ y
@@ -93,6 +101,9 @@ more_trans a b c first then = record {
   added = first.added ++ then.added;
   grown = then.grown ∙ (ap (λ v. v ++ then.added) first.grown ∙ append_assoc a.states first.added then.added);
 }
+
+pub no_more : (a : StateSets) → AreMoreStates a a
+no_more a = record { same = refl; added = []; grown = sym (append-nil a.states) }
 
 pub kept_self : (a : Table) → IsStateTable a → IsTableGrown a a
 kept_self a is = record { is = is; more = no_more a.states; inner = refl; start = refl }

@@ -1,6 +1,6 @@
 -- Tables of states: their transitions, and from which of them so many symbols lead to the end.
 use Rattle.std.specs.Prelude.{◌≡◌, ◌↔◌, ◌⊎◌, ℕ, ◌-◌, ◌<◌, ◌≤◌, Bool, true, List, [], ◌∷◌, ◌++◌, length, take}
-use Rattle.std.specs.Prelude.{slice_get, Option, None, Some, Contains}
+use Rattle.std.specs.Prelude.{slice_get, Option, None, Some}
 use Rattle.std.specs.List.Sorted.{IsStrictlyIncreasing}
 use Rattle.std.proofs.Common.{Vec, Global}
 use Rattle.flatgrammar.specs.Flat.{Flat}
@@ -142,16 +142,3 @@ abbrev pub IsFirstFrom : (List ℕ → Type 0) → ℕ → Step → Type 0
 IsFirstFrom lines least (Line w) = lines w.items × (least ≤ length w.items)
     × ((v : List ℕ) → lines v → least ≤ length v → ComesFirst w.items v)
 IsFirstFrom lines least Done = (v : List ℕ) → lines v → least ≤ length v → ⊥
-
--- each row is whole, and leads to states that have rows; the start has one
-pub record AreRowsClosed (table : Table) : Type 0 where
-  pub start : table.start < length table.rows.items
-  pub whole : (s : ℕ) (row : Vec ℕ Global) → slice_get table.rows.items s ≡ Some row
-      → length table.starts.items ≤ length row.items
-  pub within : (s : ℕ) (row : Vec ℕ Global) → slice_get table.rows.items s ≡ Some row → (t : ℕ)
-      → Contains row.items t → t < length table.rows.items
-
--- the start takes no list of so many symbols, or more, to the end
-abbrev pub HasNoRestFrom : Table → ℕ → Type 0
-HasNoRestFrom table count = (k : ℕ) → count ≤ k → (s : StateSet)
-    → slice_get table.states.states table.start ≡ Some s → HasRestIn table s k → ⊥

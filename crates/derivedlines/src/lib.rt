@@ -3,7 +3,6 @@
 
 mod keys;
 mod lines;
-mod over;
 mod search;
 mod starts;
 mod table;

@@ -6,10 +6,9 @@ ghost use Rattle.derivedlines.specs.StateTables.{IsChange, IsChangedTo, IsFilled
 ghost use Rattle.derivedlines.specs.StateTables.{IsLastChange};
 ghost use Rattle.derivedlines.specs.StateTables.{IsStateTable, table_lines};
 
+use crate::keys::{key_of, symbol_at};
 use crate::lines::Step;
-use crate::over::is_over;
 use crate::table::{Table, add_levels, can_end, first_key, step};
-use rulepairs::{key_of, symbol_at};
 use ruletable::Memory;
 use std::alloc::Global;
 
@@ -145,9 +144,6 @@ pub(crate) fn line_from(
                 return Ok(None);
             };
             return Ok(Some(Step::Line(word)));
-        }
-        if is_over(table, count) {
-            return Ok(Some(Step::Done));
         }
     }
     Ok(Some(Step::Done))

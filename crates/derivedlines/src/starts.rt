@@ -4,10 +4,9 @@ ghost use Rattle.std.specs.List.Sorted.{IsStrictlyIncreasing};
 ghost use Rattle.derivedlines.specs.LineSets.{is_line_symbol};
 ghost use Rattle.derivedlines.specs.Starts.{AreLineBounds, AreClassStarts, HaveKeys, IsLastUpTo};
 
-use crate::keys::{Inner, is_inner};
+use crate::keys::{Inner, is_inner, key_of};
 use flatgrammar::Flat;
 use letterclasses::find_classes;
-use rulepairs::key_of;
 use ruletable::Memory;
 use std::alloc::Global;
 

@@ -5,10 +5,9 @@ ghost use Rattle.derivedlines.specs.StateTables.{HasRestIn, IsCan, IsEntryAdded,
 ghost use Rattle.derivedlines.specs.StateTables.{IsStateTable};
 ghost use Rattle.derivedlines.specs.StateTables.{IsStep, IsWholeRow, TakesKeyIn};
 
-use crate::keys::{Inner, is_inner};
+use crate::keys::{Inner, is_inner, key_of, symbol_at};
 use crate::starts::start_up_to;
 use lazydfa::States;
-use rulepairs::{key_of, symbol_at};
 use ruletable::Memory;
 use std::alloc::Global;
 

@@ -1,12 +1,12 @@
 -- The shortlex order.
--- Serves: first_line, no_line_up_to, no_line; after of derivedlines; abnfg_main of abnfg
+-- Serves: first_line, no_line_up_to, no_line.
 use Rattle.std.proofs.Common.{◌≡◌, ℕ, ◌<◌, ◌≤◌, List, [], ◌∷◌, ◌++◌, length, refl, sym, ◌∙◌, ap, subst, arith, ◌⊎◌}
 use Rattle.std.proofs.Common.{inl, inr, length-append, append-nil}
 use Rattle.std.proofs.lemmas.Bool.{cases_lt}
 use Rattle.std.proofs.lemmas.Bool.Decides.{nat_tests}
 use Rattle.rulepairs.specs.FirstLines.{ComesFirst, IsShortlexBefore, shorter, symbol, later, sort_key}
 
-pub before_length : {u v : List ℕ} → IsShortlexBefore u v → length u ≤ length v
+before_length : {u v : List ℕ} → IsShortlexBefore u v → length u ≤ length v
 before_length (shorter lt) = omega (arith, lt)
 before_length (symbol same lt) = omega (arith, same)
 before_length (later b) = omega (arith, before_length b)
@@ -21,7 +21,7 @@ by_symbol : (c d : ℕ) (u v : List ℕ) → sort_key c < sort_key d → length 
 by_symbol c d u v lt le (inl less) = shorter (omega (arith, less))
 by_symbol c d u v lt le (inr more) = symbol (omega (arith, le, more)) lt
 
-pub before_trans : {u v w : List ℕ} → IsShortlexBefore u v → IsShortlexBefore v w → IsShortlexBefore u w
+before_trans : {u v w : List ℕ} → IsShortlexBefore u v → IsShortlexBefore v w → IsShortlexBefore u w
 before_trans (shorter lt) b = shorter (omega (arith, lt, before_length b))
 before_trans (symbol same lt) (shorter less) = shorter (omega (arith, same, less))
 before_trans (symbol same lt) (symbol others less) = symbol (same ∙ others) (omega (arith, lt, less))
@@ -65,7 +65,7 @@ pub last_before : (w : List ℕ) (c d : ℕ) → sort_key c < sort_key d → IsS
 last_before [] c d lt = symbol refl lt
 last_before (b ∷ w) c d lt = later (last_before w c d lt)
 
-pub one_key : (c d : ℕ) → sort_key c ≡ sort_key d → c ≡ d
+one_key : (c d : ℕ) → sort_key c ≡ sort_key d → c ≡ d
 one_key c d same = grind (arith, nat_tests)
 
 pub last_first : (w : List ℕ) (c d : ℕ) → sort_key c ≤ sort_key d → ComesFirst (w ++ c ∷ []) (w ++ d ∷ [])

@@ -1,9 +1,9 @@
-pub mod ComesFirstLemmas
-pub mod StatePairsLemmas
+mod ComesFirstLemmas
+mod StatePairsLemmas
 mod StackSetsLemmas
 mod FoundPairsLemmas
 mod SwappedLemmas
 mod CountsWithinLemmas
-pub mod SamplesLemmas
-pub mod SearchLemmas
+mod SamplesLemmas
+mod SearchLemmas
 mod OldAloneLemmas

@@ -1,5 +1,5 @@
 -- Samples of the classes of two grammars.
--- Serves: common_samples; new, after of derivedlines
+-- Serves: common_samples.
 use Rattle.std.proofs.Common.{◌≡◌, ℕ, zero, suc, ◌+◌, ◌<◌, ◌≤◌, ◌^◌, Bool, true, false, List, [], ◌∷◌, ◌++◌}
 use Rattle.std.proofs.Common.{length, map, refl, sym, ◌∙◌, ap, subst, arith, ◌⊎◌, inl, inr, eqb, get_or}
 use Rattle.std.proofs.lemmas.Bool.{cases_eq, cases_lt}
@@ -51,7 +51,7 @@ bounds_joined old new a b both all is more old_split new_split = record {
 }
 
 -- the last bound up to a number
-pub contains_or : (xs : List ℕ) (x : ℕ) → Contains xs x ⊎ (Contains xs x → ⊥)
+contains_or : (xs : List ℕ) (x : ℕ) → Contains xs x ⊎ (Contains xs x → ⊥)
 contains_or [] x = inr (λ h. let lt = h.1 in omega (arith, lt))
 contains_or (y ∷ xs) x = by (cases_eq y x) (contains_or xs x)
   where

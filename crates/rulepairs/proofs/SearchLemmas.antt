@@ -22,8 +22,7 @@ use Rattle.rulepairs.specs.StatePairs.{PairLeads}
 use Rattle.letterclasses.specs.Stacks.{IsNext}
 use Rattle.lazydfa.proofs.StateSetsLemmas.{contained_at}
 
-pub get_left : {A : Type 0} (xs ys : List A) (k : ℕ) (x : A) → slice_get xs k ≡ Some x
-    → slice_get (xs ++ ys) k ≡ Some x
+get_left : {A : Type 0} (xs ys : List A) (k : ℕ) (x : A) → slice_get xs k ≡ Some x → slice_get (xs ++ ys) k ≡ Some x
 get_left [] ys k x h = absurd (cc h)
 get_left (y ∷ xs) ys zero x h = h
 get_left (y ∷ xs) ys (suc k) x h = get_left xs ys k x h

@@ -3,7 +3,6 @@ pub mod StackSets
 pub mod FirstLines
 pub mod FoundPairs
 pub mod CountsWithin
-pub mod LineBytes
 pub mod Samples
 pub mod Search
 pub mod Alone

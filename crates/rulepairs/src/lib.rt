@@ -8,7 +8,6 @@ mod laws;
 mod pairs;
 mod samples;
 mod search;
-mod symbols;
 
 pub use alone::Alone;
 pub use comparison::{Comparison, compare};
@@ -16,4 +15,3 @@ pub use laws::{
     any_length, closed_pairs_include, first_line, included_lines, no_line, no_line_up_to,
     parts_include, swapped_pairs,
 };
-pub use symbols::{key_of, push_line, symbol_at};

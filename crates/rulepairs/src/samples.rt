@@ -1,10 +1,10 @@
 //! Symbols that stand for all symbols of their class, in the order of lines.
-ghost use Rattle.std.specs.Prelude.{◌≡◌, IfOk, map};
+ghost use Rattle.std.specs.Prelude.{◌≡◌, ◌<◌, ◌^◌, IfOk, map};
 ghost use Rattle.letters.specs.Letters.{has};
+ghost use Rattle.rulepairs.specs.FirstLines.{sort_key};
 ghost use Rattle.rulepairs.specs.Samples.{AreCommonBounds, AreInLineOrder, AreKeysOf, IsKeyAdded, symbol_of};
 ghost use Rattle.rulepairs.specs.StatePairs.{AreSamples};
 
-use crate::symbols::{key_of, symbol_at};
 use flatgrammar::Flat;
 use letterclasses::find_classes;
 use letters::Alphabet;
@@ -24,6 +24,33 @@ fn common_bounds(alloc: Global, old: &Flat, new: &Flat) -> Result<Vec<u32>, Memo
     bounds.extend_from_slice(&new_classes.samples)?;
     bounds.extend_from_slice(&[0, 32, 33, 127, 57_344])?;
     Ok(bounds)
+}
+
+// Returns the key of a symbol: %x21-7E come first, then the space, then others by number.
+fn key_of(symbol: u32) -> u32
+    requires { symbol < 2 ^ 31 }
+    ensures { result ≡ sort_key symbol }
+{
+    if 33 <= symbol && symbol <= 126 {
+        symbol
+    } else if symbol == 32 {
+        127
+    } else {
+        128 + symbol
+    }
+}
+
+// Returns the symbol of a key.
+fn symbol_at(key: u32) -> u32
+    ensures { result ≡ symbol_of key }
+{
+    if key < 127 {
+        key
+    } else if key == 127 {
+        32
+    } else {
+        key - 128
+    }
 }
 
 // Adds the key of a number, if it is a symbol. `Memory` if an allocation fails.

@@ -2,7 +2,6 @@ use Rattle.std.proofs.Common.{[], arith, subst}
 use Rattle.std.specs.Prelude.{IfSome}
 use Rattle.derivedlines.specs.StateTables.{IsCan, IsFilledBy}
 use Rattle.derivedlines.proofs.LineOrderLemmas.{line_found, none_found}
-use Rattle.derivedlines.proofs.OverLemmas.{over_done}
 use Rattle.derivedlines.proofs.StateTableLemmas.{kept_trans}
 use Rattle.derivedlines.proofs.search.line_from.Goals as goal
 
@@ -15,14 +14,6 @@ returns-then-can-clause-is c =
     c.loop-count.auto.count (let lt = c.loop-count-test.true in omega (arith, lt)) c.loop-count.invariant.none
     (subst (λ v. IfSome v (λ word. IsFilledBy now now.start c.loop-count.count [] word.items)) c.in-Some-2.is
     c.in_ok-word.ensures)
-
-pub returns-then-is_over-clause-is : goal.returns-then-is_over-clause-is
-returns-then-is_over-clause-is c =
-    let now = c.add_levels.new.table in
-    let grown = kept_trans c.args.table.now c.loop-count.table now c.loop-count.invariant.kept
-    c.in_ok-add_levels.ensures in
-    over_done c.args.table.now now c.args.limit c.args.least c.loop-count.count grown c.loop-count.invariant.none
-    (c.is_over.ensures c.if-is_over.true)
 
 pub loop-count-preserved : goal.loop-count-preserved
 loop-count-preserved c =

@@ -1,43 +1,14 @@
 //! Symbols of lines: their keys in the order of lines, and their bytes.
-ghost use Rattle.std.specs.Prelude.{◌≡◌, ◌<◌, ◌^◌, ◌++◌, OnOk};
+ghost use Rattle.std.specs.Prelude.{◌≡◌, ◌++◌, OnOk};
 ghost use Rattle.letters.specs.declared.alphabet.Alphabet.TheVariants.{Utf8};
-ghost use Rattle.rulepairs.specs.FirstLines.{sort_key};
-ghost use Rattle.rulepairs.specs.LineBytes.{line_bytes, symbol_bytes};
-ghost use Rattle.rulepairs.specs.Samples.{symbol_of};
+ghost use Rattle.abnfg.specs.LineBytes.{line_bytes, listed_bytes};
 
 use letters::Alphabet;
 use ruletable::Memory;
 
-/// Returns the key of a symbol: %x21-7E come first, then the space, then others by number.
-pub fn key_of(symbol: u32) -> u32
-    requires { symbol < 2 ^ 31 }
-    ensures { result ≡ sort_key symbol }
-{
-    if 33 <= symbol && symbol <= 126 {
-        symbol
-    } else if symbol == 32 {
-        127
-    } else {
-        128 + symbol
-    }
-}
-
-/// Returns the symbol of a key.
-pub fn symbol_at(key: u32) -> u32
-    ensures { result ≡ symbol_of key }
-{
-    if key < 127 {
-        key
-    } else if key == 127 {
-        32
-    } else {
-        key - 128
-    }
-}
-
 // Adds the bytes of a code point in UTF-8 (RFC 3629, section 3). `Memory` if an allocation fails.
 fn push_point(symbol: u32, out: &mut Vec<u8>) -> Result<(), Memory>
-    ensures { OnOk result (out.new.items ≡ out.old.items ++ symbol_bytes Utf8 symbol) }
+    ensures { OnOk result (out.new.items ≡ out.old.items ++ listed_bytes Utf8 symbol) }
 {
     let Some(point) = char::from_u32(symbol) else {
         return Ok(());
@@ -49,7 +20,7 @@ fn push_point(symbol: u32, out: &mut Vec<u8>) -> Result<(), Memory>
 
 // Adds the bytes of a symbol. `Memory` if an allocation fails.
 fn push_symbol(alphabet: Alphabet, symbol: u32, out: &mut Vec<u8>) -> Result<(), Memory>
-    ensures { OnOk result (out.new.items ≡ out.old.items ++ symbol_bytes alphabet symbol) }
+    ensures { OnOk result (out.new.items ≡ out.old.items ++ listed_bytes alphabet symbol) }
 {
     match alphabet {
         Alphabet::Bytes => match u8::try_from(symbol) {
@@ -65,7 +36,7 @@ fn push_symbol(alphabet: Alphabet, symbol: u32, out: &mut Vec<u8>) -> Result<(),
 
 /// Adds the bytes of a line of symbols: each is a byte, or a code point in UTF-8 (RFC 3629, section 3). `Memory` if an
 /// allocation fails.
-pub fn push_line(alphabet: Alphabet, line: &[u32], out: &mut Vec<u8>) -> Result<(), Memory>
+pub(crate) fn push_line(alphabet: Alphabet, line: &[u32], out: &mut Vec<u8>) -> Result<(), Memory>
     ensures { OnOk result (out.new.items ≡ out.old.items ++ line_bytes alphabet line.now) }
 {
     for symbol in line {
