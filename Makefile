@@ -1,12 +1,12 @@
 # Proves, builds and tests the tools. Needs the Rattle toolchain's command `rt` and Python 3.
 
-.PHONY: all try programs pegi abnfi abnfx abnfd lib wheel example examples install put put-lib dist deb test check edits edits-all clean
+.PHONY: all try programs pegi abnfi abnfx abnfd abnfg lib wheel example examples install put put-lib dist deb test check edits edits-all clean
 
 all: programs example
 
 # Runs an example of each program before anything is proved, in about a minute; or a program on files of your own:
 # make try TOOL=pegi GRAMMAR=f INPUT=g, and OPTIONS='-m check' if it is to have some; make try TOOL=abnfx TEXTS=f;
-# make try TOOL=abnfd TEXTS='f g'.
+# make try TOOL=abnfd TEXTS='f g'; make try TOOL=abnfg TEXTS=f.
 # With CASES=folder in place of INPUT or TEXTS it builds the program once and runs it on each file of the folder.
 try:
 	@python3 -B scripts/build/try_tools.py
@@ -14,10 +14,10 @@ try:
 # Proves the crates that the programs stand on, as many side by side as processors and memory allow (JOBS=n says how
 # many), builds the programs, and puts each into bin/ as soon as it is built.
 programs:
-	@python3 -B scripts/build/prove.py pegi abnfi abnfx abnfd
+	@python3 -B scripts/build/prove.py pegi abnfi abnfx abnfd abnfg
 
 # One program alone: what the others stand on is not proved.
-pegi abnfi abnfx abnfd:
+pegi abnfi abnfx abnfd abnfg:
 	@python3 -B scripts/build/prove.py $@
 
 # The library for C: proves what it stands on, and puts it into bin/, static and shared. It needs a C compiler.
@@ -61,8 +61,8 @@ install: programs put
 put:
 	install -d $(DESTDIR)$(PREFIX)/bin $(SHARE)/man/man1 $(SHARE)/doc/fanquber
 	install -d $(SHARE)/bash-completion/completions $(SHARE)/zsh/site-functions $(SHARE)/fish/vendor_completions.d
-	install -m 755 bin/pegi bin/abnfi bin/abnfx bin/abnfd $(DESTDIR)$(PREFIX)/bin
-	install -m 644 man/pegi.1 man/abnfi.1 man/abnfx.1 man/abnfd.1 $(SHARE)/man/man1
+	install -m 755 bin/pegi bin/abnfi bin/abnfx bin/abnfd bin/abnfg $(DESTDIR)$(PREFIX)/bin
+	install -m 644 man/pegi.1 man/abnfi.1 man/abnfx.1 man/abnfd.1 man/abnfg.1 $(SHARE)/man/man1
 	install -m 644 completions/bash/* $(SHARE)/bash-completion/completions
 	install -m 644 completions/zsh/* $(SHARE)/zsh/site-functions
 	install -m 644 completions/fish/* $(SHARE)/fish/vendor_completions.d

@@ -1,12 +1,13 @@
 #!/usr/bin/env python3
-"""Writes completions/: for bash, zsh and fish what may stand next in a command line of pegi, abnfi, abnfx
-and abnfd.
+"""Writes completions/: for bash, zsh and fish what may stand next in a command line of pegi, abnfi, abnfx,
+abnfd and abnfg.
 
 usage: completions.py [--check]
 
 With --check it compares the files with what it would write, and writes nothing. The description of the options is here,
 once for all shells; completions_test.py compares it with what the programs print for -h. As the value of --rule the
-rules of the grammar are offered if it stands on the line already: they come from `-m print`, for abnfd of abnfi.
+rules of the grammar are offered if it stands on the line already: they come from `-m print`, for abnfd and abnfg of
+abnfi.
 """
 import dataclasses
 import pathlib
@@ -104,6 +105,16 @@ PROGRAMS = (
         HELP,
         VERSION,
     ), "=", "The file of the old grammar, at most 1048576 bytes", "abnfi", ("old", "new")),
+    Program("abnfg", (
+        Option("s", "rule", "RULE", (), "List lines of this rule [default: the first rule]"),
+        Option("m", "mode", "MODE", ("all",), "Choose which lines to list"),
+        Option("l", "limit", "N", (), "List lines of at most N symbols, from 1 to 16777216"),
+        Option("c", "count", "N", (), "List at most N lines, from 1 to 4294967295"),
+        Option("u", "letters", "MODE", ("bytes", "utf8"), "Take bytes or code points of UTF-8 as symbols"),
+        Option("z", "null-data", "", (), "End lines with NUL bytes in place of line feeds"),
+        HELP,
+        VERSION,
+    ), "=", GRAMMAR, "abnfi", ("grammar",)),
 )
 
 BASH = r"""# Completes the command line of @NAME@ in bash. scripts/build/completions.py wrote this file.
@@ -223,7 +234,7 @@ _@NAME@_rules() {
 
 _arguments -s \
 @OPTIONS@
-    '1:@FIRST@:_files' '2:@SECOND@:_files'
+    @FILES@
 """
 
 FISH = r"""# Completes the command line of @NAME@ in fish. scripts/build/completions.py wrote this file.
@@ -284,7 +295,8 @@ def for_zsh(program):
         return f"    '({others})'{{{typed}}}'[{text}]" + (f":{it.value.lower()}:{action}' \\" if it.value else "' \\")
     return filled(ZSH if program.sign else ZSH_TEXTS, NAME=program.name, SIGN=program.sign,
                   VALUED="|".join(program.valued()), OPTIONS="\n".join(map(spec, program.options)),
-                  PROGRAM=program.printing("words[1]"), FIRST=program.operands[0], SECOND=program.operands[1])
+                  PROGRAM=program.printing("words[1]"),
+                  FILES=" ".join(f"'{n}:{it}:_files'" for n, it in enumerate(program.operands, 1)))
 
 
 def for_fish(program):

@@ -22,7 +22,7 @@ import tempfile
 
 TOP = pathlib.Path(__file__).resolve().parents[2]
 NAME = "fanquber"
-PROGRAMS = ("pegi", "abnfi", "abnfx", "abnfd")
+PROGRAMS = ("pegi", "abnfi", "abnfx", "abnfd", "abnfg")
 LIBRARIES = {"libc.so.6", "ld-linux-x86-64.so.2"}
 # The one place of the version's number.
 VERSION_FILE = "crates/cli/src/command.rt"
@@ -40,7 +40,8 @@ Description: proved grammar tools: pegi runs PEG grammars, abnfi judges lines by
  each line of its input. Both also check a grammar and print it in one canonical
  form. What both write is proved to be a stated function of grammar and input.
  abnfx joins the grammars in ABNF that texts of RFCs give. abnfd compares the
- lines that rules of two grammars in ABNF derive.
+ lines that rules of two grammars in ABNF derive. abnfg lists the lines that a
+ rule derives.
 """
 
 
@@ -82,7 +83,7 @@ def lay_out(folder, prefix):
     output("make", "-s", "put", f"DESTDIR={folder}", f"PREFIX={prefix}")
     sources = commit()[2]
     kit = output(*os.environ.get("RT", "rt").split(), "version").splitlines()[0]
-    text = f"pegi, abnfi, abnfx and abnfd: each function is proved against its contract, from {sources}, by {kit}.\n"
+    text = f"{', '.join(PROGRAMS)}: each function is proved against its contract, from {sources}, by {kit}.\n"
     (folder / prefix.strip("/") / f"share/doc/{NAME}/PROVED").write_text(text)
 
 

@@ -3,11 +3,11 @@
 
 usage: try_tools.py
 
-With no TOOL in the environment it runs an example of each program. TOOL is pegi, abnfi, abnfx or abnfd; OPTIONS are
-further arguments of the program.
+With no TOOL in the environment it runs an example of each program. TOOL is pegi, abnfi, abnfx, abnfd or abnfg.
+OPTIONS are further arguments of the program.
 
 - pegi and abnfi: GRAMMAR is a file. The program runs on the file INPUT, or on standard input if INPUT is not set.
-- abnfx and abnfd: TEXTS are the files of the texts, or of both grammars.
+- abnfx, abnfd and abnfg: TEXTS are the files of the texts, of both grammars, or of the grammar.
 - CASES is a folder in place of INPUT or TEXTS. The program is built once and run on each file of it. What it prints is
   compared with the file of the same name that ends in .stdout; if there is none, it is shown.
 
@@ -23,12 +23,13 @@ import tempfile
 
 TOP = pathlib.Path(__file__).resolve().parents[2]
 RT = os.environ.get("RT", "rt").split()
-TOOLS = ("pegi", "abnfi", "abnfx", "abnfd")
+TOOLS = ("pegi", "abnfi", "abnfx", "abnfd", "abnfg")
 # The programs that take texts.
-TAKERS = ("abnfx", "abnfd")
+TAKERS = ("abnfx", "abnfd", "abnfg")
 USAGE = """usage: make try TOOL=pegi|abnfi GRAMMAR=file [INPUT=file | CASES=folder] [OPTIONS='..']
        make try TOOL=abnfx TEXTS='file ..' | CASES=folder [OPTIONS='..']
-       make try TOOL=abnfd TEXTS='old new' [OPTIONS='..']"""
+       make try TOOL=abnfd TEXTS='old new' [OPTIONS='..']
+       make try TOOL=abnfg TEXTS=grammar | CASES=folder [OPTIONS='..']"""
 # What `rt try` writes on standard error after the program's own lines: the last line has the program's status.
 ENDED = re.compile(r"(checked: .*\n|interpreter: .*\n)*run=ended status=(\d+) .*\n\Z")
 
@@ -43,7 +44,7 @@ class Trial:
     """A run of a program by `rt try`: its files as the program names them, its standard input, and its options."""
 
     def __init__(self, tool, files, given="", options=(), cases=""):
-        named = [*files, "{}"] if cases and tool == "abnfx" else files
+        named = [*files, "{}"] if cases and tool in ("abnfx", "abnfg") else files
         shown = [tool, *options, *named]
         self.shown = shlex.join(shown) + (f" < {shlex.quote(given)}" if given else "")
         self.out, self.err = tempfile.TemporaryFile(), tempfile.TemporaryFile()
@@ -77,6 +78,7 @@ def examples():
         ("abnfi", ["examples/rfc3339/rfc3339.abnf"], "examples/rfc3339/lines.txt", ["-s", "date-time"]),
         ("abnfx", ["crates/abnfx/data/pages.txt"]),
         ("abnfd", ["crates/abnfd/data/old.abnf", "crates/abnfd/data/new.abnf"]),
+        ("abnfg", ["crates/abnfg/data/date.abnf"]),
     ]
 
 

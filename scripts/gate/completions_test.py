@@ -54,6 +54,8 @@ ROWS = (
     ("abnfx", "-c --", {"--list", "--help", "--version"}),
     ("abnfd", "g.abnf g.abnf -t w", {"word"}),
     ("abnfd", "-u u", {"utf8"}),
+    ("abnfg", "g.abnf -s w", {"word"}),
+    ("abnfg", "-m a", {"all"}),
 )
 # The last of these words may be offered only where a row says so.
 EVERY = {it for _, _, wanted in ROWS for it in wanted}

@@ -1,5 +1,5 @@
 #!/usr/bin/env python3
-"""Runs bin/pegi, bin/abnfi, bin/abnfx and bin/abnfd as users run them, with memory, writes and reads refused by a
+"""Runs the programs of bin/ as users run them, with memory, writes and reads refused by a
 library (faults.c), and with a stack of 256 KB.
 
 usage: faults.py [SWEEP ..]
@@ -45,6 +45,10 @@ def taken(name, text, texts, told=b"", status=0, words=()):
 
 def compared(name, old, new, texts, told=b"", status=0, words=()):
     return Run(name, "abnfd", [*words, "old"], new, old, texts, told, status)
+
+
+def listed(name, grammar, texts, told=b"", status=0, words=()):
+    return Run(name, "abnfg", list(words), grammar, b"", texts, told, status)
 
 
 # Names of runs of abnfi by a grammar that counts how often something nullable is repeated: they have no automaton.
@@ -120,6 +124,12 @@ ALIKE = compared("rules that derive the same lines", b's = "a" s / "b"\n', b's =
 REJECTED = compared("grammars that are rejected", b"s = <any>\n", b"s : x\n", [],
                     b"old: prose in rule 's'\nnew: line 1: syntax error\n", 2)
 
+LISTED = listed("lines of a rule", b'd = 1*2BIT "x"\nu = d\n', [b"0X\n", b"0x\n", b"1X\n", b"1x\n", b"00X\n"],
+                b"rule 'u' defined but not used\n", words=["-c", "5"])
+ALL_LISTED = listed("all lines of a rule", b's = "a" / %s"bc"\n', [b"A\0", b"a\0", b"bc\0"], words=["-z"])
+NONE_LISTED = listed("a rule without lines", b's = "a" s\n', [], status=1)
+UNLISTED = listed("a grammar whose lines are not listed", b's = <any>\n', [], b"prose in rule 's'\n", 2)
+
 # The runs in which each allocation fails.
 GROWING = [
     USERNAME,
@@ -152,6 +162,10 @@ GROWING = [
     COMPARED,
     ALIKE,
     REJECTED,
+    LISTED,
+    ALL_LISTED,
+    NONE_LISTED,
+    UNLISTED,
     STOP_EXPLAINED,
     REFUSED_EXPLAINED,
     HINTED,
@@ -161,7 +175,8 @@ GROWING = [
 
 # The runs whose writes fail.
 WRITTEN = [USERNAME, WORDS, NOTED, ABNF_NOTED, PRINTED, ABNF_PRINTED, CHECKED, ABNF_CHECKED, EXPLAINED, ABNF_EXPLAINED,
-           HINTED, TAKEN, TAKEN_PRINTED, TAKEN_LISTED, NONE_TAKEN, COMPARED, ALIKE, REJECTED]
+           HINTED, TAKEN, TAKEN_PRINTED, TAKEN_LISTED, NONE_TAKEN, COMPARED, ALIKE, REJECTED,
+           LISTED, ALL_LISTED, NONE_LISTED, UNLISTED]
 
 
 class Tools:
@@ -313,8 +328,9 @@ def reads(tools):
 def text_reads(tools):
     """Each read of a text failing, and reads of one to three bytes."""
     unread = {"abnfx": [b"cannot read grammar\n"],
-              "abnfd": [b"old: cannot read the grammar\n", b"new: cannot read the grammar\n"]}
-    for run in (it for it in [TAKEN, TAKEN_PRINTED, COMPARED] if tools.has(it.program)):
+              "abnfd": [b"old: cannot read the grammar\n", b"new: cannot read the grammar\n"],
+              "abnfg": [b"cannot read the grammar\n"]}
+    for run in (it for it in [TAKEN, TAKEN_PRINTED, COMPARED, LISTED] if tools.has(it.program)):
         for most in (1, 2, 3):
             ended = tools.run(run, PIECE=most)
             tools.expect(run, ended, is_as_stated(run, ended), f"reads of {most} bytes")
@@ -473,7 +489,7 @@ def main():
     wanted = words.parse_args().sweep or list(sweeps)
     with tempfile.TemporaryDirectory(prefix="faults-") as folder:
         tools = Tools(folder)
-        for program in ("pegi", "abnfi", "abnfx", "abnfd"):
+        for program in ("pegi", "abnfi", "abnfx", "abnfd", "abnfg"):
             if not tools.has(program):
                 print(f"faults: {program}: not built: skipped")
         built = tools.build()

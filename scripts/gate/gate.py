@@ -22,7 +22,7 @@ import sys
 sys.path.insert(0, str(pathlib.Path(__file__).resolve().parents[1]))  # scripts/, for what groups share
 from build.library import lacking
 
-PROGRAMS = ("pegi", "abnfi", "abnfx", "abnfd")
+PROGRAMS = ("pegi", "abnfi", "abnfx", "abnfd", "abnfg")
 # What is looked at before anything is proved, and what the programs are run by.
 BEFORE = (
     ("gate/names.py",), ("gate/doc_names.py",), ("gate/style.py",), ("gate/edit_index.py", "-q"),
@@ -34,7 +34,7 @@ BEHIND = (
     ("oracles/random_cases.py", "-n", "5000", "-u", "-w", "-z", "-k", "-p", "-q", "-b", "-1", "-x"),
     ("oracles/both_judges.py",),
     ("oracles/dense_lines.py",), ("oracles/slow_abnfx.py",), ("oracles/random_texts.py", "-n", "300"),
-    ("oracles/random_pairs.py", "-n", "300"),
+    ("oracles/random_pairs.py", "-n", "300"), ("oracles/random_lines.py", "-n", "300"), ("oracles/listed_lines.py",),
     ("bench/hostile_grammars.py",), ("gate/faults.py",), ("gate/completions_test.py",), ("gate/package_test.py",),
     ("gate/line_buffered_test.py",), ("gate/library_test.py",), ("gate/python_test.py",)
 )

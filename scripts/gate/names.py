@@ -45,9 +45,8 @@ TWINS = set(
     """.split()
 )
 # The most crates of the workspace, and the most that a chain of uses has which ends in a program. A program is a crate
-# of its own, as `abnfd`. `derivedlines` holds what a program that lists lines will run. `rfcforms` reads XML, for which
-# `abnfblocks` has no room.
-MOST_CRATES = 53
+# of its own, as `abnfd` and `abnfg`. `rfcforms` reads XML, for which `abnfblocks` has no room.
+MOST_CRATES = 54
 LONGEST_CHAIN = 10
 # The programs, each with the parts of crates.txt of which it uses nothing, and the most crates below it.
 PROGRAMS = {
@@ -55,6 +54,7 @@ PROGRAMS = {
     "abnfi": ({"peg", "RFCs"}, None),
     "abnfx": ({"peg"}, 15),
     "abnfd": ({"peg", "RFCs"}, None),
+    "abnfg": ({"peg", "RFCs"}, None),
 }
 # The most functions that a crate has, and the crates that have more: so many each. Tests count for nothing.
 LARGEST_CRATE = 105

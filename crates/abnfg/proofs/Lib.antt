@@ -1,0 +1,5 @@
+mod OrderLemmas
+pub mod ListedLinesLemmas
+pub mod ListedReplyLemmas
+pub mod ListAnswersLemmas
+pub mod ListWordsLemmas

@@ -1,0 +1,4 @@
+pub mod LineBytes
+pub mod ListAnswers
+pub mod ListWords
+pub mod ListedLines

@@ -1,0 +1,124 @@
+-- The lines that are listed, in order, and what a run states of them.
+use Rattle.std.specs.Prelude.{◌≡◌, ◌≢◌, ◌⊎◌, ℕ, ◌+◌, ◌<◌, ◌≤◌, Bool, List, [], ◌∷◌, ◌++◌, codes, length, Contains}
+use Rattle.std.specs.Prelude.{Option, None, Some, Result, Ok, Err, if◌then◌else◌}
+use Rattle.std.specs.Io.KnownBytes.{Appends}
+use Rattle.std.specs.List.{All, AllPairs, flat_map}
+use Rattle.std.proofs.Common.{Vec, Global}
+use Rattle.abnfg.specs.declared.lines.Halt.{Halt}
+use Rattle.abnfg.specs.declared.lines.Halt.TheVariants.{NoMemory as HaltsUnroomed, Nothing, TooMany}
+use Rattle.abnfg.specs.declared.lines.Halt.TheVariants.{All as Finished}
+use Rattle.derivedlines.specs.declared.lines.Step.{Step}
+use Rattle.derivedlines.specs.declared.lines.Step.TheVariants.{Line, Done as End}
+use Rattle.letters.specs.declared.alphabet.Alphabet.{Alphabet}
+use Rattle.ruletable.specs.Writing.{AppendsPart}
+use Rattle.ruletable.specs.declared.sink.WriteFault.{WriteFault}
+use Rattle.rulepairs.specs.FirstLines.{ComesFirst, HasNoLine, IsShortlexBefore}
+use Rattle.abnfg.specs.LineBytes.{line_bytes}
+use Rattle.toolrun.specs.Plan.{stopped}
+use Rattle.toolrun.specs.Reply.{Reply, without_memory}
+use Rattle.toolrun.specs.RunEnd.{ended_status, ended_text}
+use Rattle.toolrun.specs.Status.{code_of}
+use Rattle.toolrun.specs.Stop.{message_of}
+use Rattle.toolrun.specs.declared.ending.Ending.{Ending}
+use Rattle.toolrun.specs.declared.status.Status.{Status}
+use Rattle.toolrun.specs.declared.status.Status.TheVariants.{Done, NoMatch, NoMemory as WithoutMemory, Overlong}
+use Rattle.toolrun.specs.declared.stop.Stop.TheVariants.{NoMemory, Quiet}
+
+-- the byte that ends a line: LF, or NUL
+abbrev pub end_of : Bool → ℕ
+end_of nul = if nul then 0 else 10
+
+-- a line with its end
+abbrev pub record_text : Alphabet → ℕ → List ℕ → List ℕ
+record_text alphabet end line = line_bytes alphabet line ++ end ∷ []
+
+module _ (lines : List ℕ → Type 0) where
+  -- the first ones of some lines, each once and in order: each other line comes after all of them
+  pub record AreFirstLines (ws : List (List ℕ)) : Type 0 where
+    pub are : All lines ws
+    pub rise : AllPairs IsShortlexBefore ws
+    pub rest : (v : List ℕ) → lines v → Contains ws v ⊎ All (λ w. IsShortlexBefore w v) ws
+
+  -- as many as are asked for, or some, and all that there are
+  abbrev pub AreEnough : ℕ → List (List ℕ) → Type 0
+  AreEnough count ws = (length ws ≡ count)
+      ⊎ ((ws ≢ []) × (length ws ≤ count) × ((v : List ℕ) → lines v → Contains ws v))
+
+  module _ (text_of : List ℕ → List ℕ) (count : ℕ) where
+    -- The texts of the first lines are written. The status is 0 if they are enough, and 1 if there is no line at all.
+    -- Or there are too many states of the grammar, or an allocation fails, after some first lines.
+    pub data LinesReply : Reply → Type 0 where
+      listed : {ws : List (List ℕ)} → AreFirstLines ws → AreEnough count ws
+          → LinesReply (record { out = flat_map text_of ws; err = []; status = code_of Done; taken = 0 })
+      no_line : HasNoLine lines → LinesReply (stopped (Quiet NoMatch))
+      too_many : {ws : List (List ℕ)} → AreFirstLines ws → length ws ≤ count → LinesReply (record {
+        out = flat_map text_of ws;
+        err = codes "too many stacks\n";
+        status = code_of Overlong;
+        taken = 0;
+      })
+      no_room : {ws : List (List ℕ)} → AreFirstLines ws → length ws ≤ count
+          → LinesReply (without_memory (flat_map text_of ws) 0)
+
+  -- so many first lines, the last of which is given
+  pub record AreListed (done : ℕ) (last : List ℕ) (ws : List (List ℕ)) : Type 0 where
+    pub are : AreFirstLines ws
+    pub count : length ws ≡ done
+    pub last_is : 0 < done → Contains ws last
+    pub up_to : 0 < done → All (λ w. ComesFirst w last) ws
+
+  -- the line after some first lines
+  abbrev pub IsLineNext : List (List ℕ) → Vec ℕ Global → Type 0
+  IsLineNext ws line = AreFirstLines (ws ++ line.items ∷ []) × All (λ w. IsShortlexBefore w line.items) ws
+
+  -- it, or there is none
+  abbrev pub IsStepOf : List (List ℕ) → Step → Type 0
+  IsStepOf ws (Line line) = IsLineNext ws line
+  IsStepOf ws End = (v : List ℕ) → lines v → Contains ws v
+
+  -- why no line is written after some first lines
+  abbrev pub IsHaltAt : List (List ℕ) → Halt → Type 0
+  IsHaltAt ws Finished = (ws ≢ []) × ((v : List ℕ) → lines v → Contains ws v)
+  IsHaltAt ws Nothing = (ws ≡ []) × HasNoLine lines
+  IsHaltAt ws TooMany = Unit {0}
+  IsHaltAt ws HaltsUnroomed = Unit {0}
+
+  module _ (text_of : List ℕ → List ℕ) where
+    -- the next line was written after some, and is the last now; or none was, or a part of it
+    abbrev pub IsWrittenNext : ℕ → List (List ℕ) → List ℕ → Option (List ℕ) → Option (List ℕ)
+        → Result (Option Halt) WriteFault → Type 0
+    IsWrittenNext done ws last old new (Ok None) = (w : List ℕ) × AreListed (done + 1) last (ws ++ w ∷ [])
+        × Appends old new (text_of w)
+    IsWrittenNext done ws last old new (Ok (Some halt)) = IsHaltAt ws halt × Appends old new []
+    IsWrittenNext done ws last old new (Err fault) = (w : List ℕ) × AreFirstLines (ws ++ w ∷ [])
+        × AppendsPart old new (text_of w)
+
+    -- first lines were written, at most so many, and why no more are; or a part of their text
+    abbrev pub AreWritten : ℕ → Option (List ℕ) → Option (List ℕ) → Result Halt WriteFault → Type 0
+    AreWritten count old new (Ok Finished) = (ws : List (List ℕ)) × AreFirstLines ws × AreEnough count ws
+        × Appends old new (flat_map text_of ws)
+    AreWritten count old new (Ok Nothing) = HasNoLine lines × Appends old new []
+    AreWritten count old new (Ok TooMany) = (ws : List (List ℕ)) × AreFirstLines ws × (length ws ≤ count)
+        × Appends old new (flat_map text_of ws)
+    AreWritten count old new (Ok HaltsUnroomed) = (ws : List (List ℕ)) × AreFirstLines ws × (length ws ≤ count)
+        × Appends old new (flat_map text_of ws)
+    AreWritten count old new (Err fault) = (ws : List (List ℕ)) × AreFirstLines ws × (length ws ≤ count)
+        × AppendsPart old new (flat_map text_of ws)
+
+-- the text of a line was written, and is the last now; or an allocation failed, or a part of it was written
+abbrev pub IsRecordWritten : (List ℕ → List ℕ) → List ℕ → List ℕ → Option (List ℕ) → Option (List ℕ)
+    → Result (Option Halt) WriteFault → Type 0
+IsRecordWritten text_of line last old new (Ok None) = (last ≡ line) × Appends old new (text_of line)
+IsRecordWritten text_of line last old new (Ok (Some halt)) = (halt ≡ HaltsUnroomed) × Appends old new []
+IsRecordWritten text_of line last old new (Err fault) = AppendsPart old new (text_of line)
+
+-- the message and the status of a run that writes no more lines; an allocation may fail in making the message
+abbrev pub EndsWith : List ℕ → Status → Ending → Type 0
+EndsWith text status ending = (ended_text ending ≡ text) × (ended_status ending ≡ status)
+
+abbrev pub HaltEnds : Halt → Ending → Type 0
+HaltEnds Finished ending = EndsWith [] Done ending
+HaltEnds Nothing ending = EndsWith [] NoMatch ending
+HaltEnds TooMany ending = EndsWith (codes "too many stacks\n") Overlong ending
+    ⊎ EndsWith (message_of NoMemory) WithoutMemory ending
+HaltEnds HaltsUnroomed ending = EndsWith (message_of NoMemory) WithoutMemory ending

@@ -1,0 +1,234 @@
+//! The lines of a grammar, written one after another.
+ghost use Rattle.std.specs.Prelude.{◌≡◌, ◌++◌, ℕ, List, [], IfOk, IfSome, MatchResult, false};
+ghost use Rattle.abnfg.specs.ListedLines.{AreListed, IsHaltAt, IsLineNext, IsRecordWritten, IsStepOf, IsWrittenNext};
+ghost use Rattle.abnfg.specs.ListedLines.{AreWritten, HaltEnds, LinesReply, end_of, record_text};
+ghost use Rattle.abnfread.specs.AbnfViews.{rules_of};
+ghost use Rattle.derivedlines.specs.LineSets.{IsLineIn, IsRuleLine};
+ghost use Rattle.ruletable.specs.Writing.{Flags};
+ghost use Rattle.toolrun.specs.Stopped.{Fulfils};
+ghost use Rattle.toolrun.specs.Stream.{no_input, passed};
+
+use crate::symbols::push_line;
+use abnfcheck::SoundAbnf;
+use derivedlines::{Lines, Step};
+use letters::Alphabet;
+use ruletable::{Memory, Sink, WriteFault, write_whole};
+use std::alloc::Global;
+use toolrun::{Ending, Status, Stop, ToldRefusals};
+
+/// How many entries the states of a grammar may have.
+const ROOM: usize = 1_000_000;
+
+/// Which lines are listed, and how.
+#[derive(Clone, Copy)]
+pub(crate) struct Settings<'a> {
+    /// The rule; the first one if there is no name.
+    pub(crate) rule: Option<&'a str>,
+    /// The alphabet of lines.
+    pub(crate) letters: Alphabet,
+    /// The greatest length of a line, in symbols.
+    pub(crate) limit: u32,
+    /// The greatest number of lines.
+    pub(crate) count: u32,
+    /// Whether a NUL byte ends a line, in place of LF.
+    pub(crate) nul: bool,
+}
+
+/// Why no more lines are written.
+#[derive(Clone, Copy)]
+pub(crate) enum Halt {
+    /// All lines that are asked for are written.
+    All,
+    /// There is no line.
+    Nothing,
+    /// There is no room for more states.
+    TooMany,
+    /// An allocation failed.
+    NoMemory,
+}
+
+// Returns the byte that ends a line.
+fn end_byte(settings: &Settings<'_>) -> u8
+    ensures { result ≡ end_of settings.now.nul }
+{
+    if settings.nul { 0 } else { b'\n' }
+}
+
+// Returns the text of a line with its end. `Memory` if an allocation fails.
+fn line_text(alloc: Global, settings: &Settings<'_>, line: &[u32]) -> Result<Vec<u8>, Memory>
+    ensures { IfOk result (λ text. text.items ≡ record_text settings.now.letters (end_of settings.now.nul) line.now) }
+{
+    let mut text = Vec::new(alloc);
+    push_line(settings.letters, line, &mut text)?;
+    text.push(end_byte(settings))?;
+    Ok(text)
+}
+
+// Returns the step after so many lines, the last of which is given. `None` if there is no room for the states. `Memory`
+// if an allocation fails.
+fn next_step(lines: &mut Lines, done: u32, last: &[u32]) -> Result<Option<Step>, Memory>
+    ensures same { lines.new ≡ lines.old }
+    ensures next { IfOk result (λ told. IfSome told (λ step. (ws : List (List ℕ)) →
+        AreListed (IsLineIn lines.old) done last.now ws → IsStepOf (IsLineIn lines.old) ws step)) }
+{
+    if done == 0 {
+        return lines.first();
+    }
+    lines.after(last)
+}
+
+// Returns the line after so many lines, the last of which is given, or why there is none.
+fn next_line(lines: &mut Lines, done: u32, last: &[u32]) -> Result<Vec<u32>, Halt>
+    ensures same { lines.new ≡ lines.old }
+    ensures next { (ws : List (List ℕ)) → AreListed (IsLineIn lines.old) done last.now ws →
+        MatchResult result (IsLineNext (IsLineIn lines.old) ws) (IsHaltAt (IsLineIn lines.old) ws) }
+{
+    match next_step(lines, done, last) {
+        Ok(Some(Step::Line(line))) => Ok(line),
+        Ok(Some(Step::Done)) => Err(if done == 0 { Halt::Nothing } else { Halt::All }),
+        Ok(None) => Err(Halt::TooMany),
+        Err(Memory) => Err(Halt::NoMemory),
+    }
+}
+
+// Writes a line with its end, and keeps it as the last one. Returns `NoMemory` if an allocation fails. `WriteFault` if
+// the output fails; then a prefix is written.
+fn write_record<O: Sink>(
+    alloc: Global,
+    settings: &Settings<'_>,
+    line: Vec<u32>,
+    last: &mut Vec<u32>,
+    out: &mut O,
+) -> Result<Option<Halt>, WriteFault>
+    requires { O.failed out.old ≡ false }
+    ensures next { IsRecordWritten (record_text settings.now.letters (end_of settings.now.nul)) line.items
+        last.new.items (O.contents out.old) (O.contents out.new) result }
+    ensures flag { Flags (O.failed out.old) (O.failed out.new) result }
+{
+    let Ok(text) = line_text(alloc, settings, &line) else {
+        return Ok(Some(Halt::NoMemory));
+    };
+    match write_whole(out, &text) {
+        Ok(()) => {}
+        Err(fault) => return Err(fault),
+    }
+    *last = line;
+    Ok(None)
+}
+
+// Writes the line after so many lines, the last of which is given, and keeps it as the last one. Returns why there is
+// none. `WriteFault` if the output fails; then a prefix of the line is written.
+fn write_next<O: Sink>(
+    alloc: Global,
+    settings: &Settings<'_>,
+    lines: &mut Lines,
+    done: u32,
+    last: &mut Vec<u32>,
+    out: &mut O,
+) -> Result<Option<Halt>, WriteFault>
+    requires { O.failed out.old ≡ false }
+    ensures same { lines.new ≡ lines.old }
+    ensures next { (ws : List (List ℕ)) → AreListed (IsLineIn lines.old) done last.old.items ws →
+        IsWrittenNext (IsLineIn lines.old) (record_text settings.now.letters (end_of settings.now.nul)) done ws
+        last.new.items (O.contents out.old) (O.contents out.new) result }
+    ensures flag { Flags (O.failed out.old) (O.failed out.new) result }
+{
+    match next_line(lines, done, last) {
+        Ok(line) => write_record(alloc, settings, line, last, out),
+        Err(halt) => Ok(Some(halt)),
+    }
+}
+
+// Writes lines, as many as are asked for, and returns why no more are written. `WriteFault` if the output fails; then a
+// prefix of a line is written after whole lines.
+fn write_lines<O: Sink>(
+    alloc: Global,
+    settings: &Settings<'_>,
+    lines: &mut Lines,
+    out: &mut O,
+) -> Result<Halt, WriteFault>
+    requires { O.failed out.old ≡ false }
+    ensures lines { AreWritten (IsLineIn lines.old) (record_text settings.now.letters (end_of settings.now.nul))
+        settings.now.count (O.contents out.old) (O.contents out.new) result }
+    ensures flag { Flags (O.failed out.old) (O.failed out.new) result }
+{
+    let mut last = Vec::new(alloc);
+    for done in 0..settings.count {
+        match write_next(alloc, settings, lines, done, &mut last, out) {
+            Ok(None) => {}
+            Ok(Some(halt)) => return Ok(halt),
+            Err(fault) => return Err(fault),
+        }
+    }
+    Ok(Halt::All)
+}
+
+// Returns how a run ends that has too many stacks.
+fn too_many(alloc: Global) -> Result<Ending, Memory>
+    ensures { IfOk result (λ e. HaltEnds Halt.TooMany e) }
+{
+    let mut why = Vec::new(alloc);
+    why.extend_from_slice(b"too many stacks\n")?;
+    Ok(Ending::Explained {
+        told: ToldRefusals::none(alloc),
+        stop: Stop::Quiet(Status::Overlong),
+        why,
+    })
+}
+
+// Returns how a run ends that writes no more lines.
+fn ending_of(alloc: Global, halt: Halt) -> Ending
+    ensures { HaltEnds halt result }
+{
+    match halt {
+        Halt::All => Ending::Plain(Stop::Quiet(Status::Done)),
+        Halt::Nothing => Ending::Plain(Stop::Quiet(Status::NoMatch)),
+        Halt::TooMany => match too_many(alloc) {
+            Ok(ending) => ending,
+            Err(Memory) => Ending::Plain(Stop::NoMemory),
+        },
+        Halt::NoMemory => Ending::Plain(Stop::NoMemory),
+    }
+}
+
+// Writes the lines of a grammar that are asked for, and returns why no more are written. `WriteFault` if the output
+// fails; then a prefix of a line is written after whole lines.
+fn write_derived<O: Sink>(
+    alloc: Global,
+    settings: &Settings<'_>,
+    grammar: &SoundAbnf,
+    out: &mut O,
+) -> Result<Halt, WriteFault>
+    requires { O.failed out.old ≡ false }
+    ensures lines { AreWritten (IsRuleLine settings.now.letters (end_of settings.now.nul) settings.now.limit
+        (rules_of grammar.now.rules) grammar.now.judged) (record_text settings.now.letters (end_of settings.now.nul))
+        settings.now.count (O.contents out.old) (O.contents out.new) result }
+    ensures flag { Flags (O.failed out.old) (O.failed out.new) result }
+{
+    let end = end_byte(settings);
+    match Lines::new(alloc, grammar, settings.letters, end, settings.limit, ROOM) {
+        Ok(Some(mut lines)) => write_lines(alloc, settings, &mut lines, out),
+        Ok(None) => Ok(Halt::TooMany),
+        Err(Memory) => Ok(Halt::NoMemory),
+    }
+}
+
+/// Writes the lines that are asked for of those that the judged rule of a grammar derives, each with its end, and
+/// returns how the run ends. `WriteFault` if the output fails; then a prefix of a line is written after whole lines.
+pub(crate) fn list_lines<O: Sink>(
+    alloc: Global,
+    settings: &Settings<'_>,
+    grammar: &SoundAbnf,
+    out: &mut O,
+) -> Result<Ending, WriteFault>
+    requires { O.failed out.old ≡ false }
+    ensures { Fulfils (λ input. LinesReply (IsRuleLine settings.now.letters (end_of settings.now.nul)
+        settings.now.limit (rules_of grammar.now.rules) grammar.now.judged)
+        (record_text settings.now.letters (end_of settings.now.nul)) settings.now.count) no_input
+        (passed O.contents O.failed out.old out.new) result }
+{
+    match write_derived(alloc, settings, grammar, out) {
+        Ok(halt) => Ok(ending_of(alloc, halt)),
+        Err(fault) => Err(fault),
+    }
+}

@@ -1,0 +1,1 @@
+abnfg -c 8 offset.abnf

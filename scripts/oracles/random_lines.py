@@ -1,0 +1,109 @@
+#!/usr/bin/env python3
+"""Compares bin/abnfg with a slow answer on random grammars: all short lists that the rule derives, as a set, in order.
+
+usage: random_lines.py [-n GRAMMARS] [-s SEED]
+
+Of the letters of a class, those alone are tried that can stand in as many lines as are asked for: the first ones.
+Grammars and their order follow from the seed alone. Prints how many grammars were tried, and how they ended; at the
+first disagreement it prints the grammar, and then the status is 1. A program that is not built is skipped.
+"""
+import argparse
+import collections
+import itertools
+import pathlib
+import random
+import subprocess
+import sys
+import tempfile
+
+import random_abnf
+import slow_abnf
+from short_lists import ShortLists, bounds_in, is_taken, line_key
+
+BIN = pathlib.Path(__file__).resolve().parents[2] / "bin"
+# The most lists that are made of the letters of a grammar.
+MOST_LISTS = 4000
+TOO_MANY = b"too many stacks\n"
+
+
+def first_letters(bodies, is_utf8, end, count):
+    """Returns the first letters of each class of letters that the elements take, so many of each, without the end."""
+    bounds = sorted({0, 32, 33, 127, 0xE000, end, end + 1} | {it for body in bodies for it in bounds_in(body)})
+    found = []
+    for low, high in itertools.zip_longest(bounds, bounds[1:], fillvalue=0x110000):
+        if any(is_taken(body, low) for body in bodies):
+            found += [it for it in range(low, min(high, low + count))
+                      if it != end and slow_abnf.is_letter(it, is_utf8)]
+    return found
+
+
+def written(letters, is_utf8):
+    return "".join(map(chr, letters)).encode("utf-8" if is_utf8 else "latin-1")
+
+
+class Case:
+    """A random grammar, the words with which its lines are listed, and what is written."""
+
+    def __init__(self, r):
+        grammar = random_abnf.grammar(r)
+        self.text = random_abnf.grammar_text(r, grammar)
+        rule = r.choice([None, None, grammar[0][0]])
+        self.is_utf8, self.end, self.count = r.random() < 0.5, r.choice([10, 10, 0]), r.choice([1, 2, 3, 5, 20])
+        rules = slow_abnf.Rules(grammar)
+        self.told, self.is_refused = slow_abnf.notes_on(rules, rule)
+        self.lines, self.limit = [], 1
+        if not self.is_refused:
+            self.find_lines(rules, (rule or next(iter(rules.file))).upper(), r.choice([1, 2, 3, 8]))
+        self.words = [*(["-s", rule] if rule else []), *(["-u", "utf8"] if self.is_utf8 else []),
+                      *(["-z"] if self.end == 0 else []), "-c", str(self.count), "-l", str(self.limit)]
+
+    def find_lines(self, rules, key, limit):
+        bodies = [rules.all[it] for it in slow_abnf.reached(rules, key) if it in rules.all]
+        letters = first_letters(bodies, self.is_utf8, self.end, self.count)
+        while limit > 1 and len(letters) ** limit > MOST_LISTS:
+            limit -= 1
+        self.limit = limit
+        lists = ShortLists(rules, letters, limit).derived(key)
+        self.lines = sorted(lists, key=line_key)[:self.count]
+
+    def output(self):
+        return b"".join(written(it, self.is_utf8) + bytes([self.end]) for it in self.lines)
+
+    def ended(self, out, err, status):
+        """Returns how a run ended: a word, or nothing if something is wrong with it."""
+        if self.is_refused:
+            return "refused" if (out, err, status) == (b"", self.told, 2) else None
+        if status == 3:
+            is_part = self.output().startswith(out) and (not out or out[-1] == self.end)
+            return "too many stacks" if is_part and err == self.told + TOO_MANY else None
+        wanted = (self.output(), self.told, 0 if self.lines else 1)
+        return ("lines" if self.lines else "no line") if (out, err, status) == wanted else None
+
+
+def main():
+    words = argparse.ArgumentParser(description="Compares abnfg with slow answers on random grammars.")
+    words.add_argument("-n", type=int, default=3000, metavar="GRAMMARS")
+    words.add_argument("-s", type=int, default=1, metavar="SEED")
+    asked = words.parse_args()
+    if not (BIN / "abnfg").is_file():
+        print("random_lines: abnfg: not built: skipped")
+        return 0
+    r, counts = random.Random(asked.s), collections.Counter()
+    with tempfile.TemporaryDirectory(prefix="lines-") as made:
+        grammar = pathlib.Path(made) / "grammar"
+        for number in range(asked.n):
+            case = Case(r)
+            grammar.write_bytes(case.text)
+            ran = subprocess.run([BIN / "abnfg", *case.words, grammar], capture_output=True, check=False)
+            how = case.ended(ran.stdout, ran.stderr, ran.returncode)
+            counts[how] += 1
+            if how is None:
+                print(f"grammar {number}: abnfg {' '.join(case.words)}: {ran}\n{case.text}\nwanted: {case.output()}")
+                return 1
+    told = ", ".join(f"{count} ({what})" for what, count in counts.most_common())
+    print(f"{asked.n} grammars listed: {told}")
+    return 0
+
+
+if __name__ == "__main__":
+    sys.exit(main())
