@@ -71,7 +71,7 @@ EXEMPT = (
     "capi: calls.abnf", "capi: runner_calls.peg_open",
     # A crate above has such an edit.
     "abnfrun: AbnfJudge.judge", "memoryrun: whole_run.abnf_in_memory", "memoryrun: whole_run.peg_in_memory",
-    "earleyitems: Chart.spots", "toolrun: plan.plan_of", "toolrun: tool.act", "diagnostics: explained.places_of",
+    "earleyitems: ItemChart.spots", "toolrun: plan.plan_of", "toolrun: tool.act", "diagnostics: explained.places_of",
     "abnfcheck: table_marks.sound_rules",
 )
 

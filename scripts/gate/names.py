@@ -26,6 +26,8 @@ BLOCK = re.compile(r"(?:(?:pub|unfoldable) )*(?:(abbrev) )?(?:pub )?(?:(data|rec
 ONE_WORD = re.compile(r"(?:(?:private|pub|unfoldable) )*([a-z][A-Za-z0-9]*)(?: :(?: |$)|$)")
 # A definition's name, at the margin of a file of specs/.
 DEFINITION = re.compile(r"(?:(?:unfoldable|abbrev|pub|data|record) )+([^\s(){}:.]+)")
+# A type's name, at the margin of a file of code.
+TYPE = re.compile(r"^(?:pub(?:\([a-z]+\))? )?(?:struct|enum|trait|type) (\w+)", re.M)
 # Crates of the two grammar languages, which call what is the same in both by one name, and the crates on which both
 # stand and whose words they speak.
 LANGUAGES = (
@@ -201,13 +203,29 @@ def crates_that_define(top, files):
                     found[match[1]].add(path.parts[1])
     return found
 
+def is_one_of_each(crates):
+    """Tells whether the crates are one of each language, or of the crates on which both stand."""
+    by_language = [len(crates & language) for language in LANGUAGES]
+    return sum(by_language) == len(crates) and max(by_language, default=0) <= 1
+
+
 
 def of_twin_definitions(top, files):
     """Yields the definitions whose name stands in two crates, unless these are one of each language or it is agreed."""
     for name, crates in sorted(crates_that_define(top, files).items()):
-        by_language = [len(crates & language) for language in LANGUAGES]
-        one_of_each = sum(by_language) == len(crates) and max(by_language, default=0) <= 1
-        if len(crates) > 1 and not one_of_each and name not in TWINS:
+        if len(crates) > 1 and not is_one_of_each(crates) and name not in TWINS:
+            yield f"{name}: {', '.join(sorted(crates))}"
+
+
+def of_twin_types(top, files):
+    """Yields the types whose name stands in two crates, unless these are one of each language."""
+    found = collections.defaultdict(set)
+    for path in files:
+        if path.suffix == ".rt" and path.parts[0] == "crates":
+            for name in TYPE.findall((top / path).read_text()):
+                found[name].add(path.parts[1])
+    for name, crates in sorted(found.items()):
+        if len(crates) > 1 and not is_one_of_each(crates):
             yield f"{name}: {', '.join(sorted(crates))}"
 
 
@@ -287,6 +305,7 @@ def main():
         "lemmas whose name is one word": of_short_names(top, files),
         "names that stand more than once": of_twins(files),
         "definitions whose name stands in two crates": of_twin_definitions(top, files),
+        "types whose name stands in two crates": of_twin_types(top, files),
         "the number of crates, and what programs use": of_uses(top),
         f"crates of more than {LARGEST_CRATE} functions": of_large_crates(top, files),
         f"folders of more than {LARGEST_FOLDER} entries": of_wide_folders(files),

@@ -16,7 +16,7 @@ use Rattle.abnfblocks.specs.RuleCuts.{rule_size}
 use Rattle.abnfblocks.specs.FoundRules.{AreFound, IsAbnf, IsAbnfCut, IsFoundOf, IsLongestCut, IsNoAbnf}
 use Rattle.abnfblocks.specs.FoundRules.{IsOutcome, IsShorter, none_left, no_rule, a_rule}
 use Rattle.abnfblocks.specs.RuleLines.{margin_of, begins_rule_line}
-use Rattle.abnfblocks.specs.declared.found.Found.{Found}
+use Rattle.abnfblocks.specs.declared.found.RuleSearch.{RuleSearch}
 use Rattle.abnfblocks.specs.RuleEnds.{AreTests, IsCutLimit, line_bound}
 use Rattle.abnfblocks.proofs.RuleEndLemmas.{tested-cut}
 use Rattle.abnfblocks.proofs.FaultLineLemmas.{fault-bars}
@@ -146,14 +146,14 @@ untested-bars rule m limit tests margin within h k more less (cut, read) =
     omega (arith, length-map (take (limit - 1) rule) numbered, length-take (limit - 1) rule) in
     h.long k more (omega arith) (subst IsAbnf (sym (tested-cut rule m (limit - 1) k margin (omega arith))) read)
 
-module _ (lines : List TextLine) (i : ℕ) (before : List Found) (lt : i < length lines)
-    (all : (others : List Found) → AreFound i (drop i (map numbered lines)) others
+module _ (lines : List TextLine) (i : ℕ) (before : List RuleSearch) (lt : i < length lines)
+    (all : (others : List RuleSearch) → AreFound i (drop i (map numbered lines)) others
     → AreFound 0 (map numbered lines) (before ++ others)) where
   abbrev next_lines : List NumberedLine
   next_lines = drop (i + 1) (map numbered lines)
 
   -- a line that begins no rule gives nothing
-  pub nothing-more : (d : TextLine) → begins_rule_line (get_or lines i d).bytes.now ≡ false → (others : List Found)
+  pub nothing-more : (d : TextLine) → begins_rule_line (get_or lines i d).bytes.now ≡ false → (others : List RuleSearch)
       → AreFound (i + 1) next_lines others → AreFound 0 (map numbered lines) (before ++ others)
   nothing-more d e others more = all others
       (subst (λ (rows : List NumberedLine). AreFound i rows others) (sym (row-behind lines i d lt)) (no_rule e more))
@@ -162,9 +162,9 @@ module _ (lines : List TextLine) (i : ℕ) (before : List Found) (lt : i < lengt
   rest_lines = take (length lines - i) (drop i lines)
 
   -- one that does gives what is found of the rule
-  pub rule-more : (d : TextLine) (size : ℕ) (it : Found) → begins_rule_line (get_or lines i d).bytes.now ≡ true
+  pub rule-more : (d : TextLine) (size : ℕ) (it : RuleSearch) → begins_rule_line (get_or lines i d).bytes.now ≡ true
       → size ≡ rule_size (map numbered rest_lines) → IsFoundOf i (map numbered (take size rest_lines)) it
-      → (others : List Found) → AreFound (i + 1) next_lines others
+      → (others : List RuleSearch) → AreFound (i + 1) next_lines others
       → AreFound 0 (map numbered lines) ((before ++ it ∷ []) ++ others)
   rule-more d size it e count h others more =
       let rows = row-behind lines i d lt in
@@ -174,11 +174,11 @@ module _ (lines : List TextLine) (i : ℕ) (before : List Found) (lt : i < lengt
       let found = subst (λ (xs : List NumberedLine). IsFoundOf i xs it) whose h in
       let here : AreFound i (drop i (map numbered lines)) (it ∷ others) =
       subst (λ (xs : List NumberedLine). AreFound i xs (it ∷ others)) (sym rows) (a_rule e found more) in
-      subst (λ (xs : List Found). AreFound 0 (map numbered lines) xs) (sym (append_assoc before (it ∷ []) others))
+      subst (λ (xs : List RuleSearch). AreFound 0 (map numbered lines) xs) (sym (append_assoc before (it ∷ []) others))
       (all (it ∷ others) here)
 
-pub found-all : (lines : List TextLine) (i : ℕ) (before : List Found) → length lines ≤ i
-    → ((others : List Found) → AreFound i (drop i (map numbered lines)) others
+pub found-all : (lines : List TextLine) (i : ℕ) (before : List RuleSearch) → length lines ≤ i
+    → ((others : List RuleSearch) → AreFound i (drop i (map numbered lines)) others
     → AreFound 0 (map numbered lines) (before ++ others))
     → AreFound 0 (map numbered lines) before
 found-all lines i before le all =

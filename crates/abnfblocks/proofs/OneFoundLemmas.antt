@@ -10,8 +10,8 @@ use Rattle.abnfblocks.specs.TextLines.{NumberedLine}
 use Rattle.abnfblocks.specs.FoundRules.{AreFound, IsFoundOf, IsLongestCut, IsOutcome, none_left, no_rule}
 use Rattle.abnfblocks.specs.FoundRules.{a_rule, found_line, rule_starts}
 use Rattle.abnfblocks.specs.FoundRules.{it_reads, it_is_none}
-use Rattle.abnfblocks.specs.declared.found.Found.{Found}
-use Rattle.abnfblocks.specs.declared.found.Found.TheVariants as found
+use Rattle.abnfblocks.specs.declared.found.RuleSearch.{RuleSearch}
+use Rattle.abnfblocks.specs.declared.found.RuleSearch.TheVariants as found
 
 -- a text has at most one fault but for want of memory
 abbrev pub OneFault : Type 0
@@ -25,7 +25,8 @@ one-longest rows n m h k = elim (cases_order n m) [
   | inr (inr gt) ↦ absurd (k.longest n gt h.cut h.reads)
 ]
 
-one-it : OneFault → {i : ℕ} {rows : List NumberedLine} {a b : Found} → IsFoundOf i rows a → IsFoundOf i rows b → a ≡ b
+one-it : OneFault → {i : ℕ} {rows : List NumberedLine} {a b : RuleSearch} → IsFoundOf i rows a → IsFoundOf i rows b
+    → a ≡ b
 one-it one {i} {rows} (it_reads {n} h) (it_reads {n = m} k) = ap (λ (x : ℕ). found.Rule i x) (one-longest rows n m h k)
 one-it one (it_reads h) (it_is_none k) = absurd (k.none _ h.cut h.reads)
 one-it one (it_is_none h) (it_reads k) = absurd (h.none _ k.cut k.reads)
@@ -37,18 +38,19 @@ one-it one {i} {rows} (it_is_none {n} {fault = f} h) (it_is_none {n = m} {fault 
     ap (λ (x : ℕ). found.NotAbnf i x f) size ∙ ap (λ (x : ReadFault). found.NotAbnf i m x) same
 
 -- and has one entry for each line that begins a rule
-pub each-found : {i : ℕ} {lines : List NumberedLine} {all : List Found} → AreFound i lines all
+pub each-found : {i : ℕ} {lines : List NumberedLine} {all : List RuleSearch} → AreFound i lines all
     → map found_line all ≡ rule_starts i lines
 each-found none_left = refl
 each-found (no_rule e h) = rw e (each-found h)
 each-found (a_rule {i} e (it_reads is) h) = rw e (ap (λ (ns : List ℕ). i ∷ ns) (each-found h))
 each-found (a_rule {i} e (it_is_none is) h) = rw e (ap (λ (ns : List ℕ). i ∷ ns) (each-found h))
 
-pub one-found : OneFault → {i : ℕ} {lines : List NumberedLine} {a b : List Found} → AreFound i lines a
+pub one-found : OneFault → {i : ℕ} {lines : List NumberedLine} {a b : List RuleSearch} → AreFound i lines a
     → AreFound i lines b → a ≡ b
 one-found one none_left none_left = refl
 one-found one (no_rule e h) (no_rule f k) = one-found one h k
 one-found one (no_rule e h) (a_rule f it k) = let t : true ≡ false = sym f ∙ e in cc
 one-found one (a_rule e it h) (no_rule f k) = let t : true ≡ false = sym e ∙ f in cc
 one-found one (a_rule {it = a} {others = front} e x h) (a_rule {it = b} f y k) =
-    ap (λ (it : Found). it ∷ front) (one-it one x y) ∙ ap (λ (others : List Found). b ∷ others) (one-found one h k)
+    ap (λ (it : RuleSearch). it ∷ front) (one-it one x y)
+    ∙ ap (λ (others : List RuleSearch). b ∷ others) (one-found one h k)

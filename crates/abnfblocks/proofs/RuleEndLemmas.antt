@@ -33,8 +33,8 @@ use Rattle.abnfblocks.specs.RuleCuts.{cut_line, cut_text, lines_text, margin_at}
 use Rattle.abnfblocks.specs.RuleEnds.{BarEnds, deeper, stand_behind, stands_behind, nothing_open, LeavesOpen}
 use Rattle.abnfblocks.specs.TextLines.{NumberedLine, numbered}
 use Rattle.abnfblocks.specs.declared.rfctext.text_line.TextLine.{TextLine}
-use Rattle.abnfblocks.specs.declared.ends.Stand.{Stand}
-use Rattle.abnfblocks.specs.declared.ends.Stand.TheVariants.{Open, Unknown}
+use Rattle.abnfblocks.specs.declared.ends.LeftOpen.{LeftOpen}
+use Rattle.abnfblocks.specs.declared.ends.LeftOpen.TheVariants.{Open, Unknown}
 use Rattle.abnfblocks.proofs.LinesTextLemmas.{one-line_more}
 use Rattle.abnfblocks.proofs.LineTokenLemmas.{HasBad, here, later, AreOnward, moved_token, tokens-onward, line-behind}
 
@@ -50,7 +50,7 @@ said_wants End w = w
 said_wants s w = false
 
 -- what words leave open
-abbrev open_words : ℕ → Bool → List Word → Stand
+abbrev open_words : ℕ → Bool → List Word → LeftOpen
 open_words d w [] = Open d w
 open_words d w (word g f s ∷ ws) = open_words (open_behind s d) (said_wants s w) ws
 
@@ -96,14 +96,14 @@ grammar-closes (more_rules {s} a y g) w = assigns-wants s a 0 false ∙ alternat
     ∙ grammar-closes g false
 
 -- the tokens leave open what their words do, or it is unknown
-abbrev Agrees : Stand → Stand → Type 0
+abbrev Agrees : LeftOpen → LeftOpen → Type 0
 Agrees s t = (s ≡ Unknown) ⊎ (s ≡ t)
 
 unknown-stays : (ts : List (Tok AbnfKind)) → stands_behind Unknown ts ≡ Unknown
 unknown-stays [] = refl
 unknown-stays (x ∷ ts) = unknown-stays ts
 
-deeper-agrees : (d : ℕ) (ts : List (Tok AbnfKind)) (t : Stand) → Agrees (stands_behind (Open (d + 1) true) ts) t
+deeper-agrees : (d : ℕ) (ts : List (Tok AbnfKind)) (t : LeftOpen) → Agrees (stands_behind (Open (d + 1) true) ts) t
     → Agrees (stands_behind (deeper d) ts) t
 deeper-agrees d ts t h = elim (cases_Bool (nat_lt d max_open)) [
   | inl e ↦ rw e h
@@ -144,12 +144,12 @@ module _ (text : List ℕ) (m : Option ℕ) where
   words-agree (tok k z p ∷ ts) n d w (say_more (says (says_prose e)) more) = words-agree ts p.end d false more
   words-agree (tok k z p ∷ ts) n d w (say_more (says says_end) more) = words-agree ts p.end d w more
 
-closed-by : (s : Stand) → Agrees s (Open 0 false) → nothing_open s ≡ true
+closed-by : (s : LeftOpen) → Agrees s (Open 0 false) → nothing_open s ≡ true
 closed-by s (inl e) = rw e refl
 closed-by s (inr e) = rw e refl
 
 -- what lines up to a place leave open
-pub data IsStand : List ℕ → Stand → Type 0 where
+pub data IsStand : List ℕ → LeftOpen → Type 0 where
   no_line : IsStand [] (Open 0 false)
   some_lines : {text : List ℕ} {ts : List (Tok AbnfKind)} → EndsLine text → AreTokens text ts
       → IsStand text (stands_behind (Open 0 false) ts)
@@ -164,58 +164,58 @@ reads-closed {text} {ts = ts} t h =
     let say : SayAll (marks text (margin text m.tokens) 0 m.tokens) h.words =
     (let s = h.say in let e = m.same in rw e at s) in
     let told = words-agree text (margin text m.tokens) m.tokens 0 0 false say in
-    let closed = closed-by (stands_behind (Open 0 false) m.tokens) (subst (λ (s : Stand).
+    let closed = closed-by (stands_behind (Open 0 false) m.tokens) (subst (λ (s : LeftOpen).
     Agrees (stands_behind (Open 0 false) m.tokens) s) (grammar-closes h.grammar false) told) in
     rw same at closed
 
-pub open-bars : {text : List ℕ} {s : Stand} (b : Bool) → IsStand text s → b ≡ nothing_open s → b ≡ false
+pub open-bars : {text : List ℕ} {s : LeftOpen} (b : Bool) → IsStand text s → b ≡ nothing_open s → b ≡ false
     → {ds : List Definition} → Reads text ds → ⊥
 open-bars b no_line e f h = cc
 open-bars b unknown e f h = cc
 open-bars b (some_lines l t) e f h = let c = reads-closed t h in let x : true ≡ false = sym c ∙ sym e ∙ f in cc
 
-stands-append : (xs ys : List (Tok AbnfKind)) (s : Stand)
+stands-append : (xs ys : List (Tok AbnfKind)) (s : LeftOpen)
     → stands_behind s (xs ++ ys) ≡ stands_behind (stands_behind s xs) ys
 stands-append [] ys s = refl
 stands-append (x ∷ xs) ys s = stands-append xs ys (stand_behind s (kind_of x))
 
-pub stands-snoc : (xs : List (Tok AbnfKind)) (x : Tok AbnfKind) (s : Stand)
+pub stands-snoc : (xs : List (Tok AbnfKind)) (x : Tok AbnfKind) (s : LeftOpen)
     → stands_behind s (xs ++ x ∷ []) ≡ stand_behind (stands_behind s xs) (kind_of x)
 stands-snoc xs x s = stands-append xs (x ∷ []) s
 
-stands-moved : (n : ℕ) (xs : List (Tok AbnfKind)) (s : Stand)
+stands-moved : (n : ℕ) (xs : List (Tok AbnfKind)) (s : LeftOpen)
     → stands_behind s (map (moved_token n) xs) ≡ stands_behind s xs
 stands-moved n [] s = refl
 stands-moved n (tok k z p ∷ xs) s = stands-moved n xs (stand_behind s k)
 
-end-kind : (k : AbnfKind) → ends_list k ≡ true → (s : Stand) → stand_behind s k ≡ s
+end-kind : (k : AbnfKind) → ends_list k ≡ true → (s : LeftOpen) → stand_behind s k ≡ s
 end-kind kinds.End e Unknown = refl
 end-kind kinds.End e (Open d w) = refl
 end-kind k e s = cc
 
-bad-kind : (s : Stand) → stand_behind s kinds.Bad ≡ Unknown
+bad-kind : (s : LeftOpen) → stand_behind s kinds.Bad ≡ Unknown
 bad-kind Unknown = refl
 bad-kind (Open d w) = refl
 
-bad-unknown : {ts : List (Tok AbnfKind)} → HasBad ts → (s : Stand) → stands_behind s ts ≡ Unknown
-bad-unknown (here {ts}) s = ap (λ (x : Stand). stands_behind x ts) (bad-kind s) ∙ unknown-stays ts
+bad-unknown : {ts : List (Tok AbnfKind)} → HasBad ts → (s : LeftOpen) → stands_behind s ts ≡ Unknown
+bad-unknown (here {ts}) s = ap (λ (x : LeftOpen). stands_behind x ts) (bad-kind s) ∙ unknown-stays ts
 bad-unknown (later {x} h) s = bad-unknown h (stand_behind s (kind_of x))
 
 onward-stands : (total n : ℕ) (t : List ℕ) (ts us : List (Tok AbnfKind)) (h : AreOnward total n t ts us)
-    (s : Stand) → stands_behind s (h.front ++ map (moved_token n) us) ≡ stands_behind (stands_behind s ts) us
+    (s : LeftOpen) → stands_behind s (h.front ++ map (moved_token n) us) ≡ stands_behind (stands_behind s ts) us
 onward-stands total n t ts us h s =
     let before = stands_behind s h.front in
     let last : stands_behind s ts ≡ before = ap (stands_behind s) h.whole ∙ stands-snoc h.front h.last s
     ∙ end-kind (kind_of h.last) h.ends before in
     stands-append h.front (map (moved_token n) us) s ∙ stands-moved n us before
-    ∙ ap (λ (x : Stand). stands_behind x us) (sym last)
+    ∙ ap (λ (x : LeftOpen). stands_behind x us) (sym last)
 
 -- a line more
-pub line-stand : {a b : List ℕ} {s t : Stand} → IsStand a s → EndsLine b → LeavesOpen s b t → IsStand (a ++ b) t
+pub line-stand : {a b : List ℕ} {s t : LeftOpen} → IsStand a s → EndsLine b → LeavesOpen s b t → IsStand (a ++ b) t
 line-stand no_line l (ts, are, e) = rw e (some_lines l are)
 line-stand unknown l (ts, are, e) = rw (e ∙ unknown-stays ts) unknown
 line-stand {a} {b} (some_lines {ts = us} l t) k (ts, are, e) = elim (tokens-onward a b are l t) [
-  | inl is_bad ↦ rw (e ∙ ap (λ (x : Stand). stands_behind x ts) (bad-unknown is_bad (Open 0 false))
+  | inl is_bad ↦ rw (e ∙ ap (λ (x : LeftOpen). stands_behind x ts) (bad-unknown is_bad (Open 0 false))
       ∙ unknown-stays ts) unknown
   | inr on ↦ (
       let same = onward-stands (length (a ++ b)) (length a) (a ++ b) us ts on (Open 0 false) in
@@ -252,7 +252,7 @@ line-added m (d ∷ ds) i lt =
 pub cut-line_ends : (m : ℕ) (line : NumberedLine) → EndsLine (cut_line m line)
 cut-line_ends m line = line-behind _ lf
 
-pub stand-more : (m : ℕ) (lines : List TextLine) (i : ℕ) {s t : Stand} → i < length lines
+pub stand-more : (m : ℕ) (lines : List TextLine) (i : ℕ) {s t : LeftOpen} → i < length lines
     → IsStand (lines_text m (take i (map numbered lines))) s
     → LeavesOpen s (lines_text m (map numbered (take (i + 1 - i) (drop i lines)))) t
     → IsStand (lines_text m (take (i + 1) (map numbered lines))) t

@@ -7,8 +7,8 @@ use Rattle.abnfread.specs.AbnfReading.{Reads, IsFaultOf}
 use Rattle.abnfread.specs.Element.{Definition}
 use Rattle.abnfblocks.specs.TextLines.{NumberedLine}
 use Rattle.abnfblocks.specs.RuleCuts.{opens_rule, first_rule, IsCut, cut_text, full_size}
-use Rattle.abnfblocks.specs.declared.found.Found.{Found}
-use Rattle.abnfblocks.specs.declared.found.Found.TheVariants as found
+use Rattle.abnfblocks.specs.declared.found.RuleSearch.{RuleSearch}
+use Rattle.abnfblocks.specs.declared.found.RuleSearch.TheVariants as found
 
 -- the text spells definitions, and keeps to the limits
 abbrev pub IsAbnf : List ℕ → Type 0
@@ -32,21 +32,22 @@ pub record IsNoAbnf (rule : List NumberedLine) (n : ℕ) (fault : ReadFault) : T
   pub fault_is : IsOutcome (cut_text rule n) (Some fault)
 
 -- What is found of the rule that has these lines, where the first one has that number in the list, from 0.
-pub data IsFoundOf (i : ℕ) (rule : List NumberedLine) : Found → Type 0 where
+pub data IsFoundOf (i : ℕ) (rule : List NumberedLine) : RuleSearch → Type 0 where
   it_reads : {n : ℕ} → IsLongestCut rule n → IsFoundOf i rule (found.Rule i n)
   it_is_none : {n : ℕ} {fault : ReadFault} → IsNoAbnf rule n fault → IsFoundOf i rule (found.NotAbnf i n fault)
 
 -- What is found among these lines, of which the first has that number: one thing for each line that begins a rule.
-pub data AreFound : ℕ → List NumberedLine → List Found → Type 0 where
+pub data AreFound : ℕ → List NumberedLine → List RuleSearch → Type 0 where
   none_left : {i : ℕ} → AreFound i [] []
-  no_rule : {i : ℕ} {line : NumberedLine} {lines : List NumberedLine} {others : List Found} → opens_rule line ≡ false
+  no_rule : {i : ℕ} {line : NumberedLine} {lines : List NumberedLine} {others : List RuleSearch}
+      → opens_rule line ≡ false
       → AreFound (i + 1) lines others → AreFound i (line ∷ lines) others
-  a_rule : {i : ℕ} {line : NumberedLine} {lines : List NumberedLine} {it : Found} {others : List Found}
+  a_rule : {i : ℕ} {line : NumberedLine} {lines : List NumberedLine} {it : RuleSearch} {others : List RuleSearch}
       → opens_rule line ≡ true → IsFoundOf i (first_rule (line ∷ lines)) it → AreFound (i + 1) lines others
       → AreFound i (line ∷ lines) (it ∷ others)
 
 -- the number of the line at which something is found
-abbrev pub found_line : Found → ℕ
+abbrev pub found_line : RuleSearch → ℕ
 found_line (found.Rule first count) = first
 found_line (found.NotAbnf first count fault) = first
 

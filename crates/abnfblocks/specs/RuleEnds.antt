@@ -12,15 +12,15 @@ use Rattle.abnfread.specs.MarkedTokens.{AreTokens}
 use Rattle.abnfblocks.specs.FoundRules.{IsAbnf, IsAbnfCut}
 use Rattle.abnfblocks.specs.RuleCuts.{lines_text}
 use Rattle.abnfblocks.specs.TextLines.{NumberedLine}
-use Rattle.abnfblocks.specs.declared.ends.Stand.{Stand}
-use Rattle.abnfblocks.specs.declared.ends.Stand.TheVariants.{Open, Unknown}
+use Rattle.abnfblocks.specs.declared.ends.LeftOpen.{LeftOpen}
+use Rattle.abnfblocks.specs.declared.ends.LeftOpen.TheVariants.{Open, Unknown}
 
 -- one bracket more is open, if the limit allows it
-abbrev pub deeper : ℕ → Stand
+abbrev pub deeper : ℕ → LeftOpen
 deeper d = if nat_lt d max_open then Open (d + 1) true else Unknown
 
 -- What a token leaves open: brackets, and an element that has to follow. Bytes that begin no token leave all unknown.
-abbrev pub stand_behind : Stand → AbnfKind → Stand
+abbrev pub stand_behind : LeftOpen → AbnfKind → LeftOpen
 stand_behind Unknown k = Unknown
 stand_behind (Open d w) LParen = deeper d
 stand_behind (Open d w) LBrack = deeper d
@@ -37,17 +37,17 @@ stand_behind (Open d w) Prose = Open d false
 stand_behind (Open d w) Bad = Unknown
 stand_behind (Open d w) End = Open d w
 
-abbrev pub stands_behind : Stand → List (Tok AbnfKind) → Stand
+abbrev pub stands_behind : LeftOpen → List (Tok AbnfKind) → LeftOpen
 stands_behind s [] = s
 stands_behind s (x ∷ xs) = stands_behind (stand_behind s (kind_of x)) xs
 
 -- nothing is open, or that is unknown
-abbrev pub nothing_open : Stand → Bool
+abbrev pub nothing_open : LeftOpen → Bool
 nothing_open Unknown = true
 nothing_open (Open d w) = (d == 0) && not w
 
 -- what the tokens of a text leave open, after that
-abbrev pub LeavesOpen : Stand → List ℕ → Stand → Type 0
+abbrev pub LeavesOpen : LeftOpen → List ℕ → LeftOpen → Type 0
 LeavesOpen before text s = (ts : List (Tok AbnfKind)) × AreTokens text ts × (s ≡ stands_behind before ts)
 
 -- Where the test of a line is false, the lines up to there read as nothing.

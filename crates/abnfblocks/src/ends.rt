@@ -12,7 +12,7 @@ use std::alloc::Global;
 
 /// What the tokens so far leave open.
 #[derive(Clone, Copy)]
-pub(crate) enum Stand {
+pub(crate) enum LeftOpen {
     /// So many brackets are open, and an element has to follow or not.
     Open { depth: usize, wants: bool },
     /// Bytes that begin no token, or more brackets than may be open.
@@ -20,42 +20,42 @@ pub(crate) enum Stand {
 }
 
 // What is open after a token.
-fn after_token(stand: Stand, kind: AbnfKind) -> Stand
+fn after_token(stand: LeftOpen, kind: AbnfKind) -> LeftOpen
     ensures { result ≡ stand_behind stand kind }
 {
-    let Stand::Open { depth, wants } = stand else {
-        return Stand::Unknown;
+    let LeftOpen::Open { depth, wants } = stand else {
+        return LeftOpen::Unknown;
     };
     match kind {
         AbnfKind::LParen | AbnfKind::LBrack => {
             if depth < MAX_OPEN {
-                Stand::Open {
+                LeftOpen::Open {
                     depth: depth + 1,
                     wants: true,
                 }
             } else {
-                Stand::Unknown
+                LeftOpen::Unknown
             }
         }
-        AbnfKind::RParen | AbnfKind::RBrack => Stand::Open {
+        AbnfKind::RParen | AbnfKind::RBrack => LeftOpen::Open {
             depth: depth.saturating_sub(1),
             wants: false,
         },
-        AbnfKind::Is | AbnfKind::Adds | AbnfKind::Slash | AbnfKind::Repeat => Stand::Open {
+        AbnfKind::Is | AbnfKind::Adds | AbnfKind::Slash | AbnfKind::Repeat => LeftOpen::Open {
             depth,
             wants: true,
         },
-        AbnfKind::Name | AbnfKind::Text | AbnfKind::Num | AbnfKind::Prose => Stand::Open {
+        AbnfKind::Name | AbnfKind::Text | AbnfKind::Num | AbnfKind::Prose => LeftOpen::Open {
             depth,
             wants: false,
         },
-        AbnfKind::Bad => Stand::Unknown,
-        AbnfKind::End => Stand::Open { depth, wants },
+        AbnfKind::Bad => LeftOpen::Unknown,
+        AbnfKind::End => LeftOpen::Open { depth, wants },
     }
 }
 
 // What is open after the tokens of a text.
-fn after_text(before: Stand, text: &[u8]) -> Stand
+fn after_text(before: LeftOpen, text: &[u8]) -> LeftOpen
     ensures { LeavesOpen before text.now result }
 {
     let mut stand = before;
@@ -66,12 +66,12 @@ fn after_text(before: Stand, text: &[u8]) -> Stand
 }
 
 // Whether nothing is open, or that is unknown.
-fn is_closed(stand: Stand) -> bool
+fn is_closed(stand: LeftOpen) -> bool
     ensures { result ≡ nothing_open stand }
 {
     match stand {
-        Stand::Open { depth, wants } => depth == 0 && !wants,
-        Stand::Unknown => true,
+        LeftOpen::Open { depth, wants } => depth == 0 && !wants,
+        LeftOpen::Unknown => true,
     }
 }
 
@@ -89,7 +89,7 @@ pub(crate) fn may_end(
     ensures { IfOk result (λ tests. AreTests margin_size (map numbered rule.now) tests.items) }
 {
     let mut tests = Vec::new(alloc);
-    let mut stand = Stand::Open {
+    let mut stand = LeftOpen::Open {
         depth: 0,
         wants: false,
     };

@@ -13,7 +13,7 @@ use std::alloc::Global;
 
 /// The result of the search at a line that begins a rule. Lines count from 0, as they stand in the list.
 #[derive(Clone, Copy)]
-pub enum Found {
+pub enum RuleSearch {
     /// So many lines from the first one on are ABNF.
     Rule {
         first: usize,
@@ -38,7 +38,7 @@ pub enum Found {
 ///
 /// # Errors
 /// `Memory` if an allocation fails.
-pub fn find_rules(alloc: Global, lines: &[TextLine<'_>]) -> Result<Vec<Found>, Memory>
+pub fn find_rules(alloc: Global, lines: &[TextLine<'_>]) -> Result<Vec<RuleSearch>, Memory>
     ensures { IfOk result (λ found. AreFound 0 (map numbered lines.now) found.items) }
 {
     let mut found = Vec::new(alloc);
@@ -56,9 +56,9 @@ pub fn find_rules(alloc: Global, lines: &[TextLine<'_>]) -> Result<Vec<Found>, M
 /// Says that at most one list is found among lines, from a position on. It has one entry for each line that begins a
 /// rule, in their order.
 pub fn one_finding()
-    ensures one { (i : ℕ) (lines : List NumberedLine) (a b : List Found) → AreFound i lines a → AreFound i lines b
+    ensures one { (i : ℕ) (lines : List NumberedLine) (a b : List RuleSearch) → AreFound i lines a → AreFound i lines b
         → a ≡ b }
-    ensures each { (i : ℕ) (lines : List NumberedLine) (found : List Found) → AreFound i lines found
+    ensures each { (i : ℕ) (lines : List NumberedLine) (found : List RuleSearch) → AreFound i lines found
         → map found_line found ≡ rule_starts i lines }
 {
     one_reading();

@@ -9,7 +9,7 @@ mod rfctext;
 mod rule;
 mod rule_line;
 
-pub use found::{Found, find_rules, one_finding};
+pub use found::{RuleSearch, find_rules, one_finding};
 pub use rfctext::{
     LineKind, TextLine, is_blank, one_masking, read_lines, source_text, without_mark,
 };

@@ -6,7 +6,7 @@ ghost use Rattle.abnfblocks.specs.RuleEnds.{IsCutLimit, line_bound};
 ghost use Rattle.abnfblocks.specs.FoundRules.{IsAbnf, IsFoundOf, IsShorter};
 
 use crate::ends::may_end;
-use crate::found::Found;
+use crate::found::RuleSearch;
 use crate::reading::fault_of;
 use crate::rfctext::TextLine;
 use crate::rule::{full_size, is_cut};
@@ -81,7 +81,11 @@ fn shorter_cut(
 ///
 /// # Errors
 /// `Memory` if an allocation fails.
-pub(crate) fn look_at(alloc: Global, first: usize, rule: &[TextLine<'_>]) -> Result<Found, Memory>
+pub(crate) fn look_at(
+    alloc: Global,
+    first: usize,
+    rule: &[TextLine<'_>],
+) -> Result<RuleSearch, Memory>
     requires { 0 < length rule.now }
     ensures { IfOk result (λ found. IsFoundOf first (map numbered rule.now) found) }
 {
@@ -90,7 +94,7 @@ pub(crate) fn look_at(alloc: Global, first: usize, rule: &[TextLine<'_>]) -> Res
     let longest = full_size(rule);
     let outcome = fault_of(alloc, margin_size, &rule[..longest])?;
     match outcome {
-        None => Ok(Found::Rule {
+        None => Ok(RuleSearch::Rule {
             first,
             count: longest,
         }),
@@ -98,9 +102,9 @@ pub(crate) fn look_at(alloc: Global, first: usize, rule: &[TextLine<'_>]) -> Res
             let limit = fault_line(fault, longest);
             let count = shorter_cut(alloc, margin_size, rule, limit)?;
             if count > 0 {
-                return Ok(Found::Rule { first, count });
+                return Ok(RuleSearch::Rule { first, count });
             }
-            Ok(Found::NotAbnf {
+            Ok(RuleSearch::NotAbnf {
                 first,
                 count: longest,
                 fault,

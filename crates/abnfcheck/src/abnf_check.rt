@@ -119,7 +119,7 @@ pub fn judge_abnf(alloc: Global, abnf: Abnf, rule: Option<&str>) -> Result<Judge
 
 /// The notes on a grammar with their consequences.
 #[derive(Drop)]
-struct Found {
+struct Findings {
     /// The notes, in order.
     notes: Vec<Note>,
     /// Whether one of them rejects the grammar.
@@ -136,7 +136,7 @@ fn found_in(
     redefined: &[usize],
     extended: &[usize],
     rule: Option<&str>,
-) -> Result<Found, Memory>
+) -> Result<Findings, Memory>
     requires folds { rules.now.names ≡ NameCase.Fold }
     requires count { count ≤ length rules.now.rules }
     ensures notes { IfOk result (λ found. (file : List Rule) (more : List (List ℕ)) → length file ≡ count
@@ -154,7 +154,7 @@ fn found_in(
     let marks = note_marks(alloc, count, redefined, extended, &ids, &prose)?;
     let notes = notes_on(alloc, rules, &ids.names, &marks)?;
     let refused = is_refused(alloc, &ids, &prose, &marks.redefined)?;
-    Ok(Found {
+    Ok(Findings {
         notes,
         refused,
         judged: ids.judged,

@@ -2,8 +2,8 @@
 use Rattle.std.specs.Prelude.{◌≡◌, ℕ, List, [], ◌++◌, Option, codes}
 use Rattle.abnfd.specs.CompareWords.{new_rule_asked, old_rule_asked, symbols_asked}
 use Rattle.abnfd.specs.ComparedTexts.{AreCompared}
-use Rattle.abnfd.specs.declared.files.Unread.{Unread}
-use Rattle.abnfd.specs.declared.files.Unread.TheVariants.{New, NoMemory, Old}
+use Rattle.abnfd.specs.declared.files.UnreadFile.{UnreadFile}
+use Rattle.abnfd.specs.declared.files.UnreadFile.TheVariants.{New, NoMemory, Old}
 use Rattle.clap.specs.Words.{Row}
 use Rattle.letters.specs.declared.alphabet.Alphabet.{Alphabet}
 use Rattle.toolrun.specs.Input.{Input}
@@ -25,13 +25,13 @@ abbrev pub IsWholeReport : List ℕ → List ℕ → Status → Input → List �
 IsWholeReport told text status input notes reply = (notes ≡ told) × (reply ≡ answer_reply text status)
 
 -- the report where the text of a grammar is not had
-abbrev pub missing_text : Unread → List ℕ
+abbrev pub missing_text : UnreadFile → List ℕ
 missing_text Old = codes "old: " ++ message_of stop.Unreadable
 missing_text New = codes "new: " ++ message_of stop.Unreadable
 missing_text NoMemory = []
 
 -- how the program stops then
-abbrev pub missing_stop : Unread → Stop
+abbrev pub missing_stop : UnreadFile → Stop
 missing_stop Old = stop.Quiet Fault
 missing_stop New = stop.Quiet Fault
 missing_stop NoMemory = stop.NoMemory
@@ -43,7 +43,7 @@ pub data FilesCompared (alphabet : Alphabet) (old_rule new_rule : Option (List �
   compares : {old new told text : List ℕ} {status : Status}
       → AreCompared alphabet old_rule new_rule old new told text status
       → FilesCompared alphabet old_rule new_rule input told (answer_reply text status)
-  unread : (why : Unread) → FilesCompared alphabet old_rule new_rule input (missing_text why)
+  unread : (why : UnreadFile) → FilesCompared alphabet old_rule new_rule input (missing_text why)
       (stopped (missing_stop why))
   no_memory : FilesCompared alphabet old_rule new_rule input [] (stopped stop.NoMemory)
 

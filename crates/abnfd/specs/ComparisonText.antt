@@ -1,8 +1,8 @@
 -- What the program writes of a comparison, and its status.
 use Rattle.std.specs.Prelude.{ℕ, List, ◌++◌, codes, decimal}
 use Rattle.abnfd.specs.QuotedLines.{quoted_line}
-use Rattle.abnfd.specs.declared.answer.Verdict.{Verdict}
-use Rattle.abnfd.specs.declared.answer.Verdict.TheVariants.{Same, Differ, NotKnown}
+use Rattle.abnfd.specs.declared.answer.LinesVerdict.{LinesVerdict}
+use Rattle.abnfd.specs.declared.answer.LinesVerdict.TheVariants.{Same, Differ, NotKnown}
 use Rattle.letters.specs.declared.alphabet.Alphabet.{Alphabet}
 use Rattle.rulepairs.specs.declared.alone.Alone.{Alone}
 use Rattle.rulepairs.specs.declared.alone.Alone.TheVariants.{First, Never, NeverUpTo, Unknown}
@@ -12,7 +12,7 @@ use Rattle.toolrun.specs.declared.status.Status.TheVariants.{Done, NoMatch, Over
 
 -- What is known of two rules, from what is known of the lines that each alone derives: one derives such a line, or
 -- neither does.
-abbrev pub verdict_between : Alone → Alone → Verdict
+abbrev pub verdict_between : Alone → Alone → LinesVerdict
 verdict_between (First w) other = Differ
 verdict_between Never (First w) = Differ
 verdict_between Never Never = Same
@@ -28,7 +28,7 @@ verdict_between Unknown (NeverUpTo n) = NotKnown
 verdict_between Unknown Unknown = NotKnown
 
 -- 0 where both rules derive the same lines, 1 where they do not, 3 where that is not known
-abbrev pub verdict_status : Verdict → Status
+abbrev pub verdict_status : LinesVerdict → Status
 verdict_status Same = Done
 verdict_status Differ = NoMatch
 verdict_status NotKnown = Overlong
@@ -45,7 +45,7 @@ abbrev pub sides_text : Alphabet → Comparison → List ℕ
 sides_text alphabet found = codes "< " ++ (alone_text alphabet found.old_alone ++ (codes "\n> "
     ++ (alone_text alphabet found.new_alone ++ codes "\n")))
 
-abbrev pub text_for : Verdict → Alphabet → Comparison → List ℕ
+abbrev pub text_for : LinesVerdict → Alphabet → Comparison → List ℕ
 text_for Same alphabet found = codes "same\n"
 text_for Differ alphabet found = codes "differ\n" ++ sides_text alphabet found
 text_for NotKnown alphabet found = codes "not known\n" ++ sides_text alphabet found

@@ -13,7 +13,7 @@ use toolrun::Status;
 
 /// What is known of two rules.
 #[derive(Clone, Copy)]
-pub(crate) enum Verdict {
+pub(crate) enum LinesVerdict {
     /// They derive the same lines.
     Same,
     /// One derives a line that the other does not.
@@ -23,19 +23,19 @@ pub(crate) enum Verdict {
 }
 
 // Returns what is known of two rules.
-fn verdict_of(found: &Comparison) -> Verdict
+fn verdict_of(found: &Comparison) -> LinesVerdict
     ensures { result ≡ verdict_between found.now.old_alone found.now.new_alone }
 {
     match &found.old_alone {
-        Alone::First(_) => Verdict::Differ,
+        Alone::First(_) => LinesVerdict::Differ,
         Alone::Never => match &found.new_alone {
-            Alone::First(_) => Verdict::Differ,
-            Alone::Never => Verdict::Same,
-            _ => Verdict::NotKnown,
+            Alone::First(_) => LinesVerdict::Differ,
+            Alone::Never => LinesVerdict::Same,
+            _ => LinesVerdict::NotKnown,
         },
         _ => match &found.new_alone {
-            Alone::First(_) => Verdict::Differ,
-            _ => Verdict::NotKnown,
+            Alone::First(_) => LinesVerdict::Differ,
+            _ => LinesVerdict::NotKnown,
         },
     }
 }
@@ -46,9 +46,9 @@ pub(crate) fn comparison_status(found: &Comparison) -> Status
     ensures { result ≡ the_status (verdict_between found.now.old_alone found.now.new_alone) }
 {
     match verdict_of(found) {
-        Verdict::Same => Status::Done,
-        Verdict::Differ => Status::NoMatch,
-        Verdict::NotKnown => Status::Overlong,
+        LinesVerdict::Same => Status::Done,
+        LinesVerdict::Differ => Status::NoMatch,
+        LinesVerdict::NotKnown => Status::Overlong,
     }
 }
 
@@ -92,15 +92,15 @@ fn push_comparison(alphabet: Alphabet, found: &Comparison, out: &mut Vec<u8>) ->
     ensures { OnOk result (out.new.items ≡ out.old.items ++ the_text alphabet found.now) }
 {
     match verdict_of(found) {
-        Verdict::Same => {
+        LinesVerdict::Same => {
             out.extend_from_slice(b"same\n")?;
             Ok(())
         }
-        Verdict::Differ => {
+        LinesVerdict::Differ => {
             out.extend_from_slice(b"differ\n")?;
             push_sides(alphabet, found, out)
         }
-        Verdict::NotKnown => {
+        LinesVerdict::NotKnown => {
             out.extend_from_slice(b"not known\n")?;
             push_sides(alphabet, found, out)
         }

@@ -5,7 +5,7 @@ ghost use Rattle.abnfd.specs.CompareWords.{plain_app, symbols_named, symbols_rul
 ghost use Rattle.clap.specs.Words.{app_of, first_value, found_of, rule_of};
 ghost use Rattle.cli.specs.Parsing.{Parses};
 
-use crate::compared::Settings;
+use crate::compared::CompareSettings;
 use clap::{Arg, ArgAction, ArgMatches, Command, Error, value_parser};
 use cli::{add_option, program_command};
 use letters::Alphabet;
@@ -138,13 +138,13 @@ fn new_rule_of<'a>(matches: &ArgMatches<'a>) -> Option<&'a str>
 }
 
 /// Returns how the words ask to compare.
-pub(crate) fn settings_of<'a>(matches: &ArgMatches<'a>) -> Settings<'a>
+pub(crate) fn settings_of<'a>(matches: &ArgMatches<'a>) -> CompareSettings<'a>
     ensures old_rule { option_copied result.old_rule ≡ first_value (found_of matches.now) (codes "rule") }
     ensures new_rule { option_copied result.new_rule ≡ new_rule_found (first_value (found_of matches.now)
         (codes "new-rule")) (first_value (found_of matches.now) (codes "rule")) }
     ensures letters { result.letters ≡ symbols_named (first_value (found_of matches.now) (codes "letters")) }
 {
-    Settings {
+    CompareSettings {
         old_rule: matches.get_str("rule"),
         new_rule: new_rule_of(matches),
         letters: letters_of(matches),

@@ -13,7 +13,7 @@ use toolrun::Status;
 
 /// How grammars are compared.
 #[derive(Clone, Copy)]
-pub(crate) struct Settings<'a> {
+pub(crate) struct CompareSettings<'a> {
     /// The compared rule of the old grammar; its first rule if there is no name.
     pub(crate) old_rule: Option<&'a str>,
     /// The compared rule of the new grammar; its first rule if there is no name.
@@ -26,7 +26,7 @@ pub(crate) struct Settings<'a> {
 
 /// The answer to a comparison: what is written on the output, and the status.
 #[derive(Drop)]
-pub(crate) struct Answer {
+pub(crate) struct ComparisonAnswer {
     /// The text.
     pub(crate) text: Vec<u8>,
     /// The status.
@@ -39,32 +39,32 @@ pub(crate) struct Report {
     /// The messages on both grammars.
     pub(crate) told: Vec<u8>,
     /// The answer.
-    pub(crate) answer: Answer,
+    pub(crate) answer: ComparisonAnswer,
 }
 
 // Compares two grammars. `Memory` if an allocation fails.
 fn compared(
     alloc: Global,
-    settings: &Settings<'_>,
+    settings: &CompareSettings<'_>,
     old: &SoundAbnf,
     new: &SoundAbnf,
-) -> Result<Answer, Memory>
+) -> Result<ComparisonAnswer, Memory>
     ensures { IfOk result (λ a. IsVerdictOn settings.now.letters (Some old.now) (Some new.now) a.text.items a.status) }
 {
     let found = compare(alloc, settings.letters, old, new, settings.budget)?;
     let text = comparison_text(alloc, settings.letters, &found)?;
-    Ok(Answer {
+    Ok(ComparisonAnswer {
         text,
         status: comparison_status(&found),
     })
 }
 
 // Answers where a grammar is rejected: nothing is written.
-fn rejected(alloc: Global) -> Answer
+fn rejected(alloc: Global) -> ComparisonAnswer
     ensures text { result.text.items ≡ [] }
     ensures status { result.status ≡ Status.Refused }
 {
-    Answer {
+    ComparisonAnswer {
         text: Vec::new(alloc),
         status: Status::Refused,
     }
@@ -73,10 +73,10 @@ fn rejected(alloc: Global) -> Answer
 // Answers for two grammars: they are compared, unless one is rejected. `Memory` if an allocation fails.
 fn answer_to(
     alloc: Global,
-    settings: &Settings<'_>,
+    settings: &CompareSettings<'_>,
     old: &Side,
     new: &Side,
-) -> Result<Answer, Memory>
+) -> Result<ComparisonAnswer, Memory>
     ensures { IfOk result (λ a. IsVerdictOn settings.now.letters old.now.grammar new.now.grammar a.text.items
         a.status) }
 {
@@ -102,7 +102,7 @@ fn both_told(alloc: Global, old: &[u8], new: &[u8]) -> Result<Vec<u8>, Memory>
 // Reports on two grammars. `Memory` if an allocation fails.
 fn report_on(
     alloc: Global,
-    settings: &Settings<'_>,
+    settings: &CompareSettings<'_>,
     old: &Side,
     new: &Side,
 ) -> Result<Report, Memory>
@@ -117,7 +117,7 @@ fn report_on(
 // Compares an old grammar with the text of a new one. `Memory` if an allocation fails.
 fn compare_with(
     alloc: Global,
-    settings: &Settings<'_>,
+    settings: &CompareSettings<'_>,
     old: &Side,
     new: &[u8],
 ) -> Result<Report, Memory>
@@ -132,7 +132,7 @@ fn compare_with(
 /// alone derives, unless a grammar is rejected. `Memory` if an allocation fails.
 pub(crate) fn compare_texts(
     alloc: Global,
-    settings: &Settings<'_>,
+    settings: &CompareSettings<'_>,
     old: &[u8],
     new: &[u8],
 ) -> Result<Report, Memory>

@@ -14,7 +14,7 @@ pub(crate) struct Texts {
 
 /// Why the texts of two grammars are not had.
 #[derive(Clone, Copy)]
-pub(crate) enum Unread {
+pub(crate) enum UnreadFile {
     /// The file of the old grammar cannot be read.
     Old,
     /// The file of the new grammar cannot be read.
@@ -24,10 +24,14 @@ pub(crate) enum Unread {
 }
 
 // Reads the file of a grammar. `why` is the error if it cannot be read.
-fn read_text<R: Files + AllocGlobal>(rt: &R, path: &str, why: Unread) -> Result<Vec<u8>, Unread> {
+fn read_text<R: Files + AllocGlobal>(
+    rt: &R,
+    path: &str,
+    why: UnreadFile,
+) -> Result<Vec<u8>, UnreadFile> {
     match read_grammar(rt, path) {
         Ok(text) => Ok(text),
-        Err(fault) if fault.kind() == ErrorKind::OutOfMemory => Err(Unread::NoMemory),
+        Err(fault) if fault.kind() == ErrorKind::OutOfMemory => Err(UnreadFile::NoMemory),
         Err(_) => Err(why),
     }
 }
@@ -37,9 +41,9 @@ pub(crate) fn read_both<R: Files + AllocGlobal>(
     rt: &R,
     old: &str,
     new: &str,
-) -> Result<Texts, Unread> {
+) -> Result<Texts, UnreadFile> {
     Ok(Texts {
-        old: read_text(rt, old, Unread::Old)?,
-        new: read_text(rt, new, Unread::New)?,
+        old: read_text(rt, old, UnreadFile::Old)?,
+        new: read_text(rt, new, UnreadFile::New)?,
     })
 }

@@ -12,8 +12,8 @@ ghost use Rattle.toolrun.specs.Stopped.{Performs};
 ghost use Rattle.toolrun.specs.Stream.{no_input, passed};
 
 use crate::command::{parse_words, settings_of};
-use crate::compared::{Answer, Report, Settings, compare_texts};
-use crate::files::{Texts, Unread, read_both};
+use crate::compared::{CompareSettings, ComparisonAnswer, Report, compare_texts};
+use crate::files::{Texts, UnreadFile, read_both};
 use clap::ArgMatches;
 use cli::{Unready, end_unready};
 use ruletable::{Sink, WriteFault, write_whole};
@@ -22,7 +22,7 @@ use std::rt::Files;
 use toolrun::{Status, Stop, close_run, end_run};
 
 // Writes an answer.
-fn write_answer<O: Sink>(answer: &Answer, out: &mut O) -> Result<Stop, WriteFault>
+fn write_answer<O: Sink>(answer: &ComparisonAnswer, out: &mut O) -> Result<Stop, WriteFault>
     requires { O.failed out.old ≡ false }
     ensures { Performs (λ input reply. reply ≡ answer_reply answer.now.text.items answer.now.status) no_input
         (passed O.contents O.failed out.old out.new) result }
@@ -62,23 +62,23 @@ fn end_missing<O: Sink, E: Sink>(told: &[u8], out: &mut O, err: &mut E) -> Statu
 }
 
 // Ends a program that has not both texts.
-fn end_unread<O: Sink, E: Sink>(why: Unread, out: &mut O, err: &mut E) -> Status
+fn end_unread<O: Sink, E: Sink>(why: UnreadFile, out: &mut O, err: &mut E) -> Status
     requires out_is_fresh { O.failed out.old ≡ false }
     requires err_is_fresh { E.failed err.old ≡ false }
     ensures right { Comes (IsToldAnd (missing_text why) (missing_stop why)) no_input
         (passed O.contents O.failed out.old out.new) (passed E.contents E.failed err.old err.new) (code_of result) }
 {
     match why {
-        Unread::Old => end_missing(b"old: cannot read the grammar\n", out, err),
-        Unread::New => end_missing(b"new: cannot read the grammar\n", out, err),
-        Unread::NoMemory => end_run(Ok(Stop::NoMemory), out, err),
+        UnreadFile::Old => end_missing(b"old: cannot read the grammar\n", out, err),
+        UnreadFile::New => end_missing(b"new: cannot read the grammar\n", out, err),
+        UnreadFile::NoMemory => end_run(Ok(Stop::NoMemory), out, err),
     }
 }
 
 // Compares the texts of two grammars.
 fn compare_read<O: Sink, E: Sink>(
     alloc: Global,
-    settings: &Settings<'_>,
+    settings: &CompareSettings<'_>,
     texts: &Texts,
     out: &mut O,
     err: &mut E,

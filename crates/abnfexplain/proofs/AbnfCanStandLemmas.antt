@@ -21,7 +21,7 @@ use Rattle.abnfread.specs.MarkedTokens.{Marked, marked}
 use Rattle.abnfread.specs.Numerals.{says_between, says_values, says_range, last_number}
 use Rattle.abnfread.proofs.AbnfViabilityLemmas.{runs-begins, stops-begins}
 use Rattle.abnfread.proofs.SaysKindLemmas.{one-word}
-use Rattle.abnfexplain.specs.declared.abnf_stand.Bracket.{Bracket}
+use Rattle.abnfexplain.specs.declared.abnf_stand.OpenBracket.{OpenBracket}
 use Rattle.abnfexplain.specs.declared.abnf_stand.Form.{Form}
 use Rattle.abnfexplain.specs.declared.abnf_stand.Place.{Place}
 use Rattle.abnfexplain.specs.declared.abnf_stand.Stand.{Stand}
@@ -80,11 +80,11 @@ said-kind (says_num (says_range a e b c)) = refl
 said-kind (says_prose e) = refl
 said-kind says_end = refl
 
-read-bad : (top : Option Bracket) (g : Bool) → allows_read top kinds.Bad g ≡ false
+read-bad : (top : Option OpenBracket) (g : Bool) → allows_read top kinds.Bad g ≡ false
 read-bad top true = refl
 read-bad top false = refl
 
-later-bad : (s : Stand) (top : Option Bracket) (g : Bool) → allows_later s top kinds.Bad g ≡ false
+later-bad : (s : Stand) (top : Option OpenBracket) (g : Bool) → allows_later s top kinds.Bad g ≡ false
 later-bad stands.Start top g = refl
 later-bad stands.Named top g = refl
 later-bad stands.Fresh top g = refl
@@ -93,7 +93,7 @@ later-bad stands.Awaits top false = refl
 later-bad stands.Read top g = read-bad top g
 later-bad stands.Done top g = refl
 
-first-bad : (s : Stand) (top : Option Bracket) → allows_first s top kinds.Bad ≡ false
+first-bad : (s : Stand) (top : Option OpenBracket) → allows_first s top kinds.Bad ≡ false
 first-bad stands.Start top = refl
 first-bad stands.Named top = refl
 first-bad stands.Fresh top = refl
@@ -103,7 +103,7 @@ first-bad stands.Read (Some b) = refl
 first-bad stands.Done top = refl
 
 -- what begins no token stands nowhere
-pub bad-nowhere : (s : Stand) (top : Option Bracket) (g f : Bool) → allows_marked s top kinds.Bad g f ≡ false
+pub bad-nowhere : (s : Stand) (top : Option OpenBracket) (g f : Bool) → allows_marked s top kinds.Bad g f ≡ false
 bad-nowhere s top g true = first-bad s top
 bad-nowhere s top g false = later-bad s top g
 
@@ -120,7 +120,7 @@ there-onward : (c : Config) (g f : Bool) (s : Said) (b : Bool) (x : Option Confi
 there-onward c g f s b None e h t = absurd (let no : true ≡ false = sym t ∙ h in cc)
 there-onward c g f s b (Some d) e h t = record { config = d; steps = e; stand = h.1; brackets = h.2 }
 
-none-there : (b : Bool) (s : Stand) (bs : List Bracket) (x : Option Config) → Comes b s bs x → b ≡ false → x ≡ None
+none-there : (b : Bool) (s : Stand) (bs : List OpenBracket) (x : Option Config) → Comes b s bs x → b ≡ false → x ≡ None
 none-there b s bs None h e = refl
 none-there b s bs (Some d) h e = absurd (let no : true ≡ false = sym h.0 ∙ e in cc)
 

@@ -9,8 +9,8 @@ use Rattle.abnfread.specs.AbnfMachine.{read_step, first_step, later_step, step}
 use Rattle.abnfread.specs.AbnfWords.{Said, word, Name, Is, Adds, Slash, LParen, RParen, LBrack, RBrack, Repeat, Text}
 use Rattle.abnfread.specs.AbnfWords.{Values, Range, Prose, End}
 use Rattle.abnfread.specs.Element.{Elements}
-use Rattle.abnfexplain.specs.declared.abnf_stand.Bracket.{Bracket}
-use Rattle.abnfexplain.specs.declared.abnf_stand.Bracket.TheVariants as brackets
+use Rattle.abnfexplain.specs.declared.abnf_stand.OpenBracket.{OpenBracket}
+use Rattle.abnfexplain.specs.declared.abnf_stand.OpenBracket.TheVariants as brackets
 use Rattle.abnfexplain.specs.declared.abnf_stand.Stand.{Stand}
 use Rattle.abnfexplain.specs.declared.abnf_stand.Stand.TheVariants as stands
 use Rattle.abnfexplain.specs.AbnfStands.{allows_marked, allows_first, allows_later, allows_read, is_inner, is_item}
@@ -42,13 +42,13 @@ stand_of (body h o bs es (awaits a b)) = stands.Awaits
 stand_of (body h o bs es read) = stands.Read
 stand_of (done ds) = stands.Done
 
-abbrev pub open_in : List Level → List Bracket
+abbrev pub open_in : List Level → List OpenBracket
 open_in [] = []
 open_in (level bs es t paren ∷ o) = brackets.Paren ∷ open_in o
 open_in (level bs es t brack ∷ o) = brackets.Brack ∷ open_in o
 
 -- the brackets that are open in it, the innermost first
-abbrev pub open_of : Config → List Bracket
+abbrev pub open_of : Config → List OpenBracket
 open_of start = []
 open_of (named ds n p) = []
 open_of (body h o bs es l) = open_in o
@@ -66,11 +66,11 @@ open-count (body h o bs es l) = open-levels o
 open-count (done ds) = refl
 
 -- the machine's step is there where the test passes, and comes to that place
-abbrev pub Comes : Bool → Stand → List Bracket → Option Config → Type 0
+abbrev pub Comes : Bool → Stand → List OpenBracket → Option Config → Type 0
 Comes b s bs None = b ≡ false
 Comes b s bs (Some d) = (b ≡ true) × (stand_of d ≡ s) × (open_of d ≡ bs)
 
-abbrev Later : Bool → Said → List Bracket → Option Config → Type 0
+abbrev Later : Bool → Said → List OpenBracket → Option Config → Type 0
 Later b s bs x = Comes b (behind_later (kind_said s)) (brackets_behind (kind_said s) bs) x
 
 element-comes : (h : Head) (o : List Level) (bs es : Elements) (t : Times) (s : Said)

@@ -6,27 +6,28 @@ use Rattle.std.proofs.Common.{refl, sym, ap, ◌∙◌, arith, length-append}
 use Rattle.std.proofs.Math.Seq.{get_or-append_seam}
 use Rattle.std.proofs.lemmas.List.{reverse-append}
 use Rattle.std.proofs.lemmas.Option.{slice_get-get_or}
-use Rattle.abnfexplain.specs.declared.abnf_stand.Bracket.{Bracket}
+use Rattle.abnfexplain.specs.declared.abnf_stand.OpenBracket.{OpenBracket}
 use Rattle.abnfexplain.specs.AbnfStands.{innermost}
 
-record EndsWith (xs : List Bracket) : Type 0 where
-  front : List Bracket
-  last : Bracket
+record EndsWith (xs : List OpenBracket) : Type 0 where
+  front : List OpenBracket
+  last : OpenBracket
   whole : xs ≡ front ++ last ∷ []
 
-empty-or_ends : (xs : List Bracket) → (xs ≡ []) ⊎ EndsWith xs
+empty-or_ends : (xs : List OpenBracket) → (xs ≡ []) ⊎ EndsWith xs
 empty-or_ends [] = inl refl
 empty-or_ends (x ∷ xs) = inr (behind x (empty-or_ends xs))
   where
-    behind : {ys : List Bracket} (y : Bracket) → (ys ≡ []) ⊎ EndsWith ys → EndsWith (y ∷ ys)
-    behind y (inl e) = record { front = []; last = y; whole = ap (λ (t : List Bracket). y ∷ t) e }
+    behind : {ys : List OpenBracket} (y : OpenBracket) → (ys ≡ []) ⊎ EndsWith ys → EndsWith (y ∷ ys)
+    behind y (inl e) = record { front = []; last = y; whole = ap (λ (t : List OpenBracket). y ∷ t) e }
     behind y (inr h) = record {
       front = y ∷ h.front;
       last = h.last;
-      whole = ap (λ (t : List Bracket). y ∷ t) h.whole;
+      whole = ap (λ (t : List OpenBracket). y ∷ t) h.whole;
     }
 
-last-there : (front : List Bracket) (last : Bracket) → slice_get (front ++ last ∷ []) (length (front ++ last ∷ []) - 1)
+last-there : (front : List OpenBracket) (last : OpenBracket)
+    → slice_get (front ++ last ∷ []) (length (front ++ last ∷ []) - 1)
     ≡ Some last
 last-there front last =
     let size : length (front ++ last ∷ []) - 1 ≡ length front = omega (arith, length-append front (last ∷ [])) in
@@ -34,7 +35,7 @@ last-there front last =
     ∙ slice_get-get_or (front ++ last ∷ []) (length front) last (omega (arith, length-append front (last ∷ [])))
     ∙ ap Some (get_or-append_seam front last [] last)
 
-pub innermost-last : (xs : List Bracket) → innermost (reverse xs) ≡ slice_get xs (length xs - 1)
+pub innermost-last : (xs : List OpenBracket) → innermost (reverse xs) ≡ slice_get xs (length xs - 1)
 innermost-last xs = by-end (empty-or_ends xs)
   where
     by-end : (xs ≡ []) ⊎ EndsWith xs → innermost (reverse xs) ≡ slice_get xs (length xs - 1)

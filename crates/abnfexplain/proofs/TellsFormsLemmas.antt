@@ -15,8 +15,8 @@ use Rattle.abnfread.specs.AbnfSpelling.{Begins}
 use Rattle.abnfread.specs.AbnfWords.{Word}
 use Rattle.abnfread.specs.MarkedTokens.{Marked}
 use Rattle.abnfread.proofs.AbnfViabilityLemmas.{stops-begins}
-use Rattle.abnfexplain.specs.declared.abnf_stand.Bracket.{Bracket}
-use Rattle.abnfexplain.specs.declared.abnf_stand.Bracket.TheVariants.{Paren, Brack}
+use Rattle.abnfexplain.specs.declared.abnf_stand.OpenBracket.{OpenBracket}
+use Rattle.abnfexplain.specs.declared.abnf_stand.OpenBracket.TheVariants.{Paren, Brack}
 use Rattle.abnfexplain.specs.declared.abnf_stand.Form.{Form}
 use Rattle.abnfexplain.specs.declared.abnf_stand.Stand.{Stand}
 use Rattle.abnfexplain.specs.declared.abnf_stand.Stand.TheVariants as stands
@@ -36,14 +36,14 @@ item_place kinds.LBrack = 5
 item_place kinds.Repeat = 6
 item_place _ = 0
 
-abbrev MeantAt : Stand → Option Bracket → Form → Type 0
+abbrev MeantAt : Stand → Option OpenBracket → Form → Type 0
 MeantAt s top form = IsMeant (allows s top) phrases form
 
 abbrev first_name : Bool → Form
 first_name g = record { kind = kinds.Name; gap = g; first = true }
 
 -- the first token of a line that begins a rule
-name-meant : (s : Stand) (top : Option Bracket) (g : Bool) → allows_first s top kinds.Name ≡ true
+name-meant : (s : Stand) (top : Option OpenBracket) (g : Bool) → allows_first s top kinds.Name ≡ true
     → MeantAt s top (first_name g)
 name-meant stands.Start top true e = means-at _ phrases (first_name true) 8 0 refl refl refl refl refl
 name-meant stands.Start top false e = means-at _ phrases (first_name false) 8 1 refl refl refl refl refl
@@ -51,17 +51,17 @@ name-meant stands.Read None true e = means-at _ phrases (first_name true) 8 0 re
 name-meant stands.Read None false e = means-at _ phrases (first_name false) 8 1 refl refl refl refl refl
 name-meant s top g e = let no : false ≡ true = e in cc
 
-is-name : (s : Stand) (top : Option Bracket) (k : AbnfKind) → allows_first s top k ≡ true → is_name k ≡ true
+is-name : (s : Stand) (top : Option OpenBracket) (k : AbnfKind) → allows_first s top k ≡ true → is_name k ≡ true
 is-name stands.Start top k e = e
 is-name stands.Read None k e = e
 is-name s top k e = let no : false ≡ true = e in cc
 
-first-meant : (s : Stand) (top : Option Bracket) (k : AbnfKind) (g : Bool) → allows_first s top k ≡ true
+first-meant : (s : Stand) (top : Option OpenBracket) (k : AbnfKind) (g : Bool) → allows_first s top k ≡ true
     → MeantAt s top (record { kind = k; gap = g; first = true })
 first-meant s top kinds.Name g e = name-meant s top g e
 first-meant s top k g e = let no : false ≡ true = is-name s top k e in cc
 
-named-meant : (top : Option Bracket) (k : AbnfKind) (g : Bool) → defines k ≡ true
+named-meant : (top : Option OpenBracket) (k : AbnfKind) (g : Bool) → defines k ≡ true
     → MeantAt stands.Named top (later g k)
 named-meant top kinds.Is true e = means-at _ phrases (later true kinds.Is) 3 0 refl refl refl refl refl
 named-meant top kinds.Is false e = means-at _ phrases (later false kinds.Is) 3 1 refl refl refl refl refl
@@ -69,7 +69,8 @@ named-meant top kinds.Adds true e = means-at _ phrases (later true kinds.Adds) 4
 named-meant top kinds.Adds false e = means-at _ phrases (later false kinds.Adds) 4 1 refl refl refl refl refl
 named-meant top k g e = let no : false ≡ true = e in cc
 
-fresh-meant : (top : Option Bracket) (k : AbnfKind) (g : Bool) → is_item k ≡ true → MeantAt stands.Fresh top (later g k)
+fresh-meant : (top : Option OpenBracket) (k : AbnfKind) (g : Bool) → is_item k ≡ true
+    → MeantAt stands.Fresh top (later g k)
 fresh-meant top kinds.Is g e = let no : false ≡ true = e in cc
 fresh-meant top kinds.Adds g e = let no : false ≡ true = e in cc
 fresh-meant top kinds.Slash g e = let no : false ≡ true = e in cc
@@ -80,7 +81,7 @@ fresh-meant top kinds.End g e = let no : false ≡ true = e in cc
 fresh-meant top k true e = means-at _ phrases (later true k) 0 (item_place k) refl refl refl refl refl
 fresh-meant top k false e = means-at _ phrases (later false k) 0 (7 + item_place k) refl refl refl refl refl
 
-awaits-meant : (top : Option Bracket) (k : AbnfKind) → is_inner k ≡ true → MeantAt stands.Awaits top (later false k)
+awaits-meant : (top : Option OpenBracket) (k : AbnfKind) → is_inner k ≡ true → MeantAt stands.Awaits top (later false k)
 awaits-meant top kinds.Is e = let no : false ≡ true = e in cc
 awaits-meant top kinds.Adds e = let no : false ≡ true = e in cc
 awaits-meant top kinds.Slash e = let no : false ≡ true = e in cc
@@ -91,7 +92,7 @@ awaits-meant top kinds.Bad e = let no : false ≡ true = e in cc
 awaits-meant top kinds.End e = let no : false ≡ true = e in cc
 awaits-meant top k e = means-at _ phrases (later false k) 2 (item_place k) refl refl refl refl refl
 
-read-meant : (top : Option Bracket) (k : AbnfKind) (g : Bool) → allows_read top k g ≡ true
+read-meant : (top : Option OpenBracket) (k : AbnfKind) (g : Bool) → allows_read top k g ≡ true
     → MeantAt stands.Read top (later g k)
 read-meant top kinds.Slash true e = means-at _ phrases (later true kinds.Slash) 5 0 refl refl refl refl refl
 read-meant top kinds.Slash false e = means-at _ phrases (later false kinds.Slash) 5 1 refl refl refl refl refl
@@ -114,7 +115,7 @@ read-meant top kinds.Bad true e = let no : false ≡ true = e in cc
 read-meant top k true e = means-at _ phrases (later true k) 1 (item_place k) refl refl refl refl refl
 read-meant top k false e = let no : false ≡ true = e in cc
 
-later-meant : (s : Stand) (top : Option Bracket) (k : AbnfKind) (g : Bool) → allows_marked s top k g false ≡ true
+later-meant : (s : Stand) (top : Option OpenBracket) (k : AbnfKind) (g : Bool) → allows_marked s top k g false ≡ true
     → MeantAt s top (later g k)
 later-meant stands.Named top k g e = named-meant top k g e
 later-meant stands.Fresh top k g e = fresh-meant top k g e
@@ -124,7 +125,7 @@ later-meant stands.Read top k g e = read-meant top k g e
 later-meant stands.Start top k g e = let no : false ≡ true = e in cc
 later-meant stands.Done top k g e = let no : false ≡ true = e in cc
 
-form-meant : (s : Stand) (top : Option Bracket) (k : AbnfKind) (g f : Bool) → allows_marked s top k g f ≡ true
+form-meant : (s : Stand) (top : Option OpenBracket) (k : AbnfKind) (g f : Bool) → allows_marked s top k g f ≡ true
     → MeantAt s top (record { kind = k; gap = g; first = f })
 form-meant s top k g true e = first-meant s top k g e
 form-meant s top k g false e = later-meant s top k g e

@@ -13,15 +13,15 @@ use Rattle.abnfread.specs.declared.kind.AbnfKind.TheVariants.{Repeat, Text, Num,
 use Rattle.abnfread.specs.MarkedTokens.{Marked, marked}
 use Rattle.diagnostics.specs.CodePoints.{in_utf16, point_rows, quote_rows}
 use Rattle.diagnostics.specs.FirstBytes.{first_fact}
-use Rattle.abnfexplain.specs.declared.abnf_mistakes.Marks.{Marks}
-use Rattle.abnfexplain.specs.declared.abnf_mistakes.Marks.TheVariants.{Any, Tight, Within, First}
+use Rattle.abnfexplain.specs.declared.abnf_mistakes.TokenMarks.{TokenMarks}
+use Rattle.abnfexplain.specs.declared.abnf_mistakes.TokenMarks.TheVariants.{Any, Tight, Within, First}
 
 -- one of these kinds: the same variant
 abbrev pub has_kind : List AbnfKind → AbnfKind → Bool
 has_kind kinds kind = list_any (λ k. sameb the_type k kind) kinds
 
 -- these marks: no white space before it; that, and not the first of a line that begins a rule; such a first one
-abbrev pub has_marks : Marks → Bool → Bool → Bool
+abbrev pub has_marks : TokenMarks → Bool → Bool → Bool
 has_marks Any gap first = true
 has_marks Tight gap first = not gap
 has_marks Within gap first = not gap && not first
@@ -31,7 +31,7 @@ has_marks First gap first = first
 -- kinds of the token before it, and its last bytes or all; what is reported.
 pub record Mistake : Type 0 where
   pub kinds : List AbnfKind
-  pub marks : Marks
+  pub marks : TokenMarks
   pub begins : List ℕ
   pub blanks : Bool
   pub next : List ℕ
@@ -51,7 +51,7 @@ abbrev pub all_but_bad : List AbnfKind
 all_but_bad = Name ∷ Is ∷ Adds ∷ Slash ∷ LParen ∷ RParen ∷ LBrack ∷ RBrack ∷ Repeat ∷ Text ∷ Num ∷ Prose ∷ End ∷ []
 
 -- by kinds and marks, the first bytes, and the kinds before
-abbrev pub mistake : List AbnfKind → Marks → List ℕ → List AbnfKind → List ℕ → Mistake
+abbrev pub mistake : List AbnfKind → TokenMarks → List ℕ → List AbnfKind → List ℕ → Mistake
 mistake kinds marks begins before told = record {
   kinds = kinds;
   marks = marks;
@@ -66,11 +66,11 @@ mistake kinds marks begins before told = record {
 }
 
 -- .. where one of those bytes follows the first ones
-abbrev pub mistake_next : List AbnfKind → Marks → List ℕ → List ℕ → List AbnfKind → List ℕ → Mistake
+abbrev pub mistake_next : List AbnfKind → TokenMarks → List ℕ → List ℕ → List AbnfKind → List ℕ → Mistake
 mistake_next kinds marks begins next before told = record (mistake kinds marks begins before told) { next = next }
 
 -- .. where the token before ends so
-abbrev pub mistake_after : Marks → List ℕ → AbnfKind → List ℕ → Bool → List AbnfKind → List ℕ → Mistake
+abbrev pub mistake_after : TokenMarks → List ℕ → AbnfKind → List ℕ → Bool → List AbnfKind → List ℕ → Mistake
 mistake_after marks begins before word whole kinds told =
     record (mistake kinds marks begins (before ∷ []) told) { word = word; whole = whole }
 

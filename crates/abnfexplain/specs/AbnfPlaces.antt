@@ -1,13 +1,13 @@
 -- A place of the code.
 use Rattle.std.specs.Prelude.{◌≡◌, Bool, List, reverse}
-use Rattle.abnfexplain.specs.declared.abnf_stand.Bracket.{Bracket}
+use Rattle.abnfexplain.specs.declared.abnf_stand.OpenBracket.{OpenBracket}
 use Rattle.abnfexplain.specs.declared.abnf_stand.Form.{Form}
 use Rattle.abnfexplain.specs.declared.abnf_stand.Place.{Place}
 use Rattle.abnfexplain.specs.declared.abnf_stand.Stand.{Stand}
 use Rattle.abnfexplain.specs.AbnfStands.{allows, innermost}
 
 -- the brackets that are open, the innermost first
-abbrev pub brackets_of : Place → List Bracket
+abbrev pub brackets_of : Place → List OpenBracket
 brackets_of p = reverse p.brackets.items
 
 -- whether such a token can stand there
@@ -15,6 +15,6 @@ abbrev pub place_allows : Place → Form → Bool
 place_allows p form = allows p.stand (innermost (brackets_of p)) form
 
 -- the place is that
-pub record IsPlaceAt (p : Place) (s : Stand) (bs : List Bracket) : Type 0 where
+pub record IsPlaceAt (p : Place) (s : Stand) (bs : List OpenBracket) : Type 0 where
   pub stand : p.stand ≡ s
   pub brackets : brackets_of p ≡ bs

@@ -3,8 +3,8 @@ use Rattle.std.specs.Prelude.{Bool, true, false, ◌&&◌, not, Option, Some, No
 use Rattle.abnfread.specs.declared.kind.AbnfKind.{AbnfKind}
 use Rattle.abnfread.specs.declared.kind.AbnfKind.TheVariants.{Name, Is, Adds, Slash, LParen, RParen, LBrack, RBrack}
 use Rattle.abnfread.specs.declared.kind.AbnfKind.TheVariants.{Repeat, Text, Num, Prose, Bad, End}
-use Rattle.abnfexplain.specs.declared.abnf_stand.Bracket.{Bracket}
-use Rattle.abnfexplain.specs.declared.abnf_stand.Bracket.TheVariants.{Paren, Brack}
+use Rattle.abnfexplain.specs.declared.abnf_stand.OpenBracket.{OpenBracket}
+use Rattle.abnfexplain.specs.declared.abnf_stand.OpenBracket.TheVariants.{Paren, Brack}
 use Rattle.abnfexplain.specs.declared.abnf_stand.Form.{Form}
 use Rattle.abnfexplain.specs.declared.abnf_stand.Stand.{Stand}
 use Rattle.abnfexplain.specs.declared.abnf_stand.Stand.TheVariants.{Start, Named, Fresh, Awaits, Read, Done}
@@ -28,20 +28,20 @@ abbrev pub is_name : AbnfKind → Bool
 is_name Name = true
 is_name _ = false
 
-abbrev pub is_paren : Option Bracket → Bool
+abbrev pub is_paren : Option OpenBracket → Bool
 is_paren (Some Paren) = true
 is_paren _ = false
 
-abbrev pub is_brack : Option Bracket → Bool
+abbrev pub is_brack : Option OpenBracket → Bool
 is_brack (Some Brack) = true
 is_brack _ = false
 
-abbrev pub is_outside : Option Bracket → Bool
+abbrev pub is_outside : Option OpenBracket → Bool
 is_outside None = true
 is_outside (Some b) = false
 
 -- after a repetition, where `top` is the innermost bracket that is open
-abbrev pub allows_read : Option Bracket → AbnfKind → Bool → Bool
+abbrev pub allows_read : Option OpenBracket → AbnfKind → Bool → Bool
 allows_read top Slash gap = true
 allows_read top RParen gap = is_paren top
 allows_read top RBrack gap = is_brack top
@@ -54,7 +54,7 @@ defines Adds = true
 defines _ = false
 
 -- a token that is the first of no line that begins a rule
-abbrev pub allows_later : Stand → Option Bracket → AbnfKind → Bool → Bool
+abbrev pub allows_later : Stand → Option OpenBracket → AbnfKind → Bool → Bool
 allows_later Named top k gap = defines k
 allows_later Fresh top k gap = is_item k
 allows_later Awaits top k gap = not gap && is_inner k
@@ -62,17 +62,17 @@ allows_later Read top k gap = allows_read top k gap
 allows_later _ top k gap = false
 
 -- and one that is
-abbrev pub allows_first : Stand → Option Bracket → AbnfKind → Bool
+abbrev pub allows_first : Stand → Option OpenBracket → AbnfKind → Bool
 allows_first Start top k = is_name k
 allows_first Read top k = is_outside top && is_name k
 allows_first _ top k = false
 
-abbrev pub allows_marked : Stand → Option Bracket → AbnfKind → Bool → Bool → Bool
+abbrev pub allows_marked : Stand → Option OpenBracket → AbnfKind → Bool → Bool → Bool
 allows_marked s top k gap true = allows_first s top k
 allows_marked s top k gap false = allows_later s top k gap
 
 -- whether such a token can stand there
-abbrev pub allows : Stand → Option Bracket → Form → Bool
+abbrev pub allows : Stand → Option OpenBracket → Form → Bool
 allows s top form = allows_marked s top form.kind form.gap form.first
 
 abbrev pub behind_later : AbnfKind → Stand
@@ -94,18 +94,18 @@ behind_marked k false = behind_later k
 abbrev pub behind : Form → Stand
 behind form = behind_marked form.kind form.first
 
-abbrev pub without_first : List Bracket → List Bracket
+abbrev pub without_first : List OpenBracket → List OpenBracket
 without_first [] = []
 without_first (b ∷ bs) = bs
 
 -- the brackets that are open after it, the innermost first
-abbrev pub brackets_behind : AbnfKind → List Bracket → List Bracket
+abbrev pub brackets_behind : AbnfKind → List OpenBracket → List OpenBracket
 brackets_behind LParen bs = Paren ∷ bs
 brackets_behind LBrack bs = Brack ∷ bs
 brackets_behind RParen bs = without_first bs
 brackets_behind RBrack bs = without_first bs
 brackets_behind k bs = bs
 
-abbrev pub innermost : List Bracket → Option Bracket
+abbrev pub innermost : List OpenBracket → Option OpenBracket
 innermost [] = None
 innermost (b ∷ bs) = Some b

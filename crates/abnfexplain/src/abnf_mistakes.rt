@@ -9,7 +9,7 @@ ghost use Rattle.abnfexplain.specs.AbnfMistakes.{after_blanks, comes_next, ends_
 ghost use Rattle.abnfexplain.specs.AbnfMistakes.{has_bytes, has_kind, has_marks, has_word, is_after, is_mistake};
 ghost use Rattle.abnfexplain.specs.AbnfMistakes.{mistakes, point_mistake, shown_mistake as the_mistake, text_mistake};
 
-use Marks::{Any, First, Tight, Within};
+use TokenMarks::{Any, First, Tight, Within};
 use abnfread::AbnfKind::{
     Adds, Bad, End, Is, LBrack, LParen, Name, Num, Prose, RBrack, RParen, Repeat, Slash, Text,
 };
@@ -18,7 +18,7 @@ use diagnostics::{Fact, facts, find_fact, is_utf16, point_facts};
 
 /// Which marks a token has.
 #[derive(Clone, Copy)]
-pub(crate) enum Marks {
+pub(crate) enum TokenMarks {
     /// Any.
     Any,
     /// No white space before it.
@@ -35,7 +35,7 @@ pub(crate) struct Mistake {
     /// Kinds of the token that decides; any, if there are none.
     pub(crate) kinds: &'static [AbnfKind],
     /// Its marks.
-    pub(crate) marks: Marks,
+    pub(crate) marks: TokenMarks,
     /// Its first bytes.
     pub(crate) begins: &'static [u8],
     /// Spaces and tabs may follow these.
@@ -139,7 +139,7 @@ fn has_kind(kinds: &[AbnfKind], kind: AbnfKind) -> bool
     kinds.iter().any(|it| *it as u8 == kind as u8)
 }
 
-fn has_marks(marks: Marks, gap: bool, first: bool) -> bool
+fn has_marks(marks: TokenMarks, gap: bool, first: bool) -> bool
     ensures { result ≡ has_marks marks gap first }
 {
     match marks {

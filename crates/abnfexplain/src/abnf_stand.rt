@@ -25,7 +25,7 @@ pub(crate) enum Stand {
 
 /// A bracket that is open.
 #[derive(Clone, Copy)]
-pub(crate) enum Bracket {
+pub(crate) enum OpenBracket {
     Paren,
     Brack,
 }
@@ -67,20 +67,20 @@ fn begins_item(kind: AbnfKind) -> bool
 }
 
 // Whether it closes the innermost bracket, or ends where none is open.
-fn allows_behind(top: Option<Bracket>, kind: AbnfKind, gap: bool) -> bool
+fn allows_behind(top: Option<OpenBracket>, kind: AbnfKind, gap: bool) -> bool
     ensures { result ≡ allows_read top kind gap }
 {
     match kind {
         AbnfKind::Slash => true,
-        AbnfKind::RParen => matches!(top, Some(Bracket::Paren)),
-        AbnfKind::RBrack => matches!(top, Some(Bracket::Brack)),
+        AbnfKind::RParen => matches!(top, Some(OpenBracket::Paren)),
+        AbnfKind::RBrack => matches!(top, Some(OpenBracket::Brack)),
         AbnfKind::End => top.is_none(),
         _ => gap && begins_item(kind),
     }
 }
 
 /// Returns whether such a token can stand there, where `top` is the innermost bracket that is open.
-pub(crate) fn allows_form(stand: Stand, top: Option<Bracket>, form: Form) -> bool
+pub(crate) fn allows_form(stand: Stand, top: Option<OpenBracket>, form: Form) -> bool
     ensures { result ≡ allows stand top form }
 {
     if form.first {
@@ -121,7 +121,7 @@ pub(crate) struct Place {
     /// The kind of token before it.
     pub(crate) stand: Stand,
     /// The brackets that are open, the innermost last.
-    pub(crate) brackets: Vec<Bracket>,
+    pub(crate) brackets: Vec<OpenBracket>,
 }
 
 impl Place {
@@ -151,8 +151,8 @@ impl Place {
         ensures { OnOk result (IsPlaceAt self.new (behind form) (brackets_behind form.kind (brackets_of self.old))) }
     {
         match form.kind {
-            AbnfKind::LParen => self.brackets.push(Bracket::Paren)?,
-            AbnfKind::LBrack => self.brackets.push(Bracket::Brack)?,
+            AbnfKind::LParen => self.brackets.push(OpenBracket::Paren)?,
+            AbnfKind::LBrack => self.brackets.push(OpenBracket::Brack)?,
             AbnfKind::RParen | AbnfKind::RBrack => {
                 self.brackets.pop();
             }

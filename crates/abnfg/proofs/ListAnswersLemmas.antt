@@ -4,7 +4,7 @@ use Rattle.std.proofs.Common.{◌≡◌, ◌∙◌, ℕ, List, [], Option, None,
 use Rattle.std.specs.Prelude.{option_copied}
 use Rattle.abnfg.specs.ListAnswers.{JudgedReply, OpenedStates, TextStates, faulty, lists, no_memory, rejected}
 use Rattle.abnfg.specs.ListedLines.{no_room}
-use Rattle.abnfg.specs.declared.lines.Settings.{Settings}
+use Rattle.abnfg.specs.declared.lines.ListSettings.{ListSettings}
 use Rattle.abnfg.proofs.ListedLinesLemmas.{no_lines_first}
 use Rattle.abnfread.specs.AbnfReading.{IsFaultOf}
 use Rattle.abnfread.specs.AbnfViews.{rules_of}
@@ -44,12 +44,12 @@ module _ {O : Type 0} (opening : Opening O) (Why : Option (List ℕ) → Said �
       is.all ∙ (rw none (append-nil is.first) ∙ notes_plain is.are_told)
 
 -- some reply is stated
-pub judged_some : (settings : Settings) (rules : List Rule) (judged : Option ℕ)
+pub judged_some : (settings : ListSettings) (rules : List Rule) (judged : Option ℕ)
     → (reply : Reply) × JudgedReply settings rules judged reply
 judged_some settings rules None = (_, refl)
 judged_some settings rules (Some id) = (_, no_room (no_lines_first _) (omega arith))
 
-module _ (text : List ℕ) (settings : Settings) (notes : List Said) (rules : table.Rules Elem) (input : Input)
+module _ (text : List ℕ) (settings : ListSettings) (notes : List Said) (rules : table.Rules Elem) (input : Input)
     (out told : List ℕ) (reply : Reply) (same : told ≡ notes_text notes) where
   listed_as : (judged : Option ℕ) → IsChecked text (option_copied settings.rule) notes rules judged
       → JudgedReply settings (rules_of rules) judged reply → TextStates text settings input (notes_text notes) reply
@@ -68,7 +68,7 @@ module _ (text : List ℕ) (settings : Settings) (notes : List Said) (rules : ta
       (listed_as judged (subst (λ g. IsChecked text g notes rules judged) given c) is.1)
 
 -- a text that has a fault
-pub unread_states : (text : List ℕ) (settings : Settings) (input : Input) (fault : ReadFault) → IsFaultOf text fault
+pub unread_states : (text : List ℕ) (settings : ListSettings) (input : Input) (fault : ReadFault) → IsFaultOf text fault
     → TextStates text settings input [] (stopped (unread fault))
 unread_states text settings input (Syntax line) is = faulty {fault = Syntax line} is (λ e. cc e)
 unread_states text settings input (Depth line) is = faulty {fault = Depth line} is (λ e. cc e)

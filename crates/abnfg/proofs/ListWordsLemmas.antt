@@ -3,7 +3,7 @@
 use Rattle.std.proofs.Common.{◌≡◌, ◌∙◌, ap, inl, inr, refl, subst, true, [], Option}
 use Rattle.std.specs.Prelude.{codes, option_copied}
 use Rattle.abnfg.specs.ListWords.{AskLines, IsAbnfgApp, IsNumberOf, abnfg_app, alphabet_listed}
-use Rattle.abnfg.specs.declared.lines.Settings.{Settings}
+use Rattle.abnfg.specs.declared.lines.ListSettings.{ListSettings}
 use Rattle.clap.specs.Words.{App, HasKind, Kinds, Text, first_value, is_simple, is_simple_and_free, kind_of, one_text}
 use Rattle.clap.specs.Words.{rows_of}
 use Rattle.clap.specs.declared.error.Error.{Error}
@@ -27,7 +27,7 @@ pub command_free : (app : App) → IsAbnfgApp app → is_simple_and_free app ≡
 command_free app of = ap is_simple_and_free of.4 ∙ names_free of.0 of.2
 
 -- what the getters read is what the rows ask for
-pub lines_asked : (f : Found) (settings : Settings)
+pub lines_asked : (f : Found) (settings : ListSettings)
     → option_copied settings.rule ≡ first_value f (codes "rule")
     → settings.letters ≡ alphabet_listed (first_value f (codes "letters"))
     → IsNumberOf 16777216 256 (one_text f (codes "limit")) settings.limit

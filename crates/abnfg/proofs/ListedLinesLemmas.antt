@@ -15,8 +15,8 @@ use Rattle.abnfg.specs.declared.lines.Halt.{Halt}
 use Rattle.abnfg.specs.declared.lines.Halt.TheVariants.{NoMemory as HaltsUnroomed, Nothing, TooMany}
 use Rattle.abnfg.specs.declared.lines.Halt.TheVariants.{All as Finished}
 use Rattle.derivedlines.specs.LineSets.{HasNoneAfter, IsFirstAfter, IsFirstStep, IsLineAfter, IsLineIn, LineSet}
-use Rattle.derivedlines.specs.declared.lines.Step.{Step}
-use Rattle.derivedlines.specs.declared.lines.Step.TheVariants.{Line, Done}
+use Rattle.derivedlines.specs.declared.lines.NextLine.{NextLine}
+use Rattle.derivedlines.specs.declared.lines.NextLine.TheVariants.{Line, Done}
 use Rattle.ruletable.proofs.AppendsLemmas.{Appends-join, Appends-same, AppendsPart-join}
 use Rattle.ruletable.specs.Writing.{AppendsPart}
 use Rattle.ruletable.specs.declared.memory.Memory.{Memory}
@@ -66,12 +66,12 @@ module _ (lines : List ℕ → Type 0) where
       by v (inr b) =
           inr (All-push (λ u. IsShortlexBefore u v) [] w.items (λ k d lt. absurd (omega (arith, lt))) b)
 
-  first_step : (step : Step) → IsFirstStep lines step → IsStepOf lines [] step
+  first_step : (step : NextLine) → IsFirstStep lines step → IsStepOf lines [] step
   first_step (Line w) first = first_listed w first
   first_step Done none = λ v line. absurd (none v line)
 
   module _ (ws : List (List ℕ)) (done : ℕ) (last : List ℕ) (l : AreListed lines done last ws) where
-    step_first : done ≡ 0 → (step : Step) → IsFirstStep lines step → IsStepOf lines ws step
+    step_first : done ≡ 0 → (step : NextLine) → IsFirstStep lines step → IsStepOf lines ws step
     step_first none step first =
         subst (λ v. IsStepOf lines v step) (sym (no_length ws (let e = l.count in omega (arith, e, none))))
         (first_step step first)
@@ -113,7 +113,7 @@ module _ (lines : List ℕ → Type 0) where
           by (inr all) =
               absurd (none v line (All-contains (λ u. IsShortlexBefore u v) ws last all (l.last_is some)))
 
-      step_next : (step : Step) → IsLineAfter lines last step → IsStepOf lines ws step
+      step_next : (step : NextLine) → IsLineAfter lines last step → IsStepOf lines ws step
       step_next (Line w) f = line_next w f
       step_next Done none = none_next none
 
@@ -128,17 +128,17 @@ module _ (lines : List ℕ → Type 0) where
           (inl refl);
     }
 
-  abbrev pub StepTold : ℕ → List ℕ → Result (Option Step) Memory → Type 0
+  abbrev pub StepTold : ℕ → List ℕ → Result (Option NextLine) Memory → Type 0
   StepTold done last r = IfOk r (λ told. IfSome told (λ step. (ws : List (List ℕ)) → AreListed lines done last ws
       → IsStepOf lines ws step))
 
-  pub told_first : (done : ℕ) (last : List ℕ) → done ≡ 0 → (r : Result (Option Step) Memory)
+  pub told_first : (done : ℕ) (last : List ℕ) → done ≡ 0 → (r : Result (Option NextLine) Memory)
       → IfOk r (λ told. IfSome told (IsFirstStep lines)) → StepTold done last r
   told_first done last none (Ok (Some step)) first = λ ws l. step_first ws done last l none step first
   told_first done last none (Ok None) first = tt
   told_first done last none (Err e) first = tt
 
-  pub told_next : (done : ℕ) (last : List ℕ) → 0 < done → (r : Result (Option Step) Memory)
+  pub told_next : (done : ℕ) (last : List ℕ) → 0 < done → (r : Result (Option NextLine) Memory)
       → IfOk r (λ told. IfSome told (IsLineAfter lines last)) → StepTold done last r
   told_next done last some (Ok (Some step)) next = λ ws l. step_next ws done last l some step next
   told_next done last some (Ok None) next = tt

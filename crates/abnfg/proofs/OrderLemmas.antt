@@ -31,4 +31,3 @@ before_trans (later b) (shorter less) = shorter (omega (arith, before_length b, 
 before_trans (later {c = c} {u = u} b) (symbol {d = d} {v = w} same lt) =
     by_symbol c d u w lt (omega (arith, same, before_length b)) (cases_lt (length u) (length w))
 before_trans (later b) (later a) = later (before_trans b a)
-

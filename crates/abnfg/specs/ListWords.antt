@@ -4,7 +4,7 @@ use Rattle.std.specs.Prelude.{◌≡◌, ◌≤◌, ℕ, List, [], ◌∷◌, Op
 use Rattle.std.specs.Prelude.{if◌then◌else◌}
 use Rattle.std.specs.Str.{bytes_eq}
 use Rattle.std.specs.Str.Parse.{IsNumeral, digits_value, without_leading_plus}
-use Rattle.abnfg.specs.declared.lines.Settings.{Settings}
+use Rattle.abnfg.specs.declared.lines.ListSettings.{ListSettings}
 use Rattle.clap.specs.Words.{App, Row, Rule, Text, first_of, new_rule, one_of, with_rule}
 use Rattle.clap.specs.declared.builder.action.ArgAction.TheVariants.{Set}
 use Rattle.clap.specs.declared.builder.value_parser.ValueParser.TheVariants as vp
@@ -88,7 +88,7 @@ IsNumberOf greatest default (Some text) n = IsNumeral 10 (without_leading_plus t
     → n ≡ digits_value 10 (without_leading_plus text)
 
 -- the matches of the words ask for these lines
-pub record AskLines (rows : List Row) (settings : Settings) : Type 0 where
+pub record AskLines (rows : List Row) (settings : ListSettings) : Type 0 where
   pub rule : option_copied settings.rule ≡ first_of (codes "rule") rows
   pub letters : settings.letters ≡ alphabet_listed (first_of (codes "letters") rows)
   pub limit : IsNumberOf 16777216 256 (one_of (codes "limit") rows) settings.limit

@@ -7,8 +7,8 @@ use Rattle.std.proofs.Common.{Vec, Global}
 use Rattle.abnfg.specs.declared.lines.Halt.{Halt}
 use Rattle.abnfg.specs.declared.lines.Halt.TheVariants.{NoMemory as HaltsUnroomed, Nothing, TooMany}
 use Rattle.abnfg.specs.declared.lines.Halt.TheVariants.{All as Finished}
-use Rattle.derivedlines.specs.declared.lines.Step.{Step}
-use Rattle.derivedlines.specs.declared.lines.Step.TheVariants.{Line, Done as End}
+use Rattle.derivedlines.specs.declared.lines.NextLine.{NextLine}
+use Rattle.derivedlines.specs.declared.lines.NextLine.TheVariants.{Line, Done as End}
 use Rattle.letters.specs.declared.alphabet.Alphabet.{Alphabet}
 use Rattle.ruletable.specs.Writing.{AppendsPart}
 use Rattle.ruletable.specs.declared.sink.WriteFault.{WriteFault}
@@ -72,7 +72,7 @@ module _ (lines : List ℕ → Type 0) where
   IsLineNext ws line = AreFirstLines (ws ++ line.items ∷ []) × All (λ w. IsShortlexBefore w line.items) ws
 
   -- it, or there is none
-  abbrev pub IsStepOf : List (List ℕ) → Step → Type 0
+  abbrev pub IsStepOf : List (List ℕ) → NextLine → Type 0
   IsStepOf ws (Line line) = IsLineNext ws line
   IsStepOf ws End = (v : List ℕ) → lines v → Contains ws v
 

@@ -7,7 +7,7 @@ ghost use Rattle.cli.specs.Asked.{IsFlagOf};
 ghost use Rattle.cli.specs.Command.{grammar_rule};
 ghost use Rattle.cli.specs.Parsing.{Parses};
 
-use crate::lines::Settings;
+use crate::lines::ListSettings;
 use clap::{Arg, ArgAction, ArgMatches, Command, Error, value_parser};
 use cli::{add_flag, add_option, program_command};
 use letters::Alphabet;
@@ -20,7 +20,8 @@ static ALPHABETS: [&str; 2] = ["bytes", "utf8"];
 static MODES: [&str; 1] = ["all"];
 
 /// The text of the help.
-const HELP: &str = "List the lines that a rule of an ABNF grammar (RFC 5234, RFC 7405) derives, shortest first
+const HELP: &str =
+    "List the lines that a rule of an ABNF grammar (RFC 5234, RFC 7405) derives, shortest first
 
 Usage: abnfg [OPTIONS] <GRAMMAR>
 
@@ -173,14 +174,14 @@ fn count_of(matches: &ArgMatches<'_>) -> u32
 }
 
 /// Returns which lines the words ask for.
-pub(crate) fn settings_of<'a>(matches: &ArgMatches<'a>) -> Settings<'a>
+pub(crate) fn settings_of<'a>(matches: &ArgMatches<'a>) -> ListSettings<'a>
     ensures rule { option_copied result.rule ≡ first_value (found_of matches.now) (codes "rule") }
     ensures letters { result.letters ≡ alphabet_listed (first_value (found_of matches.now) (codes "letters")) }
     ensures limit { IsNumberOf 16777216 256 (one_text (found_of matches.now) (codes "limit")) result.limit }
     ensures count { IsNumberOf 4294967295 1000 (one_text (found_of matches.now) (codes "count")) result.count }
     ensures nul { IsFlagOf (one_text (found_of matches.now) (codes "null-data")) result.nul }
 {
-    Settings {
+    ListSettings {
         rule: matches.get_str("rule"),
         letters: letters_of(matches),
         limit: limit_of(matches),

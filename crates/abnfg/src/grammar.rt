@@ -9,9 +9,11 @@ ghost use Rattle.toolrun.specs.Stop.{unread};
 ghost use Rattle.toolrun.specs.Stopped.{Fulfils};
 ghost use Rattle.toolrun.specs.Stream.{no_input, passed};
 
-use crate::lines::{Settings, list_lines};
+use crate::lines::{ListSettings, list_lines};
 use abnfcheck::{AllRules, SoundAbnf};
-use abnfrun::{AbnfLanguage, AbnfOptions, Alphabet, DEFAULT_LIMIT, Mode, Printed, Settings as Opening};
+use abnfrun::{
+    AbnfLanguage, AbnfOptions, Alphabet, DEFAULT_LIMIT, Mode, Printed, Settings as Opening,
+};
 use ruletable::{ReadFault, Sink, WriteFault, write_whole};
 use std::alloc::Global;
 use toolrun::{Ending, Opened, Status, Stop, close_run, conclude_run, end_run, open};
@@ -52,7 +54,7 @@ fn stop_unopened(fault: ReadFault) -> Stop
 // Writes the lines of rules by the judged one; nothing if notes reject them. `WriteFault` if the output fails.
 fn write_judged<O: Sink>(
     alloc: Global,
-    settings: &Settings<'_>,
+    settings: &ListSettings<'_>,
     rules: AllRules,
     judged: Option<usize>,
     out: &mut O,
@@ -71,7 +73,7 @@ fn write_judged<O: Sink>(
 // Writes the notes on a grammar that was opened, and then its lines, and ends.
 fn list_opened<O: Sink, E: Sink>(
     alloc: Global,
-    settings: &Settings<'_>,
+    settings: &ListSettings<'_>,
     opened: Opened<AllRules, usize>,
     out: &mut O,
     err: &mut E,
@@ -94,7 +96,7 @@ fn list_opened<O: Sink, E: Sink>(
 /// unless notes reject the grammar. Then it ends the run.
 pub(crate) fn list_text<O: Sink, E: Sink>(
     alloc: Global,
-    settings: &Settings<'_>,
+    settings: &ListSettings<'_>,
     text: &[u8],
     out: &mut O,
     err: &mut E,

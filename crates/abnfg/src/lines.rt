@@ -10,7 +10,7 @@ ghost use Rattle.toolrun.specs.Stream.{no_input, passed};
 
 use crate::symbols::push_line;
 use abnfcheck::SoundAbnf;
-use derivedlines::{Lines, Step};
+use derivedlines::{Lines, NextLine};
 use letters::Alphabet;
 use ruletable::{Memory, Sink, WriteFault, write_whole};
 use std::alloc::Global;
@@ -21,7 +21,7 @@ const ROOM: usize = 1_000_000;
 
 /// Which lines are listed, and how.
 #[derive(Clone, Copy)]
-pub(crate) struct Settings<'a> {
+pub(crate) struct ListSettings<'a> {
     /// The rule; the first one if there is no name.
     pub(crate) rule: Option<&'a str>,
     /// The alphabet of lines.
@@ -48,14 +48,14 @@ pub(crate) enum Halt {
 }
 
 // Returns the byte that ends a line.
-fn end_byte(settings: &Settings<'_>) -> u8
+fn end_byte(settings: &ListSettings<'_>) -> u8
     ensures { result ≡ end_of settings.now.nul }
 {
     if settings.nul { 0 } else { b'\n' }
 }
 
 // Returns the text of a line with its end. `Memory` if an allocation fails.
-fn line_text(alloc: Global, settings: &Settings<'_>, line: &[u32]) -> Result<Vec<u8>, Memory>
+fn line_text(alloc: Global, settings: &ListSettings<'_>, line: &[u32]) -> Result<Vec<u8>, Memory>
     ensures { IfOk result (λ text. text.items ≡ record_text settings.now.letters (end_of settings.now.nul) line.now) }
 {
     let mut text = Vec::new(alloc);
@@ -66,7 +66,7 @@ fn line_text(alloc: Global, settings: &Settings<'_>, line: &[u32]) -> Result<Vec
 
 // Returns the step after so many lines, the last of which is given. `None` if there is no room for the states. `Memory`
 // if an allocation fails.
-fn next_step(lines: &mut Lines, done: u32, last: &[u32]) -> Result<Option<Step>, Memory>
+fn next_step(lines: &mut Lines, done: u32, last: &[u32]) -> Result<Option<NextLine>, Memory>
     ensures same { lines.new ≡ lines.old }
     ensures next { IfOk result (λ told. IfSome told (λ step. (ws : List (List ℕ)) →
         AreListed (IsLineIn lines.old) done last.now ws → IsStepOf (IsLineIn lines.old) ws step)) }
@@ -84,8 +84,8 @@ fn next_line(lines: &mut Lines, done: u32, last: &[u32]) -> Result<Vec<u32>, Hal
         MatchResult result (IsLineNext (IsLineIn lines.old) ws) (IsHaltAt (IsLineIn lines.old) ws) }
 {
     match next_step(lines, done, last) {
-        Ok(Some(Step::Line(line))) => Ok(line),
-        Ok(Some(Step::Done)) => Err(if done == 0 { Halt::Nothing } else { Halt::All }),
+        Ok(Some(NextLine::Line(line))) => Ok(line),
+        Ok(Some(NextLine::Done)) => Err(if done == 0 { Halt::Nothing } else { Halt::All }),
         Ok(None) => Err(Halt::TooMany),
         Err(Memory) => Err(Halt::NoMemory),
     }
@@ -95,7 +95,7 @@ fn next_line(lines: &mut Lines, done: u32, last: &[u32]) -> Result<Vec<u32>, Hal
 // the output fails; then a prefix is written.
 fn write_record<O: Sink>(
     alloc: Global,
-    settings: &Settings<'_>,
+    settings: &ListSettings<'_>,
     line: Vec<u32>,
     last: &mut Vec<u32>,
     out: &mut O,
@@ -120,7 +120,7 @@ fn write_record<O: Sink>(
 // none. `WriteFault` if the output fails; then a prefix of the line is written.
 fn write_next<O: Sink>(
     alloc: Global,
-    settings: &Settings<'_>,
+    settings: &ListSettings<'_>,
     lines: &mut Lines,
     done: u32,
     last: &mut Vec<u32>,
@@ -143,7 +143,7 @@ fn write_next<O: Sink>(
 // prefix of a line is written after whole lines.
 fn write_lines<O: Sink>(
     alloc: Global,
-    settings: &Settings<'_>,
+    settings: &ListSettings<'_>,
     lines: &mut Lines,
     out: &mut O,
 ) -> Result<Halt, WriteFault>
@@ -195,7 +195,7 @@ fn ending_of(alloc: Global, halt: Halt) -> Ending
 // fails; then a prefix of a line is written after whole lines.
 fn write_derived<O: Sink>(
     alloc: Global,
-    settings: &Settings<'_>,
+    settings: &ListSettings<'_>,
     grammar: &SoundAbnf,
     out: &mut O,
 ) -> Result<Halt, WriteFault>
@@ -217,7 +217,7 @@ fn write_derived<O: Sink>(
 /// returns how the run ends. `WriteFault` if the output fails; then a prefix of a line is written after whole lines.
 pub(crate) fn list_lines<O: Sink>(
     alloc: Global,
-    settings: &Settings<'_>,
+    settings: &ListSettings<'_>,
     grammar: &SoundAbnf,
     out: &mut O,
 ) -> Result<Ending, WriteFault>

@@ -8,7 +8,7 @@ use Rattle.abnfread.specs.AbnfWords.{Word, word, Slash}
 use Rattle.abnfread.specs.Element.{Element, Elements, Text, Values, Range, Concat, Alt, Rep, Opt, Name, Prose, none}
 use Rattle.abnfread.specs.Element.{more}
 use Rattle.abnfprint.specs.CanonicalAbnf.{wraps}
-use Rattle.abnfprint.specs.declared.place.Place.TheVariants.{Alternative, Member, Repeated}
+use Rattle.abnfprint.specs.declared.place.Context.TheVariants.{Alternative, Member, Repeated}
 use Rattle.abnfprint.specs.FormedAbnf.{IsFormed, AreFormed, AreMany}
 use Rattle.abnfprint.proofs.AbnfListedLemmas.{wrapped, within, listed, listed_members, listed_alternatives, leads-at}
 use Rattle.abnfprint.proofs.AbnfListedLemmas.{leads-gap, leads-no_gap}

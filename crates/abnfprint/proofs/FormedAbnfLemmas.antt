@@ -30,8 +30,8 @@ use Rattle.abnfread.specs.Numerals.{says_values, last_number, more_numbers, List
 use Rattle.abnfread.proofs.NumeralLemmas.{run-part, heads-equal, tails-equal}
 use Rattle.abnfread.proofs.SaysKindLemmas.{one-word}
 use Rattle.abnfprint.specs.CanonicalAbnf.{wraps}
-use Rattle.abnfprint.specs.declared.place.Place.{Place}
-use Rattle.abnfprint.specs.declared.place.Place.TheVariants.{Alternative, Member, Repeated}
+use Rattle.abnfprint.specs.declared.place.Context.{Context}
+use Rattle.abnfprint.specs.declared.place.Context.TheVariants.{Alternative, Member, Repeated}
 use Rattle.abnfprint.specs.FormedAbnf.{IsName, named, IsFormed, AreFormed, IsSome}
 use Rattle.abnfprint.proofs.AbnfSpelledLemmas.{IsFull}
 
@@ -125,11 +125,11 @@ abbrev mutual
   nest (Name n) = 0
   nest (Prose t) = 0
 
-  pub nest_all : Place → Elements → ℕ
+  pub nest_all : Context → Elements → ℕ
   nest_all p none = 0
   nest_all p (more x xs) = max (lift (wraps p x) (nest x)) (nest_all p xs)
 
-abbrev pub nest_at : Place → Element → ℕ
+abbrev pub nest_at : Context → Element → ℕ
 nest_at p x = lift (wraps p x) (nest x)
 
 lift-le : (b : Bool) (n : ℕ) → lift b n ≤ suc n

@@ -11,13 +11,13 @@ use Rattle.abnfread.specs.Element.{Elements}
 use Rattle.abnfread.specs.AbnfViews.{element_of, elements_of, rule_of}
 use Rattle.abnfprint.specs.CanonicalAbnf.{around, wraps, text_of, joined, more_joined, definition_text, grammar_text}
 use Rattle.abnfprint.specs.CanonicalAbnf.{hexadecimal, values_text, dotted}
-use Rattle.abnfprint.specs.declared.place.Place.{Place}
+use Rattle.abnfprint.specs.declared.place.Context.{Context}
 
 -- what is left of members or alternatives, from one on
-abbrev pub left_of : Place → List ℕ → ℕ → Elements → List ℕ
+abbrev pub left_of : Context → List ℕ → ℕ → Elements → List ℕ
 left_of p mark i xs = cond (i == 0) (joined p mark xs) (more_joined p mark xs)
 
-pub item-left : (p : Place) (mark : List ℕ) (es : List Elem) (i : ℕ) (e : Elem) → e ≡ get_or es i e → i < length es →
+pub item-left : (p : Context) (mark : List ℕ) (es : List Elem) (i : ℕ) (e : Elem) → e ≡ get_or es i e → i < length es →
     left_of p mark i (elements_of (drop i es)) ≡ cond (i == 0) [] mark
     ++ (around (wraps p (element_of e)) (text_of (element_of e))
     ++ left_of p mark (i + 1) (elements_of (drop (i + 1) es)))
@@ -27,7 +27,7 @@ item-left p mark es i e same h =
     ∙ marked-left i mark (around (wraps p (element_of e)) (text_of (element_of e))) (joined p mark rest)
     (more_joined p mark rest)
 
-pub end-left : (p : Place) (mark : List ℕ) (es : List Elem) (i : ℕ) → length es ≤ i
+pub end-left : (p : Context) (mark : List ℕ) (es : List Elem) (i : ℕ) → length es ≤ i
     → left_of p mark i (elements_of (drop i es)) ≡ []
 end-left p mark es i h = ap (λ (ys : List Elem). left_of p mark i (elements_of ys)) (drop_all i es h)
     ∙ same-left (i == 0) []

@@ -7,8 +7,8 @@ use Rattle.std.specs.Int.Digits.{digits_of}
 use Rattle.std.specs.List.{flat_map}
 use Rattle.abnfread.specs.Element.{Element, Elements, Text, Values, Range, Concat, Alt, Rep, Opt, Name, Prose, none}
 use Rattle.abnfread.specs.Element.{more, Rule}
-use Rattle.abnfprint.specs.declared.place.Place.{Place}
-use Rattle.abnfprint.specs.declared.place.Place.TheVariants.{Alternative, Member, Repeated}
+use Rattle.abnfprint.specs.declared.place.Context.{Context}
+use Rattle.abnfprint.specs.declared.place.Context.TheVariants.{Alternative, Member, Repeated}
 
 -- how tightly an element holds together
 abbrev pub rank : Element → ℕ
@@ -18,13 +18,13 @@ rank (Rep a b x) = 2
 rank x = 3
 
 -- how tightly it must hold together to stand there without parentheses
-abbrev pub least : Place → ℕ
+abbrev pub least : Context → ℕ
 least Alternative = 1
 least Member = 2
 least Repeated = 3
 
 -- whether parentheses stand round the element there
-abbrev pub wraps : Place → Element → Bool
+abbrev pub wraps : Context → Element → Bool
 wraps p x = nat_lt (rank x) (least p)
 
 -- a text, in parentheses or not
@@ -76,12 +76,12 @@ abbrev mutual
   text_of (Prose t) = code "<" ∷ (t ++ code ">" ∷ [])
 
   -- members or alternatives, with a mark between each two
-  pub joined : Place → List ℕ → Elements → List ℕ
+  pub joined : Context → List ℕ → Elements → List ℕ
   joined p mark none = []
   joined p mark (more x xs) = around (wraps p x) (text_of x) ++ more_joined p mark xs
 
   -- with one before each
-  pub more_joined : Place → List ℕ → Elements → List ℕ
+  pub more_joined : Context → List ℕ → Elements → List ℕ
   more_joined p mark none = []
   more_joined p mark (more x xs) = mark ++ (around (wraps p x) (text_of x) ++ more_joined p mark xs)
 

@@ -7,7 +7,7 @@ use abnfread::Elem;
 
 /// Where an element stands within another.
 #[derive(Clone, Copy)]
-pub(crate) enum Place {
+pub(crate) enum Context {
     Alternative,
     Member,
     Repeated,
@@ -26,18 +26,18 @@ fn rank(e: &Elem) -> u8
 }
 
 // How tightly it must hold together to stand there without parentheses.
-fn least(place: Place) -> u8
+fn least(place: Context) -> u8
     ensures { result ≡ canon.least place }
 {
     match place {
-        Place::Alternative => 1,
-        Place::Member => 2,
-        Place::Repeated => 3,
+        Context::Alternative => 1,
+        Context::Member => 2,
+        Context::Repeated => 3,
     }
 }
 
 /// Returns whether parentheses stand round the element there.
-pub(crate) fn is_wrapped(e: &Elem, place: Place) -> bool
+pub(crate) fn is_wrapped(e: &Elem, place: Context) -> bool
     ensures { result ≡ canon.wraps place (element_of e.now) }
 {
     rank(e) < least(place)

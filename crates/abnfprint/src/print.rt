@@ -7,14 +7,14 @@ ghost use Rattle.abnfread.specs.AbnfViews.{element_of, elements_of, rules_of};
 ghost use Rattle.abnfprint.specs.AbnfReadBack.{IsRead, ReadsAs, ReadsFormed, ReadBack, SpansUnseen, PrintsItself};
 ghost use Rattle.abnfprint.specs.CanonicalAbnf as canon;
 
-use crate::place::{Place, is_wrapped};
+use crate::place::{Context, is_wrapped};
 use crate::terminal::{print_prose, print_range, print_repeat, print_text, print_values};
 use abnfread::{Abnf, Elem};
 use ruletable::{Sink, WriteFault, write_pieces, write_whole};
 
 // An element within another, in parentheses where it needs them.
 #[cycle(printing)]
-fn print_at<W: Sink>(e: &Elem, place: Place, w: &mut W) -> Result<(), WriteFault>
+fn print_at<W: Sink>(e: &Elem, place: Context, w: &mut W) -> Result<(), WriteFault>
     requires { W.failed w.old ≡ false }
     ensures bytes { Writes (W.contents w.old) (W.contents w.new)
         (canon.around (canon.wraps place (element_of e.now)) (canon.text_of (element_of e.now))) result }
@@ -64,7 +64,7 @@ fn print_repeated<W: Sink>(
     ensures flag { Flags (W.failed w.old) (W.failed w.new) result }
 {
     match print_repeat(least, most, w) {
-        Ok(()) => print_at(operand, Place::Repeated, w),
+        Ok(()) => print_at(operand, Context::Repeated, w),
         Err(fault) => Err(fault),
     }
 }
@@ -80,8 +80,8 @@ fn print_elem<W: Sink>(e: &Elem, w: &mut W) -> Result<(), WriteFault>
         Elem::Text { folds, text } => print_text(*folds, text, w),
         Elem::Values(values) => print_values(values, w),
         Elem::Range { low, high } => print_range(*low, *high, w),
-        Elem::Concat(members) => print_all(members, Place::Member, b" ", w),
-        Elem::Alt(alternatives) => print_all(alternatives, Place::Alternative, b" / ", w),
+        Elem::Concat(members) => print_all(members, Context::Member, b" ", w),
+        Elem::Alt(alternatives) => print_all(alternatives, Context::Alternative, b" / ", w),
         Elem::Rep {
             least,
             most,
@@ -95,7 +95,7 @@ fn print_elem<W: Sink>(e: &Elem, w: &mut W) -> Result<(), WriteFault>
 
 // Members or alternatives, with a mark between each two.
 #[cycle(printing)]
-fn print_all<W: Sink>(es: &[Elem], place: Place, mark: &[u8], w: &mut W) -> Result<(), WriteFault>
+fn print_all<W: Sink>(es: &[Elem], place: Context, mark: &[u8], w: &mut W) -> Result<(), WriteFault>
     requires { W.failed w.old ≡ false }
     ensures bytes { Writes (W.contents w.old) (W.contents w.new) (canon.joined place mark.now (elements_of es.now))
         result }

@@ -19,8 +19,8 @@ use Rattle.abnfread.specs.declared.kind.AbnfKind.{AbnfKind}
 use Rattle.abnfread.specs.declared.kind.AbnfKind.TheVariants.{End}
 use Rattle.abnfread.specs.declared.number.NumberFault.{NumberFault}
 use Rattle.abnfread.specs.declared.reader.Reader.{Reader}
-use Rattle.abnfread.specs.declared.reader.Stop.{Stop}
-use Rattle.abnfread.specs.declared.reader.Stop.TheVariants as stops
+use Rattle.abnfread.specs.declared.reader.ReaderStop.{ReaderStop}
+use Rattle.abnfread.specs.declared.reader.ReaderStop.TheVariants as stops
 use Rattle.abnfread.specs.declared.words.Said.{Said as CodeSaid}
 use Rattle.abnfread.specs.AbnfKinds.{ends_list, is_repeat}
 use Rattle.abnfread.specs.AbnfMachine.{Config, start, named, body, done, ended, finish, fresh, awaits, read, step, run}
@@ -290,7 +290,7 @@ module _ {text : List ℕ} {left : List Marked → Type 0} {c : Config} {ms : Li
 
 -- what the reader does with the one thing that a token says
 pub taken-said : {A : Type 0} (c : Config) (k : AbnfKind) (z : List ℕ) (p : Span) (g f : Bool) (w : CodeSaid) (s : Said)
-    (r : Result A Stop) (reader : Reader) → SaysKind k z p s → (said_of w ≡ s) × IsSmall s →
+    (r : Result A ReaderStop) (reader : Reader) → SaysKind k z p s → (said_of w ≡ s) × IsSmall s →
     Steps (step c (word g f (said_of w))) r reader → Takes c (marked (tok k z p) g f) r reader
 taken-said c k z p g f w s (Ok u) reader h e steps =
     (g, f, s, says h, e.1, ap (λ (x : Said). step c (word g f x)) (sym e.0) ∙ steps)

@@ -7,8 +7,8 @@ use Rattle.abnfread.specs.declared.words.Said.{Said as CodeSaid}
 use Rattle.abnfread.specs.declared.words.Said.TheVariants as code
 use Rattle.abnfread.specs.declared.number.NumberFault.{NumberFault}
 use Rattle.abnfread.specs.declared.number.NumberFault.TheVariants as numbers
-use Rattle.abnfread.specs.declared.reader.Stop.{Stop}
-use Rattle.abnfread.specs.declared.reader.Stop.TheVariants as stops
+use Rattle.abnfread.specs.declared.reader.ReaderStop.{ReaderStop}
+use Rattle.abnfread.specs.declared.reader.ReaderStop.TheVariants as stops
 use Rattle.abnfread.specs.declared.reader.Times.{Times as CodeTimes}
 use Rattle.abnfread.specs.declared.reader.Times.TheVariants as code_times
 use Rattle.abnfread.specs.declared.reader.Bracket.{Bracket as CodeBracket}
@@ -88,13 +88,13 @@ abbrev pub config_of : Reader → Config
 config_of r = config_at r r.at
 
 -- the reader stopped where the machine has no step, or because an allocation failed
-abbrev pub StopsAt : Option Config → Stop → Type 0
+abbrev pub StopsAt : Option Config → ReaderStop → Type 0
 StopsAt x stops.Hopeless = x ≡ None
 StopsAt x stops.TooLarge = ⊥
 StopsAt x stops.Memory = Unit {0}
 
 -- the reader took the machine's step, or it stopped where there is none, unless memory ran out
-abbrev pub Steps : {A : Type 0} → Option Config → Result A Stop → Reader → Type 0
+abbrev pub Steps : {A : Type 0} → Option Config → Result A ReaderStop → Reader → Type 0
 Steps x (Ok u) r = x ≡ Some (config_of r)
 Steps x (Err s) r = StopsAt x s
 
@@ -121,14 +121,14 @@ is_there (Some c) = true
 
 -- where the token was not taken, nothing that it says goes on, or numbers that go on are too large, unless memory ran
 -- out
-abbrev pub Refuses : Config → Marked → Stop → Type 0
+abbrev pub Refuses : Config → Marked → ReaderStop → Type 0
 Refuses c m stops.Hopeless = (w : Word) → Says m w → step c w ≡ None
 Refuses c m stops.TooLarge = (g : Bool) × (f : Bool) × (s : Said) × (d : Config) × Says m (word g f s) × (IsSmall s → ⊥)
     × (step c (word g f s) ≡ Some d)
 Refuses c m stops.Memory = Unit {0}
 
 -- the reader took what the token says, or it stopped
-abbrev pub Takes : {A : Type 0} → Config → Marked → Result A Stop → Reader → Type 0
+abbrev pub Takes : {A : Type 0} → Config → Marked → Result A ReaderStop → Reader → Type 0
 Takes c m (Ok u) r = (g : Bool) × (f : Bool) × (s : Said) × Says m (word g f s) × IsSmall s
     × (step c (word g f s) ≡ Some (config_of r))
 Takes c m (Err s) r = Refuses c m s

@@ -12,7 +12,7 @@ use std::alloc::Global;
 
 /// An element of a body in the appendix: a text, a value, a range, a name, or the concatenation of two names.
 #[derive(Clone, Copy)]
-enum Part {
+enum AppendixElement {
     Text(&'static [u8]),
     Value(u32),
     Range(u32, u32),
@@ -67,33 +67,48 @@ pub(crate) fn core_body(alloc: Global, id: usize) -> Result<Elem, Memory>
     ensures { IfOk result (λ e. slice_get core_bodies id ≡ Some (element_of e)) }
 {
     match id {
-        0 => one_of(alloc, &[Part::Range(65, 90), Part::Range(97, 122)]),
-        1 => one_of(alloc, &[Part::Text(b"0"), Part::Text(b"1")]),
-        2 => element(alloc, Part::Range(1, 127)),
-        3 => element(alloc, Part::Value(13)),
-        4 => element(alloc, Part::Names(b"CR", b"LF")),
-        5 => one_of(alloc, &[Part::Range(0, 31), Part::Value(127)]),
-        6 => element(alloc, Part::Range(48, 57)),
-        7 => element(alloc, Part::Value(34)),
+        0 => one_of(
+            alloc,
+            &[
+                AppendixElement::Range(65, 90),
+                AppendixElement::Range(97, 122),
+            ],
+        ),
+        1 => one_of(
+            alloc,
+            &[AppendixElement::Text(b"0"), AppendixElement::Text(b"1")],
+        ),
+        2 => element(alloc, AppendixElement::Range(1, 127)),
+        3 => element(alloc, AppendixElement::Value(13)),
+        4 => element(alloc, AppendixElement::Names(b"CR", b"LF")),
+        5 => one_of(
+            alloc,
+            &[AppendixElement::Range(0, 31), AppendixElement::Value(127)],
+        ),
+        6 => element(alloc, AppendixElement::Range(48, 57)),
+        7 => element(alloc, AppendixElement::Value(34)),
         8 => one_of(
             alloc,
             &[
-                Part::Name(b"DIGIT"),
-                Part::Text(b"A"),
-                Part::Text(b"B"),
-                Part::Text(b"C"),
-                Part::Text(b"D"),
-                Part::Text(b"E"),
-                Part::Text(b"F"),
+                AppendixElement::Name(b"DIGIT"),
+                AppendixElement::Text(b"A"),
+                AppendixElement::Text(b"B"),
+                AppendixElement::Text(b"C"),
+                AppendixElement::Text(b"D"),
+                AppendixElement::Text(b"E"),
+                AppendixElement::Text(b"F"),
             ],
         ),
-        9 => element(alloc, Part::Value(9)),
-        10 => element(alloc, Part::Value(10)),
+        9 => element(alloc, AppendixElement::Value(9)),
+        10 => element(alloc, AppendixElement::Value(10)),
         11 => lwsp(alloc),
-        12 => element(alloc, Part::Range(0, 255)),
-        13 => element(alloc, Part::Value(32)),
-        14 => element(alloc, Part::Range(33, 126)),
-        _ => one_of(alloc, &[Part::Name(b"SP"), Part::Name(b"HTAB")]),
+        12 => element(alloc, AppendixElement::Range(0, 255)),
+        13 => element(alloc, AppendixElement::Value(32)),
+        14 => element(alloc, AppendixElement::Range(33, 126)),
+        _ => one_of(
+            alloc,
+            &[AppendixElement::Name(b"SP"), AppendixElement::Name(b"HTAB")],
+        ),
     }
 }
 
@@ -114,23 +129,23 @@ fn two_names(alloc: Global, first: &[u8], second: &[u8]) -> Result<Elem, Memory>
 }
 
 // Returns an element of a body.
-fn element(alloc: Global, part: Part) -> Result<Elem, Memory>
+fn element(alloc: Global, part: AppendixElement) -> Result<Elem, Memory>
     ensures { IfOk result (λ e. element_of e ≡ part_element part) }
 {
     match part {
-        Part::Text(text) => {
+        AppendixElement::Text(text) => {
             let text = Vec::from_slice(alloc, text)?;
             Ok(Elem::Text { folds: true, text })
         }
-        Part::Value(value) => Ok(Elem::Values(Vec::from_slice(alloc, &[value])?)),
-        Part::Range(low, high) => Ok(Elem::Range { low, high }),
-        Part::Name(text) => name(alloc, text),
-        Part::Names(first, second) => two_names(alloc, first, second),
+        AppendixElement::Value(value) => Ok(Elem::Values(Vec::from_slice(alloc, &[value])?)),
+        AppendixElement::Range(low, high) => Ok(Elem::Range { low, high }),
+        AppendixElement::Name(text) => name(alloc, text),
+        AppendixElement::Names(first, second) => two_names(alloc, first, second),
     }
 }
 
 // Returns the alternation of these elements.
-fn one_of(alloc: Global, parts: &[Part]) -> Result<Elem, Memory>
+fn one_of(alloc: Global, parts: &[AppendixElement]) -> Result<Elem, Memory>
     ensures { IfOk result (λ e. element_of e ≡ Alt (elements (map part_element parts.now))) }
 {
     let mut all = Vec::new(alloc);
@@ -144,7 +159,13 @@ fn one_of(alloc: Global, parts: &[Part]) -> Result<Elem, Memory>
 fn lwsp(alloc: Global) -> Result<Elem, Memory>
     ensures { IfOk result (λ e. element_of e ≡ lwsp_of) }
 {
-    let space = one_of(alloc, &[Part::Name(b"WSP"), Part::Names(b"CRLF", b"WSP")])?;
+    let space = one_of(
+        alloc,
+        &[
+            AppendixElement::Name(b"WSP"),
+            AppendixElement::Names(b"CRLF", b"WSP"),
+        ],
+    )?;
     let operand = Box::new(alloc, space)?;
     Ok(Elem::Rep {
         least: 0,

@@ -20,7 +20,7 @@ use crate::kind::{AbnfKind, is_repeat};
 use crate::marked::abnf_tokens;
 use crate::marks::MarkedToken;
 use crate::number::NumberFault;
-use crate::reader::{Reader, Stop};
+use crate::reader::{Reader, ReaderStop};
 use crate::table::{Abnf, table_of};
 use crate::words::said_in;
 use lexer::{MAX_GRAMMAR, MAX_OPEN, have_tokens};
@@ -50,17 +50,17 @@ pub fn read_definitions(alloc: Global, text: &[u8]) -> Result<Vec<Definition<'_>
                     });
                 }
             }
-            Err(Stop::Hopeless) => {
+            Err(ReaderStop::Hopeless) => {
                 return Err(ReadFault::Syntax {
                     line: line_in(text, at),
                 });
             }
-            Err(Stop::TooLarge) => {
+            Err(ReaderStop::TooLarge) => {
                 return Err(ReadFault::NumberTooLarge {
                     line: line_in(text, at),
                 });
             }
-            Err(Stop::Memory) => return Err(ReadFault::Memory),
+            Err(ReaderStop::Memory) => return Err(ReadFault::Memory),
         }
     }
     match reader.into_definitions() {
@@ -84,21 +84,21 @@ fn take_token<'a>(
     alloc: Global,
     reader: &mut Reader<'a>,
     token: MarkedToken<'a>,
-) -> Result<(), Stop>
+) -> Result<(), ReaderStop>
     requires { IsSaid token.token.kind token.token.slice.now token.token.span }
     ensures { Takes (config_of reader.old) (marked_of token.entry) result reader.new }
 {
     match said_in(alloc, token.token) {
         Ok(Some(said)) => reader.take(token.gap, token.first, said),
-        Ok(None) => Err(Stop::Hopeless),
+        Ok(None) => Err(ReaderStop::Hopeless),
         Err(NumberFault::TooLarge) => {
             if reader.takes_number(is_repeat(token.token.kind), token.gap, token.first) {
-                Err(Stop::TooLarge)
+                Err(ReaderStop::TooLarge)
             } else {
-                Err(Stop::Hopeless)
+                Err(ReaderStop::Hopeless)
             }
         }
-        Err(NumberFault::Memory) => Err(Stop::Memory),
+        Err(NumberFault::Memory) => Err(ReaderStop::Memory),
     }
 }
 

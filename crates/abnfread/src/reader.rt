@@ -20,7 +20,7 @@ use std::mem;
 
 /// Why the reader takes no further token.
 #[derive(Clone, Copy)]
-pub(crate) enum Stop {
+pub(crate) enum ReaderStop {
     /// With this token the tokens so far begin no rules.
     Hopeless,
     /// A number of the token is over its limit.
@@ -29,23 +29,23 @@ pub(crate) enum Stop {
     Memory,
 }
 
-impl From<AllocError> for Stop {
-    ghost use Rattle.abnfread.specs.declared.reader.Stop.TheVariants.{Memory};
+impl From<AllocError> for ReaderStop {
+    ghost use Rattle.abnfread.specs.declared.reader.ReaderStop.TheVariants.{Memory};
 
     ghost from_gives = { λ _ e. e ≡ Memory };
 
     fn from(_: AllocError) -> Self {
-        Stop::Memory
+        ReaderStop::Memory
     }
 }
 
-impl<T: Drop> From<AllocFailed<T>> for Stop {
-    ghost use Rattle.abnfread.specs.declared.reader.Stop.TheVariants.{Memory};
+impl<T: Drop> From<AllocFailed<T>> for ReaderStop {
+    ghost use Rattle.abnfread.specs.declared.reader.ReaderStop.TheVariants.{Memory};
 
     ghost from_gives = { λ _ e. e ≡ Memory };
 
     fn from(_: AllocFailed<T>) -> Self {
-        Stop::Memory
+        ReaderStop::Memory
     }
 }
 
@@ -203,7 +203,7 @@ impl<'a> Reader<'a> {
     }
 
     // Adds a repetition.
-    fn push_part(&mut self, times: Times, e: Elem) -> Result<(), Stop>
+    fn push_part(&mut self, times: Times, e: Elem) -> Result<(), ReaderStop>
         ensures { Steps (Some (machine.body (head_of self.old) (outer_of self.old) (ended_of self.old)
             (snoc (parts_of self.old) (apply (times_of times) (element_of e))) machine.read)) result self.new }
     {
@@ -214,7 +214,7 @@ impl<'a> Reader<'a> {
     }
 
     // Opens a bracket.
-    fn open_bracket(&mut self, times: Times, bracket: Bracket) -> Result<(), Stop>
+    fn open_bracket(&mut self, times: Times, bracket: Bracket) -> Result<(), ReaderStop>
         ensures { Steps (Some (machine.body (head_of self.old)
             (a_level (ended_of self.old) (parts_of self.old) (times_of times) (bracket_of bracket) ∷ outer_of self.old)
             none none machine.fresh)) result self.new }
@@ -232,7 +232,7 @@ impl<'a> Reader<'a> {
     }
 
     // Takes the element of a repetition.
-    fn take_element(&mut self, times: Times, said: Said<'a>) -> Result<(), Stop>
+    fn take_element(&mut self, times: Times, said: Said<'a>) -> Result<(), ReaderStop>
         ensures { Steps (element_step (head_of self.old) (outer_of self.old) (ended_of self.old) (parts_of self.old)
             (times_of times) (said_of said.entry)) result self.new }
     {
@@ -253,12 +253,12 @@ impl<'a> Reader<'a> {
             }
             Said::LParen => self.open_bracket(times, Bracket::Paren),
             Said::LBrack => self.open_bracket(times, Bracket::Brack),
-            _ => Err(Stop::Hopeless),
+            _ => Err(ReaderStop::Hopeless),
         }
     }
 
     // Takes a word where a repetition must begin.
-    fn take_fresh(&mut self, said: Said<'a>) -> Result<(), Stop>
+    fn take_fresh(&mut self, said: Said<'a>) -> Result<(), ReaderStop>
         ensures { Steps (fresh_step (head_of self.old) (outer_of self.old) (ended_of self.old) (parts_of self.old)
             (said_of said.entry)) result self.new }
     {
@@ -272,7 +272,7 @@ impl<'a> Reader<'a> {
     }
 
     // Ends a concatenation at a slash.
-    fn end_concatenation(&mut self) -> Result<(), Stop>
+    fn end_concatenation(&mut self) -> Result<(), ReaderStop>
         ensures { Steps (Some (machine.body (head_of self.old) (outer_of self.old)
             (snoc (ended_of self.old) (concatenation_of (parts_of self.old))) none machine.fresh)) result self.new }
     {
@@ -283,15 +283,15 @@ impl<'a> Reader<'a> {
     }
 
     // Closes a bracket of that form.
-    fn close_bracket(&mut self, bracket: Bracket) -> Result<(), Stop>
+    fn close_bracket(&mut self, bracket: Bracket) -> Result<(), ReaderStop>
         ensures { Steps (close_step (bracket_of bracket) (outer_of self.old) (head_of self.old)
             (finish (ended_of self.old) (parts_of self.old))) result self.new }
     {
         let Some(level) = self.outer.pop() else {
-            return Err(Stop::Hopeless);
+            return Err(ReaderStop::Hopeless);
         };
         if level.bracket != bracket {
-            return Err(Stop::Hopeless);
+            return Err(ReaderStop::Hopeless);
         }
         let alternatives = mem::replace(&mut self.alternatives, level.alternatives);
         let parts = mem::replace(&mut self.parts, level.parts);
@@ -318,7 +318,7 @@ impl<'a> Reader<'a> {
     }
 
     // Takes a word after a repetition.
-    fn take_behind(&mut self, gap: bool, said: Said<'a>) -> Result<(), Stop>
+    fn take_behind(&mut self, gap: bool, said: Said<'a>) -> Result<(), ReaderStop>
         ensures { Steps (read_step (head_of self.old) (outer_of self.old) (ended_of self.old) (parts_of self.old) gap
             (said_of said.entry)) result self.new }
     {
@@ -328,7 +328,7 @@ impl<'a> Reader<'a> {
             Said::RBrack => self.close_bracket(Bracket::Brack),
             Said::End => {
                 if !self.outer.is_empty() {
-                    return Err(Stop::Hopeless);
+                    return Err(ReaderStop::Hopeless);
                 }
                 self.end_definition()?;
                 self.at = At::Done;
@@ -336,7 +336,7 @@ impl<'a> Reader<'a> {
             }
             _ => {
                 if !gap {
-                    return Err(Stop::Hopeless);
+                    return Err(ReaderStop::Hopeless);
                 }
                 self.take_fresh(said)
             }
@@ -356,7 +356,7 @@ impl<'a> Reader<'a> {
     }
 
     // Takes a word after the name of a definition.
-    fn take_assignment(&mut self, said: Said<'a>) -> Result<(), Stop>
+    fn take_assignment(&mut self, said: Said<'a>) -> Result<(), ReaderStop>
         ensures { Steps (named_step (definitions_from self.old.definitions.items) self.old.name.now self.old.span
             (said_of said.entry)) result self.new }
     {
@@ -369,12 +369,12 @@ impl<'a> Reader<'a> {
                 self.begin_body(true);
                 Ok(())
             }
-            _ => Err(Stop::Hopeless),
+            _ => Err(ReaderStop::Hopeless),
         }
     }
 
     // Takes the first word of a line that begins a rule, after these definitions.
-    fn take_rule(&mut self, said: Said<'a>) -> Result<(), Stop>
+    fn take_rule(&mut self, said: Said<'a>) -> Result<(), ReaderStop>
         ensures { Steps (rule_step [] (definitions_from self.old.definitions.items) (said_of said.entry)) result
             self.new }
     {
@@ -385,12 +385,12 @@ impl<'a> Reader<'a> {
                 self.at = At::Named;
                 Ok(())
             }
-            _ => Err(Stop::Hopeless),
+            _ => Err(ReaderStop::Hopeless),
         }
     }
 
     // Takes the first word of a line that begins a rule.
-    fn take_first(&mut self, said: Said<'a>) -> Result<(), Stop>
+    fn take_first(&mut self, said: Said<'a>) -> Result<(), ReaderStop>
         ensures { Steps (first_step (config_of self.old) (said_of said.entry)) result self.new }
     {
         match self.at {
@@ -400,17 +400,17 @@ impl<'a> Reader<'a> {
             }
             At::Read => {
                 if !self.outer.is_empty() {
-                    return Err(Stop::Hopeless);
+                    return Err(ReaderStop::Hopeless);
                 }
                 self.end_definition()?;
                 self.take_rule(said)
             }
-            _ => Err(Stop::Hopeless),
+            _ => Err(ReaderStop::Hopeless),
         }
     }
 
     // Takes any other word.
-    fn take_later(&mut self, gap: bool, said: Said<'a>) -> Result<(), Stop>
+    fn take_later(&mut self, gap: bool, said: Said<'a>) -> Result<(), ReaderStop>
         ensures { Steps (later_step (config_of self.old) gap (said_of said.entry)) result self.new }
     {
         match self.at {
@@ -418,17 +418,17 @@ impl<'a> Reader<'a> {
             At::Fresh => self.take_fresh(said),
             At::Awaits(least, most) => {
                 if gap {
-                    return Err(Stop::Hopeless);
+                    return Err(ReaderStop::Hopeless);
                 }
                 self.take_element(Times::Repeated(least, most), said)
             }
             At::Read => self.take_behind(gap, said),
-            _ => Err(Stop::Hopeless),
+            _ => Err(ReaderStop::Hopeless),
         }
     }
 
     /// Takes the next word, with its marks. After an error nothing can be read.
-    pub(crate) fn take(&mut self, gap: bool, first: bool, said: Said<'a>) -> Result<(), Stop>
+    pub(crate) fn take(&mut self, gap: bool, first: bool, said: Said<'a>) -> Result<(), ReaderStop>
         ensures { Steps (step (config_of self.old) (word gap first (said_of said.entry))) result self.new }
     {
         if first {

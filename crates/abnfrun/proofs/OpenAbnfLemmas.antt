@@ -22,7 +22,7 @@ use Rattle.linejudge.specs.LineRefusals.{LinesReply, TellsLine, count_untold, no
 use Rattle.linejudge.specs.declared.answers.Answer.{Answer}
 use Rattle.linejudge.specs.declared.answers.Answer.TheVariants.{Yes, No, NoAfter}
 use Rattle.linejudge.specs.declared.line.LineForm.{LineForm}
-use Rattle.linejudge.specs.declared.reached.At.{At}
+use Rattle.linejudge.specs.declared.reached.LinePosition.{LinePosition}
 use Rattle.linejudge.proofs.KeptLineLemmas.{kept_short}
 use Rattle.linejudge.proofs.LineRunLemmas.{whole_states}
 use Rattle.linejudge.proofs.LinesLemmas.{ends_quietly}
@@ -55,7 +55,7 @@ module _ (Told : List ℕ → Answer → Type 0) (asked : Bool) (Refusal : List 
   abbrev alone : Input
   alone = record { bytes = line ++ form.end ∷ []; fault = false }
 
-  abbrev after : At
+  abbrev after : LinePosition
   after = behind at_front (length line + 1) said
 
   abbrev judged : List ℕ

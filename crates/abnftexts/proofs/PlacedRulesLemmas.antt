@@ -9,8 +9,8 @@ use Rattle.abnfblocks.specs.FoundRules.{it_reads, it_is_none}
 use Rattle.abnfblocks.specs.RuleCuts.{cut_text, lines_text, margin_at, opens_rule, first_rule}
 use Rattle.abnfblocks.specs.RuleLines.{margin_of}
 use Rattle.abnfblocks.specs.TextLines.{NumberedLine, behind_mark}
-use Rattle.abnfblocks.specs.declared.found.Found.{Found}
-use Rattle.abnfblocks.specs.declared.found.Found.TheVariants as found
+use Rattle.abnfblocks.specs.declared.found.RuleSearch.{RuleSearch}
+use Rattle.abnfblocks.specs.declared.found.RuleSearch.TheVariants as found
 use Rattle.abnftexts.specs.GivenRules.{RuleGiven}
 use Rattle.abnftexts.specs.RulesGathered.{NamedText, RuleLines, RulesGathered}
 use Rattle.abnftexts.specs.TextRules.{GivesFound, GivesText, GiveTexts, SpellRule}
@@ -68,18 +68,18 @@ cut-alone line lines n opens is clear =
     definition-alone rows own (subst (λ (text : List ℕ). Reads text reads.0) same reads.1)
 
 -- so it is with each rule that is found
-abbrev pub IsReadAlone : List NumberedLine → Found → Type 0
+abbrev pub IsReadAlone : List NumberedLine → RuleSearch → Type 0
 IsReadAlone kept (found.Rule first count) = ReadAlone (take count (drop first kept))
 IsReadAlone kept (found.NotAbnf first count fault) = Unit {0}
 
-it-alone : (kept : List NumberedLine) {i : ℕ} {it : Found} (line : NumberedLine) (lines : List NumberedLine)
+it-alone : (kept : List NumberedLine) {i : ℕ} {it : RuleSearch} (line : NumberedLine) (lines : List NumberedLine)
     → opens_rule line ≡ true → line ∷ lines ≡ drop i kept → Each IsClear (line ∷ lines)
     → IsFoundOf i (first_rule (line ∷ lines)) it → IsReadAlone kept it
 it-alone kept line lines opens e clear (it_reads {n} is) =
     subst (λ (rows : List NumberedLine). ReadAlone (take n rows)) e (cut-alone line lines n opens is clear)
 it-alone kept line lines opens e clear (it_is_none is) = tt
 
-pub found-alone : {kept lines : List NumberedLine} {i : ℕ} {all : List Found} → Each IsClear kept
+pub found-alone : {kept lines : List NumberedLine} {i : ℕ} {all : List RuleSearch} → Each IsClear kept
     → AreFound i lines all → lines ≡ drop i kept → Each (IsReadAlone kept) all
 found-alone clear none_left e = each_none
 found-alone {kept} {i = i} clear (no_rule_there p more) e =
@@ -89,7 +89,7 @@ found-alone {kept} {i = i} clear (a_rule {line} {lines} opens is more) e =
     subst (λ (xs : List NumberedLine). Each IsClear xs) (sym e) (each-drop i clear) in
     each_next (it-alone kept line lines opens e there is) (found-alone clear more (ap (drop 1) e ∙ drop-drop 1 i kept))
 
-found-placed : {name : List ℕ} {kept : List NumberedLine} {all : List Found} {g : RulesGathered}
+found-placed : {name : List ℕ} {kept : List NumberedLine} {all : List RuleSearch} {g : RulesGathered}
     → GivesFound name kept all g → Each (IsReadAlone kept) all → Placed g
 found-placed none_found e = none_placed
 found-placed (next_rule spells h) (each_next r e) =

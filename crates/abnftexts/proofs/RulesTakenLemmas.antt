@@ -12,8 +12,8 @@ use Rattle.abnfblocks.specs.MaskedLines.{AreRead, ReadsLines, ShowsText}
 use Rattle.rfcforms.specs.XmlTags.{begins_xml}
 use Rattle.abnfblocks.specs.declared.rfctext.text_line.TextLine.{TextLine}
 use Rattle.abnfblocks.specs.RuleCuts.{blanks_first, lines_text, margin_at}
-use Rattle.abnfblocks.specs.declared.found.Found.{Found}
-use Rattle.abnfblocks.specs.declared.found.Found.TheVariants as found
+use Rattle.abnfblocks.specs.declared.found.RuleSearch.{RuleSearch}
+use Rattle.abnfblocks.specs.declared.found.RuleSearch.TheVariants as found
 use Rattle.abnftexts.specs.RulesGathered.{RuleLines, RulesGathered, NamedText, both_given, named_text}
 use Rattle.abnftexts.specs.RulesGathered.{none_given, one_rule, told_alone}
 use Rattle.abnftexts.specs.TakenRules.{TakesFound, TakesMore, TakesRule}
@@ -99,7 +99,7 @@ each-at P [] i d h lt = absurd (omega (arith, lt))
 each-at P (x ∷ xs) zero d (each_next p h) lt = p
 each-at P (x ∷ xs) (suc i) d (each_next p h) lt = each-at P xs i d h (omega (arith, lt))
 
-module _ (name : List ℕ) (kept : List NumberedLine) (all : List Found) (i : ℕ) (d : Found) where
+module _ (name : List ℕ) (kept : List NumberedLine) (all : List RuleSearch) (i : ℕ) (d : RuleSearch) where
   pub rule-more : (first count : ℕ) (rest : List NumberedLine) (g h end : RulesGathered) → i < length all
       → get_or all i d ≡ found.Rule first count → rest ≡ drop first kept → Each (IsReadAlone kept) all
       → TakesRule name rest count g h
@@ -107,15 +107,15 @@ module _ (name : List ℕ) (kept : List NumberedLine) (all : List Found) (i : �
   rule-more first count rest g h end lt is rows alone takes more =
       let others = drop (i + 1) all in
       let here : drop i all ≡ found.Rule first count ∷ others =
-      one-behind all i d lt ∙ ap (λ (x : Found). x ∷ others) is in
+      one-behind all i d lt ∙ ap (λ (x : RuleSearch). x ∷ others) is in
       let own : ReadAlone (take count (drop first kept)) =
-      subst (λ (x : Found). IsReadAlone kept x) is (each-at (IsReadAlone kept) all i d alone lt) in
+      subst (λ (x : RuleSearch). IsReadAlone kept x) is (each-at (IsReadAlone kept) all i d alone lt) in
       let spells : SpellRule (lines_text (margin_at (take count (drop first kept))) (take count (drop first kept)))
       (given_by own.definition) = record { definition = own.definition; reads = own.reads; is = refl } in
       let one : RulesGathered = one_rule (place_in name (drop first kept) count) (given_by own.definition) in
       let taken : TakesRule name (drop first kept) count g h =
       subst (λ (xs : List NumberedLine). TakesRule name xs count g h) rows takes in
-      subst (λ (xs : List Found). TakesMore (GivesFound name kept xs) g end) (sym here)
+      subst (λ (xs : List RuleSearch). TakesMore (GivesFound name kept xs) g end) (sym here)
       (more-taken (λ x. x ≡ one) (GivesFound name kept others)
       (GivesFound name kept (found.Rule first count ∷ others)) g h end (λ a b x y. rw x (next_rule spells y))
       (one, refl, taken own.definition own.reads) more)
@@ -130,12 +130,12 @@ module _ (name : List ℕ) (kept : List NumberedLine) (all : List Found) (i : �
       let own = take count (drop first kept) in
       let others = drop (i + 1) all in
       let here : drop i all ≡ found.NotAbnf first count fault ∷ others =
-      one-behind all i d lt ∙ ap (λ (x : Found). x ∷ others) is in
+      one-behind all i d lt ∙ ap (λ (x : RuleSearch). x ∷ others) is in
       let same : told ≡ g.told ++ not_abnf_told name own fault =
       e ∙ ap (λ (xs : List NumberedLine). g.told ++ not_abnf_told name xs fault) rows in
       let one : RulesGathered = told_alone (not_abnf_told name own fault) in
       let h : RulesGathered = record { places = g.places; rules = g.rules; told = told } in
-      subst (λ (xs : List Found). TakesMore (GivesFound name kept xs) g end) (sym here)
+      subst (λ (xs : List RuleSearch). TakesMore (GivesFound name kept xs) g end) (sym here)
       (more-taken (λ x. x ≡ one) (GivesFound name kept others)
       (GivesFound name kept (found.NotAbnf first count fault ∷ others)) g h end
       (λ a b x y. rw x (no_rule y)) (one, refl, with-told g told _ same) more)
@@ -152,14 +152,14 @@ lines-taken kept behind lines first count from front =
     ap (λ (xs : List TextLine). map numbered xs) front ∙ sym (take-map numbered count behind)
     ∙ ap (λ (xs : List NumberedLine). take count xs) (lines-from kept behind first from)
 
-pub found-all : (name : List ℕ) (kept : List NumberedLine) (all : List Found) (i : ℕ) (g : RulesGathered)
+pub found-all : (name : List ℕ) (kept : List NumberedLine) (all : List RuleSearch) (i : ℕ) (g : RulesGathered)
     → length all ≤ i → TakesMore (GivesFound name kept (drop i all)) g g
 found-all name kept all i g le =
-    subst (λ (xs : List Found). TakesMore (GivesFound name kept xs) g g) (sym (at_drop_all (λ xs. xs) all i le))
+    subst (λ (xs : List RuleSearch). TakesMore (GivesFound name kept xs) g g) (sym (at_drop_all (λ xs. xs) all i le))
     (none-taken (GivesFound name kept []) g none_found)
 
 -- what a text gives is taken, where its lines are those that are read of what is shown
-pub text-taken : (text : NamedText) (shown : ShownText) (kept : List NumberedLine) (all : List Found)
+pub text-taken : (text : NamedText) (shown : ShownText) (kept : List NumberedLine) (all : List RuleSearch)
     (g h : RulesGathered) → IsShown text shown → ReadsLines shown.of_xml shown.bytes.items kept → AreFound 0 kept all
     → TakesFound shown.name.now kept all g h → TakesMore (GivesText text) g h
 text-taken text shown kept all g h is reads finds takes =

@@ -17,7 +17,7 @@ use Rattle.abnftexts.specs.GivenRules.{RuleGiven}
 use Rattle.abnfblocks.specs.MaskedLines.{AreRead}
 use Rattle.abnfblocks.specs.TextLines.{NumberedLine}
 use Rattle.abnfblocks.specs.FoundRules.{AreFound}
-use Rattle.abnfblocks.specs.declared.found.Found.{Found}
+use Rattle.abnfblocks.specs.declared.found.RuleSearch.{RuleSearch}
 use Rattle.abnftexts.specs.RulesGathered.{NamedText, RuleLines, RulesGathered, both_given, one_rule, told_alone}
 use Rattle.abnftexts.specs.TextPlaces.{not_abnf_told}
 use Rattle.abnftexts.specs.TextRules.{GivesFound, GivesText, GiveTexts, given_by, next_rule, next_text, no_rule}
@@ -35,12 +35,13 @@ pub record OneReading : Type 0 where
   pub one_fault : (text : List ℕ) (a b : ReadFault) → IsFaultOf text a → IsFaultOf text b → a ≢ faults.Memory
       → b ≢ faults.Memory → a ≡ b
   pub kept : (text : List ℕ) (a b : List NumberedLine) → AreRead text a → AreRead text b → a ≡ b
-  pub found : (i : ℕ) (lines : List NumberedLine) (a b : List Found) → AreFound i lines a → AreFound i lines b → a ≡ b
+  pub found : (i : ℕ) (lines : List NumberedLine) (a b : List RuleSearch) → AreFound i lines a → AreFound i lines b
+      → a ≡ b
   pub tokens : (text : List ℕ) (a b : List (Tok AbnfKind)) → AreTokens text a → AreTokens text b → a ≡ b
 
 module _ (one : OneReading) where
   module _ (name : List ℕ) where
-    found-same : {kept : List NumberedLine} {all : List Found} {a b : RulesGathered} → GivesFound name kept all a
+    found-same : {kept : List NumberedLine} {all : List RuleSearch} {a b : RulesGathered} → GivesFound name kept all a
         → GivesFound name kept all b → a ≡ b
     found-same none_found none_found = refl
     found-same {kept} (next_rule {first} {count} {given = r} x h) (next_rule {given = s} y k) =
@@ -63,7 +64,7 @@ module _ (one : OneReading) where
       let gives : GivesFound text.name y.kept x.all_found a =
       subst (λ (lines : List NumberedLine). GivesFound text.name lines x.all_found a) kept x.gives in
       found-same text.name
-      (subst (λ (found : List Found). GivesFound text.name y.kept found a) all gives) y.gives
+      (subst (λ (found : List RuleSearch). GivesFound text.name y.kept found a) all gives) y.gives
 
   pub texts-same : {texts : List NamedText} {a b : RulesGathered} → GiveTexts texts a → GiveTexts texts b → a ≡ b
   texts-same no_texts no_texts = refl

@@ -6,7 +6,7 @@ use Rattle.abnfblocks.specs.MaskedLines.{AreRead}
 use Rattle.abnfblocks.specs.FoundRules.{AreFound}
 use Rattle.abnfblocks.specs.TextLines.{NumberedLine}
 use Rattle.abnfblocks.specs.RuleCuts.{lines_text, margin_at}
-use Rattle.abnfblocks.specs.declared.found.Found.{Found}
+use Rattle.abnfblocks.specs.declared.found.RuleSearch.{RuleSearch}
 use Rattle.abnftexts.specs.GivenRules.{RuleGiven}
 use Rattle.abnftexts.specs.NamedRules.{SpellsNamed}
 use Rattle.abnftexts.specs.RulesGathered.{RulesGathered, both_given, one_rule}
@@ -33,7 +33,7 @@ TakesRule name rest count old new = (d : Definition)
     → new ≡ both_given old (one_rule (place_in name rest count) (given_by d))
 
 -- where the lines are read of a text and that is found, what these give stands there
-abbrev pub TakesFound : List ℕ → List NumberedLine → List Found → RulesGathered → RulesGathered → Type 0
+abbrev pub TakesFound : List ℕ → List NumberedLine → List RuleSearch → RulesGathered → RulesGathered → Type 0
 TakesFound name kept found old new =
     (text : List ℕ) → AreRead text kept → AreFound 0 kept found
     → TakesMore (GivesFound name kept found) old new

@@ -11,8 +11,8 @@ use Rattle.abnfblocks.specs.MaskedLines.{AreRead}
 use Rattle.abnfblocks.specs.TextLines.{NumberedLine, behind_mark}
 use Rattle.abnfblocks.specs.FoundRules.{AreFound}
 use Rattle.abnfblocks.specs.RuleCuts.{blanks_first, lines_text, margin_at}
-use Rattle.abnfblocks.specs.declared.found.Found.{Found}
-use Rattle.abnfblocks.specs.declared.found.Found.TheVariants as found
+use Rattle.abnfblocks.specs.declared.found.RuleSearch.{RuleSearch}
+use Rattle.abnfblocks.specs.declared.found.RuleSearch.TheVariants as found
 use Rattle.abnftexts.specs.RulesGathered.{NamedText, RuleLines, RulesGathered, both_given, none_given, one_rule}
 use Rattle.abnftexts.specs.RulesGathered.{told_alone}
 use Rattle.abnftexts.specs.TextPlaces.{not_abnf_told}
@@ -46,14 +46,14 @@ place_in name rest count = record {
 
 -- What is found in a text of which these lines are read gives that: each rule what its lines alone spell, and each line
 -- that begins no ABNF a report.
-pub data GivesFound (name : List ℕ) (kept : List NumberedLine) : List Found → RulesGathered → Type 0 where
+pub data GivesFound (name : List ℕ) (kept : List NumberedLine) : List RuleSearch → RulesGathered → Type 0 where
   none_found : GivesFound name kept [] none_given
-  next_rule : {first count : ℕ} {others : List Found} {given : RuleGiven} {behind : RulesGathered}
+  next_rule : {first count : ℕ} {others : List RuleSearch} {given : RuleGiven} {behind : RulesGathered}
       → SpellRule (lines_text (margin_at (take count (drop first kept))) (take count (drop first kept))) given
       → GivesFound name kept others behind
       → GivesFound name kept (found.Rule first count ∷ others)
       (both_given (one_rule (place_in name (drop first kept) count) given) behind)
-  no_rule : {first count : ℕ} {fault : ReadFault} {others : List Found} {behind : RulesGathered}
+  no_rule : {first count : ℕ} {fault : ReadFault} {others : List RuleSearch} {behind : RulesGathered}
       → GivesFound name kept others behind
       → GivesFound name kept (found.NotAbnf first count fault ∷ others)
       (both_given (told_alone (not_abnf_told name (take count (drop first kept)) fault)) behind)
@@ -62,7 +62,7 @@ pub data GivesFound (name : List ℕ) (kept : List NumberedLine) : List Found �
 pub record GivesText (text : NamedText) (given : RulesGathered) : Type 0 where
   pub kept : List NumberedLine
   pub keeps : AreRead (behind_mark text.bytes) kept
-  pub all_found : List Found
+  pub all_found : List RuleSearch
   pub are_found : AreFound 0 kept all_found
   pub gives : GivesFound text.name kept all_found given
 

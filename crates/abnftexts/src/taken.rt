@@ -12,7 +12,7 @@ use crate::gathered::{Gathered, RulePlace, ShownText};
 use crate::join::GivenRule;
 use crate::own::read_rule;
 use crate::told::push_not_abnf;
-use abnfblocks::{Found, TextLine, blank_count, find_rules, joined_text, margin, read_lines};
+use abnfblocks::{RuleSearch, TextLine, blank_count, find_rules, joined_text, margin, read_lines};
 use rfcforms::{items_before, items_behind};
 use ruletable::Memory;
 use std::alloc::Global;
@@ -90,17 +90,17 @@ fn take_found<'a>(
     gathered: &mut Gathered<'a>,
     name: &'a [u8],
     kept: &[TextLine<'a>],
-    found: &[Found],
+    found: &[RuleSearch],
 ) -> Result<(), Memory>
     ensures { OnOk result (TakesFound name.now (map numbered kept.now) found.now
         (rules_gathered gathered.old) (rules_gathered gathered.new)) }
 {
     for it in found {
         match *it {
-            Found::Rule { first, count } => {
+            RuleSearch::Rule { first, count } => {
                 take_rule(alloc, gathered, name, items_behind(kept, first), count)?;
             }
-            Found::NotAbnf {
+            RuleSearch::NotAbnf {
                 first,
                 count,
                 fault,

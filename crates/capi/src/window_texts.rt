@@ -9,7 +9,7 @@ use toolrun::Status;
 
 /// The texts that the runs of some windows wrote, one run after the other.
 #[derive(Drop)]
-pub struct Texts {
+pub struct WindowTexts {
     /// The text of the output.
     pub out: Vec<u8>,
     /// The text of the error output.
@@ -18,7 +18,7 @@ pub struct Texts {
 
 /// Appends what a run wrote, and returns its lengths and its status. `NoMemory` if an allocation fails: then a part is
 /// appended, and the lengths are those of that part.
-pub fn append_run(ran: &Outputs, texts: &mut Texts) -> CResult
+pub fn append_run(ran: &Outputs, texts: &mut WindowTexts) -> CResult
     ensures { (kept : WindowRun) × IsSaved (record {
       out = ran.now.out.items;
       err = ran.now.err.items;

@@ -6,7 +6,7 @@ ghost use Rattle.toolrun.specs.Tasks.{task_does};
 
 use crate::front::Front;
 use crate::result::{CResult, nothing_done};
-use crate::window_texts::{Texts, append_run};
+use crate::window_texts::{WindowTexts, append_run};
 use memoryrun::run_plan;
 use std::alloc::Global;
 use toolrun::{Language, Plan, Settings};
@@ -43,7 +43,7 @@ fn run_window<L: Language>(
     settings: &Settings<'_, L::Options>,
     input: &[u8],
     window: CWindow,
-    texts: &mut Texts,
+    texts: &mut WindowTexts,
 ) -> CResult
     ensures { (run : WindowRun)
         × IsWindowRun (KeptRun (planned (does_of (λ t. task_does L.canonical L.runs t settings.now) plan.now.task)))
@@ -66,14 +66,14 @@ pub fn run_windows<L: Language>(
     input: &[u8],
     windows: &[CWindow],
     results: &mut [CResult],
-) -> Texts
+) -> WindowTexts
     requires count { length results.old ≡ length windows.now }
     ensures { (told : List ℕ)
         × HaveRun (KeptRun (planned (does_of (λ t. task_does L.canonical L.runs t settings.now) front.plan.task)))
         input.now windows.now result.out.items told results.new × (result.err.items ≡ front.told.items ++ told) }
 {
     let Front { told, plan } = front;
-    let mut texts = Texts {
+    let mut texts = WindowTexts {
         out: Vec::new(alloc),
         err: told,
     };

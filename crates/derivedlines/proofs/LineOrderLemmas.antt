@@ -12,8 +12,8 @@ use Rattle.letters.specs.declared.alphabet.Alphabet.{Alphabet}
 use Rattle.letterclasses.proofs.StacksLemmas.{accepted_holds, holds_accepted}
 use Rattle.lazydfa.specs.StateSets.{grammar_of, last_in, StateSet}
 use Rattle.rulepairs.specs.FirstLines.{ComesFirst, IsShortlexBefore, later, shorter, symbol}
-use Rattle.derivedlines.specs.declared.lines.Step.{Step}
-use Rattle.derivedlines.specs.declared.lines.Step.TheVariants.{Line, Done}
+use Rattle.derivedlines.specs.declared.lines.NextLine.{NextLine}
+use Rattle.derivedlines.specs.declared.lines.NextLine.TheVariants.{Line, Done}
 use Rattle.derivedlines.specs.declared.search.Change.{Change}
 use Rattle.derivedlines.specs.declared.table.Table.{Table}
 use Rattle.derivedlines.specs.LineSets.{IsLineAfter, IsFirstAfter, is_line_symbol, IsLineIn}
@@ -144,7 +144,7 @@ module _ (table : Table) (is : IsStateTable table) (limit : ℕ) where
       by (inl lt) = omega (arith, lt)
       by (inr le) = absurd (none v (line_rest v (length line) (let ge = before_length b in omega (arith, le, ge)) l) b)
 
-  pub after_longer : (line : List ℕ) (step : Step) → HasNoNextRestIn table Start line
+  pub after_longer : (line : List ℕ) (step : NextLine) → HasNoNextRestIn table Start line
       → IsFirstFrom Lines (length line + 1) step → IsLineAfter Lines line step
   after_longer line (Line w) none f = record {
     is_line = f.0;
@@ -199,7 +199,7 @@ module _ (old table : Table) (limit : ℕ) (grown : IsTableGrown old table) wher
       subst (λ set. (v : List ℕ) → IsLineIn set v → least ≤ length v → length v < count + 1 → ⊥) same_lines
       (no_line_more table grown.is limit least count (none_now least count none) can)
 
-  pub after_none : (line : List ℕ) (step : Step)
+  pub after_none : (line : List ℕ) (step : NextLine)
       → ((s : StateSet) → IsState table table.start s → HasNoNextRestIn table s line)
       → IsFirstFrom (IsLineIn (table_lines table limit)) (length line + 1) step → IsLineAfter Olds line step
   after_none line step none f =

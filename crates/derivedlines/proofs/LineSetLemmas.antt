@@ -16,9 +16,9 @@ use Rattle.letterclasses.specs.Stacks.{AreUncounted, TellsLast}
 use Rattle.lazydfa.specs.Conts.{last_of}
 use Rattle.lazydfa.specs.RunVerdicts.{IsOne}
 use Rattle.lazydfa.specs.StateSets.{AreMoreStates, AreStatesOf, grammar_of, IsStartState, last_in, StateSets}
-use Rattle.derivedlines.specs.declared.keys.Inner.{Inner}
-use Rattle.derivedlines.specs.declared.lines.Step.{Step}
-use Rattle.derivedlines.specs.declared.lines.Step.TheVariants.{Line, Done}
+use Rattle.derivedlines.specs.declared.keys.LineSymbols.{LineSymbols}
+use Rattle.derivedlines.specs.declared.lines.NextLine.{NextLine}
+use Rattle.derivedlines.specs.declared.lines.NextLine.TheVariants.{Line, Done}
 use Rattle.derivedlines.specs.declared.table.Table.{Table}
 use Rattle.derivedlines.specs.LineSets.{AreRuleLines, IsFirstStep, LineSet}
 use Rattle.derivedlines.specs.Starts.{AreClassStarts}
@@ -27,7 +27,7 @@ use Rattle.derivedlines.specs.StateTables.{table_lines}
 use Rattle.derivedlines.proofs.LineOrderLemmas.{inner_letters}
 
 -- the first table
-pub table_begun : (flat : Flat) (none : StateSets) (table : Table) (inner : Inner) → AreStatesOf flat none
+pub table_begun : (flat : Flat) (none : StateSets) (table : Table) (inner : LineSymbols) → AreStatesOf flat none
     → AreMoreStates none table.states → IsStartState table.states table.start → table.seen ≤ table.start + 1
     → AreClassStarts flat (line_symbols inner) table.starts.items → IsStrictlyIncreasing table.starts.items
     → table.rows.items ≡ [] → table.levels.items ≡ [] → table.inner ≡ inner → IsTableFor flat inner table
@@ -57,7 +57,8 @@ table_begun flat none table inner s more begins seen starts rise rows levels sym
     same : grammar_of table.states ≡ flat
     same = ap (λ v. flat_of v) more.same ∙ s.is
 
-pub table_still : (flat : Flat) (inner : Inner) (old new : Table) → IsTableFor flat inner old → IsTableGrown old new
+pub table_still : (flat : Flat) (inner : LineSymbols) (old new : Table) → IsTableFor flat inner old
+    → IsTableGrown old new
     → IsTableFor flat inner new
 table_still flat inner old new t k = record {
   is = k.is;
@@ -65,7 +66,7 @@ table_still flat inner old new t k = record {
   symbols = k.inner ∙ t.symbols;
 }
 
-abbrev pub lines_in : Flat → Inner → ℕ → LineSet
+abbrev pub lines_in : Flat → LineSymbols → ℕ → LineSet
 lines_in flat inner limit = record {
   flat = flat;
   alphabet = inner.alphabet;
@@ -73,12 +74,12 @@ lines_in flat inner limit = record {
   limit = limit;
 }
 
-pub set_is : (flat : Flat) (inner : Inner) (table : Table) (limit : ℕ) → IsTableFor flat inner table
+pub set_is : (flat : Flat) (inner : LineSymbols) (table : Table) (limit : ℕ) → IsTableFor flat inner table
     → table_lines table limit ≡ lines_in flat inner limit
 set_is flat inner table limit t =
     ap (λ v. lines_in v table.inner limit) t.grammar ∙ ap (λ v. lines_in flat v limit) t.symbols
 
-pub beginning_of : (lines : List ℕ → Type 0) (step : Step) → IsFirstFrom lines 0 step → IsFirstStep lines step
+pub beginning_of : (lines : List ℕ → Type 0) (step : NextLine) → IsFirstFrom lines 0 step → IsFirstStep lines step
 beginning_of lines (Line w) f = (f.0, λ v l. f.2 v l (omega arith))
 beginning_of lines Done f = λ v l. f v l (omega arith)
 

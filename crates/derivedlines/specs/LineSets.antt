@@ -6,8 +6,8 @@ use Rattle.flatgrammar.specs.Flat.{Flat}
 use Rattle.flatgrammar.specs.FlatVerdicts.{DerivesLine}
 use Rattle.letters.specs.Letters.{has}
 use Rattle.letters.specs.declared.alphabet.Alphabet.{Alphabet}
-use Rattle.derivedlines.specs.declared.lines.Step.{Step}
-use Rattle.derivedlines.specs.declared.lines.Step.TheVariants.{Line, Done}
+use Rattle.derivedlines.specs.declared.lines.NextLine.{NextLine}
+use Rattle.derivedlines.specs.declared.lines.NextLine.TheVariants.{Line, Done}
 use Rattle.rulepairs.specs.FirstLines.{ComesFirst, HasNoLine, IsFirstLine, IsShortlexBefore}
 
 -- whether a number is a symbol of the alphabet, and not the one that ends a line
@@ -50,11 +50,11 @@ abbrev pub HasNoneAfter : (List ℕ → Type 0) → List ℕ → Type 0
 HasNoneAfter lines before = (v : List ℕ) → lines v → IsShortlexBefore before v → ⊥
 
 -- the line after another
-abbrev pub IsLineAfter : (List ℕ → Type 0) → List ℕ → Step → Type 0
+abbrev pub IsLineAfter : (List ℕ → Type 0) → List ℕ → NextLine → Type 0
 IsLineAfter lines before (Line w) = IsFirstAfter lines before w.items
 IsLineAfter lines before Done = HasNoneAfter lines before
 
 -- the first line
-abbrev pub IsFirstStep : (List ℕ → Type 0) → Step → Type 0
+abbrev pub IsFirstStep : (List ℕ → Type 0) → NextLine → Type 0
 IsFirstStep lines (Line w) = IsFirstLine lines w.items
 IsFirstStep lines Done = HasNoLine lines

@@ -8,9 +8,9 @@ use Rattle.lazydfa.specs.StateSets.{AreMoreStates, grammar_of, IsNextState, IsSt
 use Rattle.rulepairs.specs.Alone.{AreOfGrammar}
 use Rattle.rulepairs.specs.FirstLines.{ComesFirst}
 use Rattle.rulepairs.specs.Samples.{symbol_of}
-use Rattle.derivedlines.specs.declared.keys.Inner.{Inner}
-use Rattle.derivedlines.specs.declared.lines.Step.{Step}
-use Rattle.derivedlines.specs.declared.lines.Step.TheVariants.{Line, Done}
+use Rattle.derivedlines.specs.declared.keys.LineSymbols.{LineSymbols}
+use Rattle.derivedlines.specs.declared.lines.NextLine.{NextLine}
+use Rattle.derivedlines.specs.declared.lines.NextLine.TheVariants.{Line, Done}
 use Rattle.derivedlines.specs.declared.search.Change.{Change}
 use Rattle.derivedlines.specs.declared.table.Table.{Table}
 use Rattle.derivedlines.specs.LineSets.{is_line_symbol, LineSet}
@@ -46,7 +46,7 @@ IsEntryAdded old count can new = (k : ℕ) (level : Vec Bool Global) → slice_g
     → (slice_get old k ≡ Some level) ⊎ ((k ≡ count) × (was : Vec Bool Global) × (slice_get old k ≡ Some was)
     × (level.items ≡ was.items ++ can ∷ []))
 
-abbrev pub line_symbols : Inner → ℕ → Bool
+abbrev pub line_symbols : LineSymbols → ℕ → Bool
 line_symbols inner = is_line_symbol inner.alphabet inner.terminator
 
 -- a table of states of its grammar
@@ -60,7 +60,7 @@ pub record IsStateTable (table : Table) : Type 0 where
   pub levels_are : AreLevelsOf table.states (line_symbols table.inner) table.levels.items
 
 -- .. of this one
-pub record IsTableFor (flat : Flat) (inner : Inner) (table : Table) : Type 0 where
+pub record IsTableFor (flat : Flat) (inner : LineSymbols) (table : Table) : Type 0 where
   pub is : IsStateTable table
   pub grammar : grammar_of table.states ≡ flat
   pub symbols : table.inner ≡ inner
@@ -138,7 +138,7 @@ table_lines table limit = record {
 }
 
 -- the first of the lines of at least so many symbols
-abbrev pub IsFirstFrom : (List ℕ → Type 0) → ℕ → Step → Type 0
+abbrev pub IsFirstFrom : (List ℕ → Type 0) → ℕ → NextLine → Type 0
 IsFirstFrom lines least (Line w) = lines w.items × (least ≤ length w.items)
     × ((v : List ℕ) → lines v → least ≤ length v → ComesFirst w.items v)
 IsFirstFrom lines least Done = (v : List ℕ) → lines v → least ≤ length v → ⊥

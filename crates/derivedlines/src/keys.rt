@@ -8,7 +8,7 @@ use letters::Alphabet;
 
 /// The symbols of a line: those of an alphabet but for the one that ends a line.
 #[derive(Clone, Copy)]
-pub(crate) struct Inner {
+pub(crate) struct LineSymbols {
     /// The alphabet.
     pub(crate) alphabet: Alphabet,
     /// The symbol that ends a line.
@@ -16,7 +16,7 @@ pub(crate) struct Inner {
 }
 
 /// Returns whether a number is a symbol of a line.
-pub(crate) fn is_inner(inner: Inner, number: u32) -> bool
+pub(crate) fn is_inner(inner: LineSymbols, number: u32) -> bool
     ensures { result ≡ is_line_symbol inner.alphabet inner.terminator number }
 {
     inner.alphabet.has(number) && number != u32::from(inner.terminator)

@@ -7,4 +7,4 @@ mod search;
 mod starts;
 mod table;
 
-pub use lines::{Lines, Step};
+pub use lines::{Lines, NextLine};

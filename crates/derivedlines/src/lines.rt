@@ -4,7 +4,7 @@ ghost use Rattle.abnfread.specs.AbnfViews.{rules_of};
 ghost use Rattle.derivedlines.specs.LineSets.{AreRuleLines, IsLineAfter, IsFirstStep, IsLineIn};
 ghost use Rattle.derivedlines.specs.StateTables.{IsTableFor};
 
-use crate::keys::Inner;
+use crate::keys::LineSymbols;
 use crate::search::{line_after, line_from};
 use crate::starts::find_starts;
 use crate::table::Table;
@@ -19,7 +19,7 @@ use std::marker::Model;
 
 /// The line after another. `Line`: its symbols. `Done`: there is none.
 #[derive(Drop)]
-pub enum Step {
+pub enum NextLine {
     Line(Vec<u32>),
     Done,
 }
@@ -36,7 +36,7 @@ pub struct Lines {
     /// The greatest length of a line.
     limit: u32,
     /// The symbols of a line.
-    inner: Inner,
+    inner: LineSymbols,
     /// The states that were reached; none after an allocation failed.
     table: Option<Table>,
 }
@@ -64,7 +64,7 @@ impl Model for Lines {
 fn begin_table(
     alloc: Global,
     flat: &Flat,
-    inner: Inner,
+    inner: LineSymbols,
     room: usize,
 ) -> Result<Option<Table>, Memory>
     ensures { IfOk result (λ told. IfSome told (IsTableFor flat.now inner)) }
@@ -105,7 +105,7 @@ impl Lines {
             grammar.now.judged)) }
     {
         let flat = lower(alloc, grammar, limit as usize)?;
-        let inner = Inner {
+        let inner = LineSymbols {
             alphabet,
             terminator,
         };
@@ -123,7 +123,7 @@ impl Lines {
 
     /// Returns the first line; `None` if there is no room for the states. `Memory` if an allocation fails, and `None`
     /// from then on.
-    pub fn first(&mut self) -> Result<Option<Step>, Memory>
+    pub fn first(&mut self) -> Result<Option<NextLine>, Memory>
         ensures same { self.new ≡ self.old }
         ensures first { IfOk result (λ told. IfSome told (IsFirstStep (IsLineIn self.old))) }
     {
@@ -137,7 +137,7 @@ impl Lines {
 
     /// Returns the line after another, and `Done` if there is none. `None` if there is no room for the states, or the
     /// other is no line. `Memory` if an allocation fails, and `None` from then on.
-    pub fn after(&mut self, line: &[u32]) -> Result<Option<Step>, Memory>
+    pub fn after(&mut self, line: &[u32]) -> Result<Option<NextLine>, Memory>
         ensures same { self.new ≡ self.old }
         ensures after { IfOk result (λ told. IfSome told (IsLineAfter (IsLineIn self.old) line.now)) }
     {

@@ -7,7 +7,7 @@ ghost use Rattle.derivedlines.specs.StateTables.{IsLastChange};
 ghost use Rattle.derivedlines.specs.StateTables.{IsStateTable, table_lines};
 
 use crate::keys::{key_of, symbol_at};
-use crate::lines::Step;
+use crate::lines::NextLine;
 use crate::table::{Table, add_levels, can_end, first_key, step};
 use ruletable::Memory;
 use std::alloc::Global;
@@ -129,7 +129,7 @@ pub(crate) fn line_from(
     table: &mut Table,
     least: usize,
     limit: u32,
-) -> Result<Option<Step>, Memory>
+) -> Result<Option<NextLine>, Memory>
     requires table { IsStateTable table.old }
     ensures kept { IfOk result (λ told. IsTableGrown table.old table.new) }
     ensures is { IfOk result (λ told. IfSome told (IsFirstFrom (IsLineIn (table_lines table.old limit)) least)) }
@@ -143,10 +143,10 @@ pub(crate) fn line_from(
             let Some(word) = line_of(alloc, table, count)? else {
                 return Ok(None);
             };
-            return Ok(Some(Step::Line(word)));
+            return Ok(Some(NextLine::Line(word)));
         }
     }
-    Ok(Some(Step::Done))
+    Ok(Some(NextLine::Done))
 }
 
 /// Returns the line after another; `None` if there is no room for the states, or the other is no line. `Memory` if an
@@ -156,7 +156,7 @@ pub(crate) fn line_after(
     table: &mut Table,
     line: &[u32],
     limit: u32,
-) -> Result<Option<Step>, Memory>
+) -> Result<Option<NextLine>, Memory>
     requires table { IsStateTable table.old }
     ensures kept { IfOk result (λ told. IsTableGrown table.old table.new) }
     ensures is { IfOk result (λ told. IfSome told (IsLineAfter (IsLineIn (table_lines table.old limit)) line.now)) }
@@ -172,7 +172,7 @@ pub(crate) fn line_after(
             let Some(word) = changed_line(alloc, table, line, change)? else {
                 return Ok(None);
             };
-            Ok(Some(Step::Line(word)))
+            Ok(Some(NextLine::Line(word)))
         }
     }
 }

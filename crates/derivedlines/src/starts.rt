@@ -4,7 +4,7 @@ ghost use Rattle.std.specs.List.Sorted.{IsStrictlyIncreasing};
 ghost use Rattle.derivedlines.specs.LineSets.{is_line_symbol};
 ghost use Rattle.derivedlines.specs.Starts.{AreLineBounds, AreClassStarts, HaveKeys, IsLastUpTo};
 
-use crate::keys::{Inner, is_inner, key_of};
+use crate::keys::{LineSymbols, is_inner, key_of};
 use flatgrammar::Flat;
 use letterclasses::find_classes;
 use ruletable::Memory;
@@ -24,7 +24,7 @@ fn line_bounds(alloc: Global, terminator: u8, flat: &Flat) -> Result<Vec<u32>, M
 }
 
 // Returns the keys of the bounds that are symbols of a line. `Memory` if an allocation fails.
-fn inner_keys(alloc: Global, inner: Inner, bounds: &[u32]) -> Result<Vec<u32>, Memory>
+fn inner_keys(alloc: Global, inner: LineSymbols, bounds: &[u32]) -> Result<Vec<u32>, Memory>
     ensures { IfOk result (λ keys. HaveKeys (is_line_symbol inner.alphabet inner.terminator) bounds.now keys.items) }
 {
     let mut keys = Vec::new(alloc);
@@ -37,7 +37,11 @@ fn inner_keys(alloc: Global, inner: Inner, bounds: &[u32]) -> Result<Vec<u32>, M
 }
 
 /// Returns the keys at which classes of symbols of a line start, in ascending order. `Memory` if an allocation fails.
-pub(crate) fn find_starts(alloc: Global, inner: Inner, flat: &Flat) -> Result<Vec<u32>, Memory>
+pub(crate) fn find_starts(
+    alloc: Global,
+    inner: LineSymbols,
+    flat: &Flat,
+) -> Result<Vec<u32>, Memory>
     ensures starts { IfOk result (λ starts. AreClassStarts flat.now (is_line_symbol inner.alphabet inner.terminator)
         starts.items) }
     ensures rise { IfOk result (λ starts. IsStrictlyIncreasing starts.items) }

@@ -5,7 +5,7 @@ ghost use Rattle.derivedlines.specs.StateTables.{HasRestIn, IsCan, IsEntryAdded,
 ghost use Rattle.derivedlines.specs.StateTables.{IsStateTable};
 ghost use Rattle.derivedlines.specs.StateTables.{IsStep, IsWholeRow, TakesKeyIn};
 
-use crate::keys::{Inner, is_inner, key_of, symbol_at};
+use crate::keys::{LineSymbols, is_inner, key_of, symbol_at};
 use crate::starts::start_up_to;
 use lazydfa::States;
 use ruletable::Memory;
@@ -16,7 +16,7 @@ use std::alloc::Global;
 #[derive(Drop)]
 pub(crate) struct Table {
     /// The symbols of a line.
-    pub(crate) inner: Inner,
+    pub(crate) inner: LineSymbols,
     /// The states.
     pub(crate) states: States,
     /// The number of the start state.

@@ -4,13 +4,14 @@ use Rattle.std.proofs.Common.{◌≡◌, ◌⊎◌, inl, inr, ⊎_elim, ℕ, Lis
 use Rattle.std.proofs.Common.{subst}
 use Rattle.earley.specs.RowSets.{Rows, HasAt, AddsAt}
 use Rattle.flatgrammar.specs.Blocks.{spot}
-use Rattle.flatgrammar.specs.declared.block.Spot.{Spot}
+use Rattle.flatgrammar.specs.declared.block.DottedRule.{DottedRule}
 use Rattle.flatgrammar.specs.declared.flat_item.Item.{Item}
 use Rattle.earley.specs.RowItems.{IsRowItem, Gains}
 use Rattle.earley.proofs.RowItemsLemmas.{contains_or}
 
 -- nothing
-pub gains_none : (spots : List Spot) (Q : Item → Type 0) (old : Rows) → ((a : Item) → Q a → IsRowItem spots old.all a)
+pub gains_none : (spots : List DottedRule) (Q : Item → Type 0) (old : Rows)
+    → ((a : Item) → Q a → IsRowItem spots old.all a)
     → Gains spots Q old old
 gains_none spots Q old held = record {
   count = refl;
@@ -23,7 +24,7 @@ gains_none spots Q old held = record {
 }
 
 -- one after the other, under another name for what both gain
-pub gains_both : (spots : List Spot) (P Q R : Item → Type 0) (old mid new : Rows) → Gains spots P old mid
+pub gains_both : (spots : List DottedRule) (P Q R : Item → Type 0) (old mid new : Rows) → Gains spots P old mid
     → Gains spots Q mid new → ((a : Item) → R a → P a ⊎ Q a) → ((a : Item) → P a → R a) → ((a : Item) → Q a → R a)
     → Gains spots R old new
 gains_both spots P Q R old mid new p q cases left right = record {
@@ -37,7 +38,7 @@ gains_both spots P Q R old mid new p q cases left right = record {
   within = λ a h. ⊎_elim (λ g. ⊎_elim (λ f. inl f) (λ f. inr (q.kept a f)) (p.within a g)) (λ g. inr g) (q.within a h);
 }
 
-pub gains_as : (spots : List Spot) (P Q : Item → Type 0) (old new : Rows) → ((a : Item) → P a → Q a)
+pub gains_as : (spots : List DottedRule) (P Q : Item → Type 0) (old new : Rows) → ((a : Item) → P a → Q a)
     → ((a : Item) → Q a → P a) → Gains spots P old new → Gains spots Q old new
 gains_as spots P Q old new to back p = record {
   count = p.count;
@@ -50,7 +51,7 @@ gains_as spots P Q old new to back p = record {
 }
 
 -- under a name for more, all of which is there
-pub gains_more : (spots : List Spot) (P Q : Item → Type 0) (old new : Rows) → ((a : Item) → P a → Q a)
+pub gains_more : (spots : List DottedRule) (P Q : Item → Type 0) (old new : Rows) → ((a : Item) → P a → Q a)
     → ((a : Item) → Q a → P a ⊎ IsRowItem spots new.all a) → Gains spots P old new → Gains spots Q old new
 gains_more spots P Q old new to cases p = record {
   count = p.count;
@@ -63,7 +64,7 @@ gains_more spots P Q old new to cases p = record {
 }
 
 -- the numbers that one place got
-pub gains_at : (spots : List Spot) (p : ℕ) (P : ℕ → Type 0) (old new : Rows) → AddsAt p P old new
+pub gains_at : (spots : List DottedRule) (p : ℕ) (P : ℕ → Type 0) (old new : Rows) → AddsAt p P old new
     → Gains spots (λ a. (slice_get spots p ≡ Some (spot a.node a.step)) × P a.origin) old new
 gains_at spots p P old new adds = record {
   count = adds.count;

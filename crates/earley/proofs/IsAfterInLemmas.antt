@@ -7,7 +7,7 @@ use Rattle.earley.specs.RowSets.{Rows, HasAt, AddsAt}
 use Rattle.earleyitems.specs.ItemSets.{IsAdvanced, waiting_in}
 use Rattle.flatgrammar.specs.Blocks.{spot}
 use Rattle.flatgrammar.specs.Places.{In}
-use Rattle.flatgrammar.specs.declared.block.Spot.{Spot}
+use Rattle.flatgrammar.specs.declared.block.DottedRule.{DottedRule}
 use Rattle.flatgrammar.specs.declared.flat_item.Item.{Item}
 use Rattle.flatgrammar.specs.declared.tables.Tables as code_flat
 use Rattle.earley.specs.PlaceTables.{AreSteps, AreCallsTo}
@@ -15,7 +15,7 @@ use Rattle.earley.specs.RowCharts.{row_views}
 use Rattle.earley.specs.RowIndexes.{rows_at, AreIndexed, IsAfterIn, IsAfterLast, IsAfterOwn, IsAfterSome}
 use Rattle.earley.specs.RowItems.{row_items, Gains, IsRowItem, IsAfterCall, IsCompletedBy}
 use Rattle.earley.specs.declared.place_table.Call.{Call}
-use Rattle.earley.specs.declared.place_table.Step.{Step}
+use Rattle.earley.specs.declared.place_table.DottedActions.{DottedActions}
 use Rattle.earley.specs.declared.row_index.FilledSets.{FilledSets}
 use Rattle.earley.specs.declared.row_sets.KeptRows.{KeptRows}
 use Rattle.earley.proofs.GainsLemmas.{gains_none, gains_both, gains_as, gains_more, gains_at}
@@ -24,7 +24,7 @@ use Rattle.earley.proofs.RowStepLemmas.{front_cases, front_old, front_new, get_i
 use Rattle.earley.proofs.RowStepLemmas.{none_advanced, called_advanced, advanced_called}
 
 -- the place's own sets
-module _ (spots : List Spot) (call : Call) (own : List (List ℕ)) (row : List ℕ) (old new : Rows) where
+module _ (spots : List DottedRule) (call : Call) (own : List (List ℕ)) (row : List ℕ) (old new : Rows) where
   pub own_added : (mine both : List ℕ) → slice_get own call.from ≡ Some mine
       → ((k : ℕ) → Contains both k ↔ (Contains row k × Contains mine k))
       → AddsAt call.after (λ k. Contains both k) old new → Gains spots (IsAfterOwn spots call own row) old new
@@ -42,7 +42,7 @@ module _ (spots : List Spot) (call : Call) (own : List (List ℕ)) (row : List �
       (λ a h. absurd (none_contains a.origin (subst (λ v. Contains v a.origin) (get_no_index own call.from is) h.own)))
 
 -- the sets of the numbers of a row, as far as a loop has come
-module _ (spots : List Spot) (call : Call) (sets : List KeptRows) (row : List ℕ) (old : Rows) where
+module _ (spots : List DottedRule) (call : Call) (sets : List KeptRows) (row : List ℕ) (old : Rows) where
   pub each_none : Gains spots (IsAfterIn spots call sets row 0) old old
   each_none = gains_none spots (IsAfterIn spots call sets row 0) old
       (λ a h. let lt = h.under in absurd (omega (arith, lt)))
@@ -81,7 +81,7 @@ set_within (s ∷ sets) zero p k h = omega arith
 set_within (s ∷ sets) (suc o) p k h = let lt = set_within sets o p k h in omega (arith, lt)
 
 -- the set of the greatest number of a row
-module _ (spots : List Spot) (call : Call) (sets : List KeptRows) (row : List ℕ) (old new : Rows) where
+module _ (spots : List DottedRule) (call : Call) (sets : List KeptRows) (row : List ℕ) (old new : Rows) where
   abbrev Last : Item → Type 0
   Last = IsAfterLast spots call sets row (length sets)
 
@@ -113,7 +113,7 @@ module _ (spots : List Spot) (call : Call) (sets : List KeptRows) (row : List �
       gains
 
 -- the rest, where the place's own sets are done
-module _ (spots : List Spot) (places : ℕ) (filled : FilledSets) (are : AreIndexed places filled) (call : Call)
+module _ (spots : List DottedRule) (places : ℕ) (filled : FilledSets) (are : AreIndexed places filled) (call : Call)
     (row : List ℕ) where
   abbrev count : ℕ
   count = length filled.sets.items
@@ -206,7 +206,8 @@ module _ (spots : List Spot) (places : ℕ) (filled : FilledSets) (are : AreInde
           mid new last gains (λ a h. inr h) (λ a h. h.after) (λ a h. h))
 
 -- the calls as far as a loop has come
-module _ (spots : List Spot) (calls : List Call) (sets : List KeptRows) (row : List ℕ) (below : ℕ) (old : Rows) where
+module _ (spots : List DottedRule) (calls : List Call) (sets : List KeptRows) (row : List ℕ) (below : ℕ)
+    (old : Rows) where
   pub some_none : Gains spots (IsAfterSome spots (take 0 calls) sets row below) old old
   some_none = gains_none spots (IsAfterSome spots (take 0 calls) sets row below) old (λ a h. nothing a h.stands)
     where
@@ -228,18 +229,19 @@ module _ (spots : List Spot) (calls : List Call) (sets : List KeptRows) (row : L
       (λ a h. record { call = slice_index_or calls i d; stands = front_new calls i d lt; after = h })
 
 -- the set that waits for a completion
-no_row_items : (spots : List Spot) → row_items spots [] ≡ []
+no_row_items : (spots : List DottedRule) → row_items spots [] ≡ []
 no_row_items [] = refl
 no_row_items (s ∷ spots) = refl
 
-waits_at : (spots : List Spot) (sets : List KeptRows) (o : ℕ)
+waits_at : (spots : List DottedRule) (sets : List KeptRows) (o : ℕ)
     → waiting_in (row_views spots sets) [] o ≡ row_items spots (rows_at sets o)
 waits_at spots [] o = sym (no_row_items spots)
 waits_at spots (s ∷ sets) zero = refl
 waits_at spots (s ∷ sets) (suc o) = waits_at spots sets o
 
 -- the calls of a root complete it
-module _ (flat : code_flat.Tables) (spots : List Spot) (steps : List Step) (are : AreSteps flat spots steps) (root : ℕ)
+module _ (flat : code_flat.Tables) (spots : List DottedRule) (steps : List DottedActions)
+    (are : AreSteps flat spots steps) (root : ℕ)
     (sets : List KeptRows) (row : List ℕ) (below : ℕ) (old : Rows) where
   pub some_completed : (calls : List Call) → AreCallsTo steps root calls → (new : Rows)
       → Gains spots (IsAfterSome spots calls sets row below) old new

@@ -9,24 +9,24 @@ use Rattle.flatgrammar.proofs.SliceGetLemmas.{push_cases}
 use Rattle.flatgrammar.proofs.InLemmas.{in_left, at_end, before_end, different_end}
 use Rattle.flatgrammar.specs.Blocks.{spot}
 use Rattle.flatgrammar.specs.Places.{In, AreDifferent}
-use Rattle.flatgrammar.specs.declared.block.Spot.{Spot}
+use Rattle.flatgrammar.specs.declared.block.DottedRule.{DottedRule}
 use Rattle.flatgrammar.specs.declared.tables.Tables as code_flat
 use Rattle.earley.specs.PlaceTables.{AreBelow, AreFirstPlaces, IsCallTo, AreCallsBelow, IsStep, IsRootAt, AreStarts}
 use Rattle.earley.specs.PlaceTables.{AreStartsIf, IsReached}
 use Rattle.earley.specs.declared.place_table.Call.{Call}
 use Rattle.earley.specs.declared.place_table.Called.{Called}
 use Rattle.earley.specs.declared.place_table.RootPlaces.{RootPlaces}
-use Rattle.earley.specs.declared.place_table.Step.{Step}
+use Rattle.earley.specs.declared.place_table.DottedActions.{DottedActions}
 
 -- different places, below a step of a node
-pub record AreBelowStep (node step : ℕ) (spots : List Spot) : Type 0 where
-  pub below : (p : Spot) → In p spots → (p.node < node) ⊎ ((p.node ≡ node) × (p.step < step))
+pub record AreBelowStep (node step : ℕ) (spots : List DottedRule) : Type 0 where
+  pub below : (p : DottedRule) → In p spots → (p.node < node) ⊎ ((p.node ≡ node) × (p.step < step))
   pub different : AreDifferent spots
 
-pub below_step : (node : ℕ) (spots : List Spot) → AreBelow node spots → AreBelowStep node 0 spots
+pub below_step : (node : ℕ) (spots : List DottedRule) → AreBelow node spots → AreBelowStep node 0 spots
 below_step node spots b = record { below = λ p h. inl (b.below p h); different = b.different }
 
-pub below_next : (node step : ℕ) (spots : List Spot) → AreBelowStep node step spots
+pub below_next : (node step : ℕ) (spots : List DottedRule) → AreBelowStep node step spots
     → AreBelowStep node (step + 1) (spots ++ spot node step ∷ [])
 below_next node step spots b = record {
   below = λ p h. ⊎_elim
@@ -39,14 +39,14 @@ below_next node step spots b = record {
       b.different;
 }
 
-pub below_done : (node step : ℕ) (spots : List Spot) → AreBelowStep node step spots → AreBelow (node + 1) spots
+pub below_done : (node step : ℕ) (spots : List DottedRule) → AreBelowStep node step spots → AreBelow (node + 1) spots
 below_done node step spots b = record {
   below = λ p h. ⊎_elim (λ f. omega (arith, f)) (λ f. let is = f.0 in omega (arith, is)) (b.below p h);
   different = b.different;
 }
 
 -- the places of one step more
-pub first_none : (spots : List Spot) (node : ℕ) → AreFirstPlaces spots node 0 []
+pub first_none : (spots : List DottedRule) (node : ℕ) → AreFirstPlaces spots node 0 []
 first_none spots node = record {
   only = λ p h. nothing p h;
   all = λ k lt. absurd (omega (arith, lt));
@@ -55,7 +55,7 @@ first_none spots node = record {
     nothing : {A : Type 0} (p : ℕ) → In p [] → A
     nothing p h = elim h [ ]
 
-pub first_next : (spots : List Spot) (node k p : ℕ) (places : List ℕ) → AreFirstPlaces spots node k places
+pub first_next : (spots : List DottedRule) (node k p : ℕ) (places : List ℕ) → AreFirstPlaces spots node k places
     → slice_get spots p ≡ Some (spot node k) → AreFirstPlaces spots node (k + 1) (places ++ p ∷ [])
 first_next spots node k p places are is = record {
   only = λ q h. ⊎_elim (λ g. let o = are.only q g in let lt = o.1 in (o.0, omega (arith, lt), o.2))
@@ -67,11 +67,13 @@ first_next spots node k p places are is = record {
 }
 
 -- one step more
-pub steps_next : (flat : code_flat.Tables) (spots : List Spot) (steps : List Step) (step : Step) (now : Spot)
-    → ((p : ℕ) (at : Spot) (s : Step) → slice_get spots p ≡ Some at → slice_get steps p ≡ Some s
+pub steps_next : (flat : code_flat.Tables) (spots : List DottedRule) (steps : List DottedActions)
+    (step : DottedActions) (now : DottedRule)
+    → ((p : ℕ) (at : DottedRule) (s : DottedActions) → slice_get spots p ≡ Some at → slice_get steps p ≡ Some s
     → IsStep flat spots at s)
     → slice_get spots (length steps) ≡ Some now → IsStep flat spots now step
-    → (p : ℕ) (at : Spot) (s : Step) → slice_get spots p ≡ Some at → slice_get (steps ++ step ∷ []) p ≡ Some s
+    → (p : ℕ) (at : DottedRule) (s : DottedActions) → slice_get spots p ≡ Some at
+    → slice_get (steps ++ step ∷ []) p ≡ Some s
     → IsStep flat spots at s
 steps_next flat spots steps step now each now_is tells p at s at_is is =
     ⊎_elim (λ was. each p at s at_is was)
@@ -80,7 +82,8 @@ steps_next flat spots steps step now each now_is tells p at s at_is is =
     (push_cases steps step p s is)
 
 -- one root more
-pub roots_next : (flat : code_flat.Tables) (spots : List Spot) (steps : List Step) (roots : List RootPlaces)
+pub roots_next : (flat : code_flat.Tables) (spots : List DottedRule) (steps : List DottedActions)
+    (roots : List RootPlaces)
     (root : RootPlaces)
     → ((t : ℕ) (r : RootPlaces) → slice_get roots t ≡ Some r → IsRootAt flat spots steps t r)
     → IsRootAt flat spots steps (length roots) root
@@ -92,7 +95,8 @@ roots_next flat spots steps roots root each tells t r is =
     (push_cases roots root t r is)
 
 -- one place more that may call
-module _ (steps : List Step) (root from : ℕ) (step : Step) (is : slice_get steps from ≡ Some step) (calls : List Call)
+module _ (steps : List DottedActions) (root from : ℕ) (step : DottedActions) (is : slice_get steps from
+    ≡ Some step) (calls : List Call)
     (are : AreCallsBelow steps root from calls) where
   pub calls_kept : (called : Called) → step.called ≡ Some called → called.root ≡ root
       → AreCallsBelow steps root (from + 1) (calls ++ record { from = from; after = called.after } ∷ [])
@@ -136,7 +140,7 @@ get_or_index [] i d lt = absurd (omega arith)
 get_or_index (x ∷ xs) zero d lt = refl
 get_or_index (x ∷ xs) (suc i) d lt = get_or_index xs i d (omega (arith, lt))
 
-pub below_calls_none : (steps : List Step) (root : ℕ) → AreCallsBelow steps root 0 []
+pub below_calls_none : (steps : List DottedActions) (root : ℕ) → AreCallsBelow steps root 0 []
 below_calls_none steps root = record {
   only = λ c h. nothing c h;
   all = λ p s d lt. absurd (omega (arith, lt));
@@ -146,7 +150,8 @@ below_calls_none steps root = record {
     nothing c h = elim h [ ]
 
 -- the starts of a root that is reached
-pub reached_starts : (flat : code_flat.Tables) (spots : List Spot) (steps : List Step) (roots : List RootPlaces)
+pub reached_starts : (flat : code_flat.Tables) (spots : List DottedRule) (steps : List DottedActions)
+    (roots : List RootPlaces)
     (root : ℕ) (r : RootPlaces) → IsRootAt flat spots steps root r → IsReached roots root
     → slice_get roots root ≡ Some r → AreStarts flat spots root r.starts.items
 reached_starts flat spots steps roots root r tells reached is =

@@ -12,7 +12,7 @@ use Rattle.flatgrammar.specs.Flat.{at}
 use Rattle.flatgrammar.specs.Holds.{Holds}
 use Rattle.flatgrammar.specs.NodeSteps.{flat_of}
 use Rattle.flatgrammar.specs.TableViews.{GiveRoots}
-use Rattle.flatgrammar.specs.declared.block.Spot.{Spot}
+use Rattle.flatgrammar.specs.declared.block.DottedRule.{DottedRule}
 use Rattle.flatgrammar.specs.declared.flat_item.Item.{Item}
 use Rattle.flatgrammar.specs.declared.tables.Tables as code_flat
 use Rattle.earley.specs.RowCharts.{row_views, rows_chart, IsSizedChart}
@@ -23,7 +23,7 @@ use Rattle.earley.proofs.RowItemsLemmas.{row_item_in, in_row_item}
 
 -- the last set decides
 pub row_answer : (flat : code_flat.Tables) → GiveRoots (flat_of flat) flat.roots.items
-    → (x : List ℕ) (spots : List Spot)
+    → (x : List ℕ) (spots : List DottedRule)
     (sets : List KeptRows) (kept : KeptRows) (n : ℕ) → IsBuilt flat x (row_views spots sets)
     → slice_get (row_views spots sets) n ≡ Some (row_items spots kept.rows.items)
     → IsRowItem spots kept.rows.items (record { node = flat.whole; step = 1; origin = 0 })

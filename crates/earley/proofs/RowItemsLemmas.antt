@@ -16,7 +16,7 @@ use Rattle.flatgrammar.proofs.CallOfLemmas.{some_same, equal_or}
 use Rattle.flatgrammar.proofs.InLemmas.{in_left}
 use Rattle.flatgrammar.specs.Blocks.{item_at, spot}
 use Rattle.flatgrammar.specs.Places.{In, now, on, AreDifferent}
-use Rattle.flatgrammar.specs.declared.block.Spot.{Spot}
+use Rattle.flatgrammar.specs.declared.block.DottedRule.{DottedRule}
 use Rattle.flatgrammar.specs.declared.flat_item.Item.{Item}
 use Rattle.earley.specs.RowItems.{IsRowItem, row_items}
 
@@ -54,23 +54,23 @@ no_number (suc n) zero k h = none_contains k h
 no_number (suc n) (suc p) k h = no_number n p k h
 
 -- the items of one place
-number_in : (s : Spot) (row : List ℕ) (k : ℕ) → In k row → In (item_at k s) (map (λ n. item_at n s) row)
+number_in : (s : DottedRule) (row : List ℕ) (k : ℕ) → In k row → In (item_at k s) (map (λ n. item_at n s) row)
 number_in s [] k h = elim h [ ]
 number_in s (n ∷ row) k (now same) = now (ap (λ v. item_at v s) same)
 number_in s (n ∷ row) k (on h) = on (number_in s row k h)
 
-record Numbered (s : Spot) (row : List ℕ) (a : Item) : Type 0 where
+record Numbered (s : DottedRule) (row : List ℕ) (a : Item) : Type 0 where
   number : ℕ
   stands : In number row
   is : a ≡ item_at number s
 
-in_numbers : (s : Spot) (row : List ℕ) (a : Item) → In a (map (λ n. item_at n s) row) → Numbered s row a
+in_numbers : (s : DottedRule) (row : List ℕ) (a : Item) → In a (map (λ n. item_at n s) row) → Numbered s row a
 in_numbers s [] a h = elim h [ ]
 in_numbers s (n ∷ row) a (now same) = record { number = n; stands = now refl; is = same }
 in_numbers s (n ∷ row) a (on h) = let f = in_numbers s row a h in
     record { number = f.number; stands = on f.stands; is = f.is }
 
-at_row_in : (spots : List Spot) (rows : List (List ℕ)) (p : ℕ) (a : Item)
+at_row_in : (spots : List DottedRule) (rows : List (List ℕ)) (p : ℕ) (a : Item)
     → slice_get spots p ≡ Some (spot a.node a.step) → HasAt rows p a.origin → In a (row_items spots rows)
 at_row_in [] rows p a is has = absurd (cc is)
 at_row_in (s ∷ spots) [] p a is has = absurd (none_contains a.origin has)
@@ -81,11 +81,12 @@ at_row_in (s ∷ spots) (row ∷ rows) zero a is has =
 at_row_in (s ∷ spots) (row ∷ rows) (suc p) a is has =
     in_right (map (λ n. item_at n s) row) (at_row_in spots rows p a is has)
 
-pub row_item_in : (spots : List Spot) (rows : List (List ℕ)) (a : Item) → IsRowItem spots rows a
+pub row_item_in : (spots : List DottedRule) (rows : List (List ℕ)) (a : Item) → IsRowItem spots rows a
     → In a (row_items spots rows)
 row_item_in spots rows a h = at_row_in spots rows h.place a h.is h.has
 
-here_item : (s : Spot) (row : List ℕ) (spots : List Spot) (rows : List (List ℕ)) (a : Item) → Numbered s row a
+here_item : (s : DottedRule) (row : List ℕ) (spots : List DottedRule) (rows : List (List ℕ)) (a : Item)
+    → Numbered s row a
     → IsRowItem (s ∷ spots) (row ∷ rows) a
 here_item s row spots rows a f = record {
   place = zero;
@@ -93,11 +94,12 @@ here_item s row spots rows a f = record {
   has = in_contains row a.origin (subst (λ v. In v row) (sym (ap (λ v. v.origin) f.is)) f.stands);
 }
 
-there_item : (s : Spot) (row : List ℕ) (spots : List Spot) (rows : List (List ℕ)) (a : Item) → IsRowItem spots rows a
+there_item : (s : DottedRule) (row : List ℕ) (spots : List DottedRule) (rows : List (List ℕ)) (a : Item)
+    → IsRowItem spots rows a
     → IsRowItem (s ∷ spots) (row ∷ rows) a
 there_item s row spots rows a h = record { place = suc h.place; is = h.is; has = h.has }
 
-pub in_row_item : (spots : List Spot) (rows : List (List ℕ)) (a : Item) → In a (row_items spots rows)
+pub in_row_item : (spots : List DottedRule) (rows : List (List ℕ)) (a : Item) → In a (row_items spots rows)
     → IsRowItem spots rows a
 in_row_item [] rows a h = elim h [ ]
 in_row_item (s ∷ spots) [] a h = elim h [ ]
@@ -106,7 +108,7 @@ in_row_item (s ∷ spots) (row ∷ rows) a h =
     (λ r. there_item s row spots rows a (in_row_item spots rows a r)) (in_either (map (λ n. item_at n s) row) h)
 
 -- how many they are
-pub length_row_items : (spots : List Spot) (rows : List (List ℕ)) → length spots ≡ length rows
+pub length_row_items : (spots : List DottedRule) (rows : List (List ℕ)) → length spots ≡ length rows
     → length (row_items spots rows) ≡ sum_by (λ row. length row) rows
 length_row_items [] [] same = refl
 length_row_items [] (row ∷ rows) same = absurd (omega (arith, same))
@@ -127,7 +129,7 @@ pairs_different (x ∷ xs) pairs = (
   pairs_different xs (λ i j d lt below. pairs (suc i) (suc j) d (omega (arith, lt)) (omega (arith, below))),
 )
 
-numbers_different : (s : Spot) (row : List ℕ) → AreDifferent row → AreDifferent (map (λ n. item_at n s) row)
+numbers_different : (s : DottedRule) (row : List ℕ) → AreDifferent row → AreDifferent (map (λ n. item_at n s) row)
 numbers_different s [] d = tt
 numbers_different s (n ∷ row) d = (
   (λ h. let f = in_numbers s row (item_at n s) h in
@@ -135,12 +137,12 @@ numbers_different s (n ∷ row) d = (
   numbers_different s row d.1,
 )
 
-in_spots : (spots : List Spot) (p : ℕ) (s : Spot) → slice_get spots p ≡ Some s → In s spots
+in_spots : (spots : List DottedRule) (p : ℕ) (s : DottedRule) → slice_get spots p ≡ Some s → In s spots
 in_spots [] p s is = absurd (cc is)
 in_spots (t ∷ spots) zero s is = now (sym (some_same is))
 in_spots (t ∷ spots) (suc p) s is = on (in_spots spots p s is)
 
-pub row_items_different : (spots : List Spot) (rows : List (List ℕ)) → AreDifferent spots
+pub row_items_different : (spots : List DottedRule) (rows : List (List ℕ)) → AreDifferent spots
     → ((p : ℕ) → IsStrictlyIncreasing (slice_index_or rows p [])) → AreDifferent (row_items spots rows)
 row_items_different [] rows d up = tt
 row_items_different (s ∷ spots) [] d up = tt

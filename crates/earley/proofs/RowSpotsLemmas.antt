@@ -11,7 +11,7 @@ use Rattle.flatgrammar.proofs.InLemmas.{at_end, before_end, in_left}
 use Rattle.flatgrammar.specs.Blocks.{item_at}
 use Rattle.flatgrammar.specs.Flat.{Place, at}
 use Rattle.flatgrammar.specs.Places.{In}
-use Rattle.flatgrammar.specs.declared.block.Spot.{Spot}
+use Rattle.flatgrammar.specs.declared.block.DottedRule.{DottedRule}
 use Rattle.flatgrammar.specs.declared.flat_item.Item.{Item}
 use Rattle.earleyitems.proofs.ChartSetsLemmas.{index_map, index_past}
 use Rattle.earleyitems.proofs.SetSpotsLemmas.{in_pairs, pair_in}
@@ -22,12 +22,12 @@ use Rattle.earley.specs.RowItems.{AreSpotsBelow, HasSpotBelow, row_items}
 use Rattle.earley.specs.declared.row_sets.KeptRows.{KeptRows}
 use Rattle.earley.specs.declared.row_sets.RowChart.{RowChart}
 
-module _ (spots : List Spot) (rows : List (List ℕ)) (i : ℕ) where
-  wider_below : (s : Spot) → HasSpotBelow spots rows i s → HasSpotBelow spots rows (i + 1) s
+module _ (spots : List DottedRule) (rows : List (List ℕ)) (i : ℕ) where
+  wider_below : (s : DottedRule) → HasSpotBelow spots rows i s → HasSpotBelow spots rows (i + 1) s
   wider_below s h = let lt = h.under in record { place = h.place; under = omega (arith, lt); is = h.is; some = h.some }
 
   -- below the place, or there
-  there_or_below : (s : Spot) (h : HasSpotBelow spots rows (i + 1) s) → HasSpotBelow spots rows i s
+  there_or_below : (s : DottedRule) (h : HasSpotBelow spots rows (i + 1) s) → HasSpotBelow spots rows i s
       ⊎ ((slice_get spots i ≡ Some s) × HasSome rows i)
   there_or_below s h = by (cases_lt h.place i)
     where
@@ -38,7 +38,7 @@ module _ (spots : List Spot) (rows : List (List ℕ)) (i : ℕ) where
           let same : h.place ≡ i = let lt = h.under in omega (arith, lt, le) in
           inr (subst (λ v. slice_get spots v ≡ Some s) same h.is, subst (λ v. HasSome rows v) same h.some)
 
-  pub spots_more : (d : Spot) (old new : List Spot) → i < length spots → AreSpotsBelow spots rows i old
+  pub spots_more : (d : DottedRule) (old new : List DottedRule) → i < length spots → AreSpotsBelow spots rows i old
       → new ≡ old ++ slice_index_or spots i d ∷ [] → HasSome rows i → AreSpotsBelow spots rows (i + 1) new
   spots_more d old new lt before is some s = (
     λ h. ⊎_elim (λ g. wider_below s ((before s).0 g)) (λ same. record {
@@ -53,7 +53,7 @@ module _ (spots : List Spot) (rows : List (List ℕ)) (i : ℕ) where
         (there_or_below s h)),
   )
 
-  pub spots_same : (old new : List Spot) → AreSpotsBelow spots rows i old → new ≡ old → (HasSome rows i → ⊥)
+  pub spots_same : (old new : List DottedRule) → AreSpotsBelow spots rows i old → new ≡ old → (HasSome rows i → ⊥)
       → AreSpotsBelow spots rows (i + 1) new
   spots_same old new before is none s = (
     λ h. wider_below s ((before s).0 (subst (λ v. In s v) is h)),
@@ -61,7 +61,7 @@ module _ (spots : List Spot) (rows : List (List ℕ)) (i : ℕ) where
   )
 
 -- the dotted rules of a set that is kept as rows
-rows_tell : (spots : List Spot) (rows : List (List ℕ)) (found : List Spot)
+rows_tell : (spots : List DottedRule) (rows : List (List ℕ)) (found : List DottedRule)
     → AreSpotsBelow spots rows (length spots) found → AreSpotsOf (map pair (row_items spots rows)) found
 rows_tell spots rows found are s = (
   λ h. let f = (are s).0 h in
@@ -81,7 +81,7 @@ rows_tell spots rows found are s = (
       }),
 )
 
-pub row_chart_spots : (r : RowChart) (j : ℕ) (kept : KeptRows) (found : List Spot)
+pub row_chart_spots : (r : RowChart) (j : ℕ) (kept : KeptRows) (found : List DottedRule)
     → slice_get r.sets.items j ≡ Some kept
     → AreSpotsBelow r.table.spots.items kept.rows.items (length r.table.spots.items) found
     → AreSpotsOf (set_at (rows_chart r) j) found
@@ -92,7 +92,7 @@ row_chart_spots r j kept found is are =
     (get_map (λ s. row_items r.table.spots.items s.rows.items) r.sets.items j is)))
     (rows_tell r.table.spots.items kept.rows.items found are)
 
-pub row_past_spots : (r : RowChart) (j : ℕ) (found : List Spot) → length r.sets.items ≤ j → found ≡ []
+pub row_past_spots : (r : RowChart) (j : ℕ) (found : List DottedRule) → length r.sets.items ≤ j → found ≡ []
     → AreSpotsOf (set_at (rows_chart r) j) found
 row_past_spots r j found le none =
     let count = length-map r.sets.items (λ s. row_items r.table.spots.items s.rows.items) in
@@ -101,8 +101,8 @@ row_past_spots r j found le none =
     (omega (arith, le, count))))
     (λ s. ((λ h. nobody s (subst (λ v. In s v) none h)), λ h. no_pair s h.origin h.stands))
   where
-    nobody : (s : Spot) → In s [] → HasSpot [] s
+    nobody : (s : DottedRule) → In s [] → HasSpot [] s
     nobody s h = elim h [ ]
 
-    no_pair : (s : Spot) (i : ℕ) → In {A = Place × ℕ} (at s.node s.step, i) [] → In s found
+    no_pair : (s : DottedRule) (i : ℕ) → In {A = Place × ℕ} (at s.node s.step, i) [] → In s found
     no_pair s i h = elim h [ ]

@@ -20,7 +20,7 @@ use Rattle.flatgrammar.specs.Blocks.{item_at, spot, call_at, begin_count}
 use Rattle.flatgrammar.specs.Places.{In}
 use Rattle.flatgrammar.specs.NodeSteps.{IfSomeSet}
 use Rattle.flatgrammar.specs.TableViews.{call_of, count_in, done_of, null_of, takes_of, read_of, whole_root}
-use Rattle.flatgrammar.specs.declared.block.Spot.{Spot}
+use Rattle.flatgrammar.specs.declared.block.DottedRule.{DottedRule}
 use Rattle.flatgrammar.specs.declared.flat_item.Item.{Item}
 use Rattle.flatgrammar.specs.declared.tables.Tables as code_flat
 use Rattle.earley.specs.PlaceTables.{IsCallAt, IsCalledAt, IsStep, AreSteps, AreStarts, AreCallsTo}
@@ -29,7 +29,7 @@ use Rattle.earley.specs.RowItems.{row_items, Gains, IsAfterCall, IsFor, IsComple
 use Rattle.earley.specs.RowItems.{IsScannedFor}
 use Rattle.earley.specs.declared.place_table.Call.{Call}
 use Rattle.earley.specs.declared.place_table.Called.{Called}
-use Rattle.earley.specs.declared.place_table.Step.{Step}
+use Rattle.earley.specs.declared.place_table.DottedActions.{DottedActions}
 use Rattle.earley.specs.declared.row_sets.KeptRows.{KeptRows}
 use Rattle.earley.proofs.GainsLemmas.{gains_none, gains_both, gains_as, gains_at}
 use Rattle.earley.proofs.PlaceTableLemmas.{get_or_index}
@@ -67,13 +67,13 @@ get_no_index (r ∷ rows) zero is = absurd (cc is)
 get_no_index (r ∷ rows) (suc p) is = get_no_index rows p is
 
 -- two ways to name a place
-node_same : (at : Spot) (n k : ℕ) → at ≡ spot n k → at.node ≡ n
+node_same : (at : DottedRule) (n k : ℕ) → at ≡ spot n k → at.node ≡ n
 node_same at n k same = ap (λ v. v.node) same
 
-step_same : (at : Spot) (n k : ℕ) → at ≡ spot n k → at.step ≡ k
+step_same : (at : DottedRule) (n k : ℕ) → at ≡ spot n k → at.step ≡ k
 step_same at n k same = ap (λ v. v.step) same
 
-pub one_spot : {o : Option Spot} {s t : Spot} → o ≡ Some s → o ≡ Some t → s ≡ t
+pub one_spot : {o : Option DottedRule} {s t : DottedRule} → o ≡ Some s → o ≡ Some t → s ≡ t
 one_spot h g = some_same (sym h ∙ g)
 
 pair_root : {r n s m : ℕ} → ◌≡◌ {A = Option (ℕ × ℕ)} (Some (r, n)) (Some (s, m)) → r ≡ s
@@ -83,13 +83,13 @@ pair_next : {r n s m : ℕ} → ◌≡◌ {A = Option (ℕ × ℕ)} (Some (r, n)
 pair_next h = ap (λ v. v.1) (some_same h)
 
 -- these places, with the numbers of a row
-pub record StartsIn (spots : List Spot) (starts row : List ℕ) (a : Item) : Type 0 where
+pub record StartsIn (spots : List DottedRule) (starts row : List ℕ) (a : Item) : Type 0 where
   pub place : ℕ
   pub stands : In place starts
   pub is : slice_get spots place ≡ Some (spot a.node a.step)
   pub has : Contains row a.origin
 
-module _ (spots : List Spot) (starts row : List ℕ) (old : Rows) where
+module _ (spots : List DottedRule) (starts row : List ℕ) (old : Rows) where
   pub starts_none : Gains spots (StartsIn spots (take 0 starts) row) old old
   starts_none = gains_none spots (StartsIn spots (take 0 starts) row) old (λ a h. absurd (nothing a h.stands))
     where
@@ -116,7 +116,7 @@ module _ (spots : List Spot) (starts row : List ℕ) (old : Rows) where
         has = h.1;
       })
 
-module _ (spots : List Spot) (call : Call) (rows : List (List ℕ)) (old new : Rows) where
+module _ (spots : List DottedRule) (call : Call) (rows : List (List ℕ)) (old new : Rows) where
   pub after_call : (row : List ℕ) → slice_get rows call.from ≡ Some row
       → AddsAt call.after (λ k. Contains row k) old new
       → Gains spots (IsAfterCall spots call rows) old new
@@ -132,7 +132,7 @@ module _ (spots : List Spot) (call : Call) (rows : List (List ℕ)) (old new : R
   no_call is = gains_none spots (IsAfterCall spots call rows) old
       (λ a h. absurd (none_contains a.origin (subst (λ v. Contains v a.origin) (get_no_index rows call.from is) h.1)))
 
-module _ (flat : code_flat.Tables) (spots : List Spot) where
+module _ (flat : code_flat.Tables) (spots : List DottedRule) where
   abbrev Begun : ℕ → List ℕ → Item → Type 0
   Begun root row a = (a.node ≡ root) × (a.step < begin_count flat root) × Contains row a.origin
 
@@ -159,7 +159,7 @@ module _ (flat : code_flat.Tables) (spots : List Spot) where
       (λ a h. let none : begin_count flat root ≡ 0 = ap (λ v. count_in v) (past_get flat.nodes.items root le) in
       let lt = h.1 in absurd (omega (arith, none, lt)))
 
-  module _ (place : ℕ) (row : List ℕ) (at : Spot) (at_is : slice_get spots place ≡ Some at) (old new : Rows) where
+  module _ (place : ℕ) (row : List ℕ) (at : DottedRule) (at_is : slice_get spots place ≡ Some at) (old new : Rows) where
     by_place : (by : Item) → slice_get spots place ≡ Some (spot by.node by.step) → at ≡ spot by.node by.step
     by_place by is = one_spot at_is is
 
@@ -237,40 +237,40 @@ module _ (flat : code_flat.Tables) (spots : List Spot) where
           (ap (λ v. null_of flat v) (pair_root (sym calls.call ∙ (by_call h.by h.is ∙ h.work.call))) ∙ h.work.null)
           (ap (λ v. takes_of flat (item_at 0 v)) (by_place h.by h.is) ∙ h.work.free))))
 
-  module _ (steps : List Step) (are : AreSteps flat spots steps) (root : ℕ) (rows : List (List ℕ)) where
-    record Told (p : ℕ) (step : Step) : Type 0 where
-      at : Spot
+  module _ (steps : List DottedActions) (are : AreSteps flat spots steps) (root : ℕ) (rows : List (List ℕ)) where
+    record Told (p : ℕ) (step : DottedActions) : Type 0 where
+      at : DottedRule
       is : slice_get spots p ≡ Some at
       tells : IsStep flat spots at step
 
-    told_at : (p : ℕ) (step : Step) → slice_get steps p ≡ Some step → Told p step
+    told_at : (p : ℕ) (step : DottedActions) → slice_get steps p ≡ Some step → Told p step
     told_at p step is =
         let lt = get_below steps p is in
         let size = are.count in
         let there = get_there spots p (omega (arith, lt, size)) in
         record { at = there.0; is = there.1; tells = are.each p there.0 step there.1 is }
 
-    step_at : (p : ℕ) (at : Spot) → slice_get spots p ≡ Some at
-        → (step : Step) × (slice_get steps p ≡ Some step) × IsStep flat spots at step
+    step_at : (p : ℕ) (at : DottedRule) → slice_get spots p ≡ Some at
+        → (step : DottedActions) × (slice_get steps p ≡ Some step) × IsStep flat spots at step
     step_at p at is =
         let lt = get_below spots p is in
         let size = are.count in
         let there = get_there steps p (omega (arith, lt, size)) in
         (there.0, there.1, are.each p at there.0 is there.1)
 
-    called_in : (at : Spot) (o : Option Called) (c : Called) → o ≡ Some c → IsCalledAt flat spots at o
+    called_in : (at : DottedRule) (o : Option Called) (c : Called) → o ≡ Some c → IsCalledAt flat spots at o
         → IsCallAt flat spots at c
     called_in at None c is h = absurd (cc is)
     called_in at (Some d) c is h = subst (λ v. IsCallAt flat spots at v) (some_same is) h
 
-    record Calling (at : Spot) (o : Option Called) (next : ℕ) : Type 0 where
+    record Calling (at : DottedRule) (o : Option Called) (next : ℕ) : Type 0 where
       called : Called
       is : o ≡ Some called
       root_is : called.root ≡ root
       after : slice_get spots called.after ≡ Some (spot at.node next)
       within : called.root < length flat.nodes.items
 
-    calling_at : (at : Spot) (o : Option Called) (next : ℕ) → IsCalledAt flat spots at o
+    calling_at : (at : DottedRule) (o : Option Called) (next : ℕ) → IsCalledAt flat spots at o
         → call_at flat at ≡ Some (root, next) → Calling at o next
     calling_at at None next h call = absurd (cc (h, call))
     calling_at at (Some c) next h call = record {
@@ -284,7 +284,7 @@ module _ (flat : code_flat.Tables) (spots : List Spot) where
     pub none_advanced : (a : Item) → length flat.nodes.items ≤ root → IsAdvanced flat root (row_items spots rows) a → ⊥
     none_advanced a le h =
         let f = in_row_item spots rows h.from h.stands in
-        let at : Spot = spot h.from.node h.from.step in
+        let at : DottedRule = spot h.from.node h.from.step in
         let s = step_at f.place at f.is in
         let c = calling_at at s.0.called a.step s.2.called h.call in
         let lt = c.within in let same = c.root_is in absurd (omega (arith, lt, same, le))
@@ -313,7 +313,7 @@ module _ (flat : code_flat.Tables) (spots : List Spot) where
           → (call : Call) × In call calls × IsAfterCall spots call rows a
       advanced_called h =
           let f = in_row_item spots rows h.from h.stands in
-          let at : Spot = spot h.from.node h.from.step in
+          let at : DottedRule = spot h.from.node h.from.step in
           let s = step_at f.place at f.is in
           let c = calling_at at s.0.called a.step s.2.called h.call in
           let one = ones.all f.place s.0 c.called s.1 c.is c.root_is in (
@@ -329,7 +329,7 @@ module _ (flat : code_flat.Tables) (spots : List Spot) where
 
   -- what is done at a place completes its node
   module _ (sets : List (List Item)) (root : ℕ) (row : List ℕ) (old : Rows) where
-    module _ (place : ℕ) (at : Spot) (at_is : slice_get spots place ≡ Some at) (root_is : at.node ≡ root) where
+    module _ (place : ℕ) (at : DottedRule) (at_is : slice_get spots place ≡ Some at) (root_is : at.node ≡ root) where
       pub row_completed : (count : ℕ) (new : Rows) → count ≡ length sets → done_of flat (item_at 0 at) ≡ true
           → Gains spots (IsCompletedBy flat sets root row count) old new
           → Gains spots (IsFor spots place row (IsCompleted flat sets [])) old new
@@ -399,13 +399,13 @@ module _ (flat : code_flat.Tables) (spots : List Spot) where
       (λ i h. record { by = h.by; is = h.is; has = h.has; work = inr h.work })
 
 -- what the rows of the places below one become by a letter
-pub record IsScannedBelow (flat : code_flat.Tables) (spots : List Spot) (c : ℕ) (rows : List (List ℕ)) (below : ℕ)
+pub record IsScannedBelow (flat : code_flat.Tables) (spots : List DottedRule) (c : ℕ) (rows : List (List ℕ)) (below : ℕ)
     (a : Item) : Type 0 where
   pub place : ℕ
   pub under : place < below
   pub scanned : IsFor spots place (slice_index_or rows place []) (IsScannedFor flat c) a
 
-module _ (flat : code_flat.Tables) (spots : List Spot) (c : ℕ) (rows : List (List ℕ)) where
+module _ (flat : code_flat.Tables) (spots : List DottedRule) (c : ℕ) (rows : List (List ℕ)) where
   pub scanned_none : (old : Rows) → Gains spots (IsScannedBelow flat spots c rows 0) old old
   scanned_none old = gains_none spots (IsScannedBelow flat spots c rows 0) old
       (λ a h. let lt = h.under in absurd (omega (arith, lt)))
@@ -450,7 +450,7 @@ module _ (flat : code_flat.Tables) (spots : List Spot) (c : ℕ) (rows : List (L
       })
       gains
 
-  module _ (place : ℕ) (at : Spot) (at_is : slice_get spots place ≡ Some at) (old new : Rows) where
+  module _ (place : ℕ) (at : DottedRule) (at_is : slice_get spots place ≡ Some at) (old new : Rows) where
     pub scan_by : (after : ℕ) → slice_get spots after ≡ Some (spot at.node (at.step + 1))
         → IfSomeSet (read_of flat (item_at 0 at)) c
         → Gains spots (IsAfterCall spots (record { from = place; after = after }) rows) old new
@@ -493,7 +493,7 @@ missing_at xs i high = past_get xs i (grind (arith, high))
 pub missing_past : {A : Type 0} (xs : List A) (i : ℕ) → false ≡ ltb i (length xs) → length xs ≤ i
 missing_past xs i high = grind (arith, high)
 
-pub start_below : (flat : code_flat.Tables) (spots : List Spot) (root : ℕ) (starts items : List ℕ) (i d : ℕ)
+pub start_below : (flat : code_flat.Tables) (spots : List DottedRule) (root : ℕ) (starts items : List ℕ) (i d : ℕ)
     → AreStarts flat spots root starts → items ≡ starts → i < length items → slice_index_or items i d < length spots
 start_below flat spots root starts items i d are same lt =
     let s = are.only (slice_index_or items i d) (subst (λ v. In (slice_index_or items i d) v) same
@@ -501,7 +501,8 @@ start_below flat spots root starts items i d are same lt =
     get_below spots (slice_index_or items i d) s.2
 
 -- a place that is called after has a number
-pub call_below : (flat : code_flat.Tables) (spots : List Spot) (steps : List Step) (root : ℕ) (calls items : List Call)
+pub call_below : (flat : code_flat.Tables) (spots : List DottedRule) (steps : List DottedActions) (root : ℕ)
+    (calls items : List Call)
     (i : ℕ) (d : Call) → AreSteps flat spots steps → AreCallsTo steps root calls → items ≡ calls → i < length items
     → (slice_index_or items i d).after < length spots
 call_below flat spots steps root calls items i d are ones same lt =
@@ -513,13 +514,15 @@ call_below flat spots steps root calls items i d are ones same lt =
     one.after c.after)
 
 -- what a place does
-pub record StepHere (flat : code_flat.Tables) (spots : List Spot) (place : ℕ) (step : Step) : Type 0 where
-  pub at : Spot
+pub record StepHere (flat : code_flat.Tables) (spots : List DottedRule) (place : ℕ)
+    (step : DottedActions) : Type 0 where
+  pub at : DottedRule
   pub is : slice_get spots place ≡ Some at
   pub tells : IsStep flat spots at step
 
-pub step_here : (flat : code_flat.Tables) (spots : List Spot) (steps : List Step) → AreSteps flat spots steps
-    → (place : ℕ) (step : Step) → place < length spots → step ≡ slice_index_or steps place step
+pub step_here : (flat : code_flat.Tables) (spots : List DottedRule) (steps : List DottedActions)
+    → AreSteps flat spots steps
+    → (place : ℕ) (step : DottedActions) → place < length spots → step ≡ slice_index_or steps place step
     → StepHere flat spots place step
 step_here flat spots steps are place step lt is =
     let there = get_there spots place lt in
@@ -531,23 +534,24 @@ step_here flat spots steps are place step lt is =
       tells = are.each place there.0 step there.1 (slice_get-get_or steps place step low ∙ ap Some (sym is));
     }
 
-pub call_here : (flat : code_flat.Tables) (spots : List Spot) (at : Spot) (step : Step) (c : Called)
+pub call_here : (flat : code_flat.Tables) (spots : List DottedRule) (at : DottedRule) (step : DottedActions)
+    (c : Called)
     → IsStep flat spots at step → step.called ≡ Some c → IsCallAt flat spots at c
 call_here flat spots at step c tells is = subst (λ o. IsCalledAt flat spots at o) is tells.called
 
-pub no_call_here : (flat : code_flat.Tables) (spots : List Spot) (at : Spot) (step : Step)
+pub no_call_here : (flat : code_flat.Tables) (spots : List DottedRule) (at : DottedRule) (step : DottedActions)
     → IsStep flat spots at step → step.called ≡ None → call_at flat at ≡ None
 no_call_here flat spots at step tells is = subst (λ o. IsCalledAt flat spots at o) is tells.called
 
 -- the set of an origin
-pub view_at : (spots : List Spot) (sets : List KeptRows) (origin : ℕ) (kept : KeptRows) → origin < length sets
+pub view_at : (spots : List DottedRule) (sets : List KeptRows) (origin : ℕ) (kept : KeptRows) → origin < length sets
     → kept ≡ slice_index_or sets origin kept
     → slice_get (row_views spots sets) origin ≡ Some (row_items spots kept.rows.items)
 view_at spots sets origin kept lt is = get_map (λ s. row_items spots s.rows.items) sets origin
     (slice_get-get_or sets origin kept lt ∙ ap Some (sym is))
 
 -- the whole is predicted
-pub whole_starts : (flat : code_flat.Tables) (spots : List Spot) (root : ℕ) (zero_row : List ℕ) (old new : Rows)
+pub whole_starts : (flat : code_flat.Tables) (spots : List DottedRule) (root : ℕ) (zero_row : List ℕ) (old new : Rows)
     → whole_root flat ≡ Some root → ((k : ℕ) → Contains zero_row k ↔ (k ≡ 0))
     → Gains spots (λ a. (a.node ≡ root) × (a.step < begin_count flat root) × Contains zero_row a.origin) old new
     → Gains spots (IsWhole flat) old new
@@ -558,19 +562,21 @@ whole_starts flat spots root zero_row old new is one gains = gains_as spots
     (b.0 ∙ same, subst (λ v. a.step < begin_count flat v) same b.1, (one a.origin).1 b.2))
     gains
 
-pub no_whole : (flat : code_flat.Tables) (spots : List Spot) (old : Rows) → whole_root flat ≡ None
+pub no_whole : (flat : code_flat.Tables) (spots : List DottedRule) (old : Rows) → whole_root flat ≡ None
     → Gains spots (IsWhole flat) old old
 no_whole flat spots old none = gains_none spots (IsWhole flat) old (λ a h. absurd (cc (none, h.is)))
 
 -- what the first set, and any later one, begins with
-pub begins_first : (flat : code_flat.Tables) (spots : List Spot) (x : List ℕ) (sets : List (List Item)) (old new : Rows)
+pub begins_first : (flat : code_flat.Tables) (spots : List DottedRule) (x : List ℕ) (sets : List (List Item))
+    (old new : Rows)
     → length sets ≡ 0 → Gains spots (IsWhole flat) old new → Gains spots (IsFirst flat x sets) old new
 begins_first flat spots x sets old new none gains = gains_as spots (IsWhole flat) (IsFirst flat x sets) old new
     (λ a h. inl (none, h))
     (λ a h. ⊎_elim (λ w. w.1) (λ r. let size = r.size in absurd (omega (arith, size, none))) h)
     gains
 
-pub begins_after : (flat : code_flat.Tables) (spots : List Spot) (x : List ℕ) (sets : List (List Item)) (old new : Rows)
+pub begins_after : (flat : code_flat.Tables) (spots : List DottedRule) (x : List ℕ) (sets : List (List Item))
+    (old new : Rows)
     (k c : ℕ) (last : List Item) → length sets ≡ k + 1 → slice_get sets k ≡ Some last → slice_get x k ≡ Some c
     → Gains spots (IsScannedItem flat c last) old new → Gains spots (IsFirst flat x sets) old new
 begins_after flat spots x sets old new k c last size set letter gains =
@@ -587,13 +593,13 @@ begins_after flat spots x sets old new k c last size set letter gains =
         subst (λ v. IsScannedItem flat v last a) two (subst (λ v. IsScannedItem flat h.letter v a) one h.read)
 
 -- the place by its number
-pub place_yes : (spots : List Spot) (place : ℕ) (d : Spot) (n k : ℕ) → place < length spots
+pub place_yes : (spots : List DottedRule) (place : ℕ) (d : DottedRule) (n k : ℕ) → place < length spots
     → ((slice_index_or spots place d).node ≡ n) × ((slice_index_or spots place d).step ≡ k)
     → slice_get spots place ≡ Some (spot n k)
 place_yes spots place d n k lt is = get_or_index spots place d lt
     ∙ (ap (λ v. Some (spot v (slice_index_or spots place d).step)) is.0 ∙ ap (λ v. Some (spot n v)) is.1)
 
-pub place_of : (spots : List Spot) (place : ℕ) (d : Spot) (n k : ℕ) → place < length spots
+pub place_of : (spots : List DottedRule) (place : ℕ) (d : DottedRule) (n k : ℕ) → place < length spots
     → slice_get spots place ≡ Some (spot n k)
     → ((slice_index_or spots place d).node ≡ n) × ((slice_index_or spots place d).step ≡ k)
 place_of spots place d n k lt is =

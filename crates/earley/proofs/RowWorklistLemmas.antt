@@ -22,7 +22,7 @@ use Rattle.flatgrammar.specs.Holds.{Holds}
 use Rattle.flatgrammar.specs.NodeSteps.{flat_of}
 use Rattle.flatgrammar.specs.Places.{In, AreDifferent}
 use Rattle.flatgrammar.specs.TableViews.{GiveRoots, AreNulls}
-use Rattle.flatgrammar.specs.declared.block.Spot.{Spot}
+use Rattle.flatgrammar.specs.declared.block.DottedRule.{DottedRule}
 use Rattle.flatgrammar.specs.declared.flat_item.Item.{Item}
 use Rattle.flatgrammar.specs.declared.tables.Tables as code_flat
 use Rattle.earley.specs.RowCharts.{row_views, AreSizedRows, IsRowWorklist}
@@ -48,7 +48,7 @@ module _ (flat : code_flat.Tables) (roots : GiveRoots (flat_of flat) flat.roots.
   work_holds by a h (inr c) = completed_holds flat roots x sets [] earlier (none_hold flat roots nulls x sets earlier)
       by a h c (λ t. waits_early by.origin (slice_get sets by.origin) refl c.advanced.stands)
 
-  module _ (spots : List Spot) where
+  module _ (spots : List DottedRule) where
     pub nothing_pending : (old : Rows) → IsRowWorklist flat spots x sets old → ((p k : ℕ) → HasAt old.pending p k → ⊥)
         → (a : Item) → IsRowItem spots old.all a → (b : Item) → IsWork flat sets a b → IsRowItem spots old.all b
     nothing_pending old work none a h b w =
@@ -149,7 +149,7 @@ module _ (flat : code_flat.Tables) (roots : GiveRoots (flat_of flat) flat.roots.
         first_item a (inr r) = after_holds flat roots x sets earlier a r
 
   -- a set that is filled follows those before it
-  pub filled_rows : (spots : List Spot) (begun full : Rows) (rows : List (List ℕ)) → AreDifferent spots
+  pub filled_rows : (spots : List DottedRule) (begun full : Rows) (rows : List (List ℕ)) → AreDifferent spots
       → IsBuilt flat x sets → rows ≡ full.all → ((p : ℕ) → IsStrictlyIncreasing (slice_index_or rows p []))
       → ((a : Item) → IsFirst flat x sets a → IsRowItem spots begun.all a)
       → ((a : Item) → IsRowItem spots begun.all a → IsRowItem spots full.all a)
@@ -176,12 +176,12 @@ length_no zero = refl
 length_no (suc n) = ap suc (length_no n)
 
 -- one set more
-pub views_more : (spots : List Spot) (sets : List KeptRows) (kept : KeptRows)
+pub views_more : (spots : List DottedRule) (sets : List KeptRows) (kept : KeptRows)
     → row_views spots (sets ++ kept ∷ []) ≡ row_views spots sets ++ row_items spots kept.rows.items ∷ []
 views_more spots [] kept = refl
 views_more spots (s ∷ sets) kept = ap (λ v. row_items spots s.rows.items ∷ v) (views_more spots sets kept)
 
-pub sized_more : (spots : List Spot) (sets : List KeptRows) (kept : KeptRows) → AreSizedRows spots sets
+pub sized_more : (spots : List DottedRule) (sets : List KeptRows) (kept : KeptRows) → AreSizedRows spots sets
     → kept.size ≡ length (row_items spots kept.rows.items) → AreSizedRows spots (sets ++ kept ∷ [])
 sized_more spots sets kept all last j s is = ⊎_elim (λ was. all j s was)
     (λ h. subst (λ v. v.size ≡ length (row_items spots v.rows.items)) h.1 last) (push_cases sets kept j s is)

@@ -6,7 +6,7 @@ use Rattle.earleyitems.specs.Worklist.{IsWork}
 use Rattle.flatgrammar.specs.Flat.{Place, at}
 use Rattle.flatgrammar.specs.Holds.{Holds}
 use Rattle.flatgrammar.specs.NodeSteps.{flat_of}
-use Rattle.flatgrammar.specs.declared.block.Spot.{Spot}
+use Rattle.flatgrammar.specs.declared.block.DottedRule.{DottedRule}
 use Rattle.flatgrammar.specs.declared.flat_item.Item.{Item}
 use Rattle.flatgrammar.specs.declared.tables.Tables as code_flat
 use Rattle.earley.specs.RowItems.{row_items, IsRowItem}
@@ -14,7 +14,7 @@ use Rattle.earley.specs.declared.row_sets.KeptRows.{KeptRows}
 use Rattle.earley.specs.declared.row_sets.RowChart.{RowChart}
 
 -- the items of each set
-abbrev pub row_views : List Spot → List KeptRows → List (List Item)
+abbrev pub row_views : List DottedRule → List KeptRows → List (List Item)
 row_views spots sets = map (λ s. row_items spots s.rows.items) sets
 
 -- the sets of a chart of rows
@@ -27,7 +27,7 @@ chart_by None sparse = sparse
 chart_by (Some rows) sparse = rows_chart rows
 
 -- each set has its size beside it
-abbrev pub AreSizedRows : List Spot → List KeptRows → Type 0
+abbrev pub AreSizedRows : List DottedRule → List KeptRows → Type 0
 AreSizedRows spots sets = (j : ℕ) (s : KeptRows) → slice_get sets j ≡ Some s
     → s.size ≡ length (row_items spots s.rows.items)
 
@@ -35,7 +35,7 @@ pub record IsSizedChart (rows : Option RowChart) : Type 0 where
   pub size : (r : RowChart) → rows ≡ Some r → AreSizedRows r.table.spots.items r.sets.items
 
 -- a set on which the worklist is at work: all that is not pending has been worked on
-pub record IsRowWorklist (flat : code_flat.Tables) (spots : List Spot) (x : List ℕ) (sets : List (List Item))
+pub record IsRowWorklist (flat : code_flat.Tables) (spots : List DottedRule) (x : List ℕ) (sets : List (List Item))
     (rows : Rows) : Type 0 where
   pub count : length rows.all ≡ length spots
   pub held : (a : Item) → IsRowItem spots rows.all a

@@ -3,7 +3,7 @@ use Rattle.std.specs.Prelude.{◌≡◌, ◌↔◌, ◌⊎◌, ℕ, ◌<◌, ◌
 use Rattle.earley.specs.RowSets.{HasAt}
 use Rattle.flatgrammar.specs.Blocks.{spot}
 use Rattle.flatgrammar.specs.Places.{In}
-use Rattle.flatgrammar.specs.declared.block.Spot.{Spot}
+use Rattle.flatgrammar.specs.declared.block.DottedRule.{DottedRule}
 use Rattle.flatgrammar.specs.declared.flat_item.Item.{Item}
 use Rattle.earley.specs.RowItems.{IsAfterCall}
 use Rattle.earley.specs.declared.place_table.Call.{Call}
@@ -57,7 +57,8 @@ pub record AreIndexed (places : ℕ) (filled : FilledSets) : Type 0 where
 
 -- the place after a call, with the origins of the place that calls, in the set of each number of a row that is below
 -- one
-pub record IsAfterIn (spots : List Spot) (call : Call) (sets : List KeptRows) (row : List ℕ) (below : ℕ) (a : Item)
+pub record IsAfterIn (spots : List DottedRule) (call : Call) (sets : List KeptRows) (row : List ℕ) (below : ℕ)
+    (a : Item)
     : Type 0 where
   pub origin : ℕ
   pub has : Contains row origin
@@ -65,19 +66,21 @@ pub record IsAfterIn (spots : List Spot) (call : Call) (sets : List KeptRows) (r
   pub after : IsAfterCall spots call (rows_at sets origin) a
 
 -- the same in the set of the greatest number of the row
-pub record IsAfterLast (spots : List Spot) (call : Call) (sets : List KeptRows) (row : List ℕ) (below : ℕ) (a : Item)
+pub record IsAfterLast (spots : List DottedRule) (call : Call) (sets : List KeptRows) (row : List ℕ) (below : ℕ)
+    (a : Item)
     : Type 0 where
   pub after : IsAfterIn spots call sets row below a
   pub last : (k : ℕ) → Contains row k → k ≤ after.origin
 
 -- the place after a call, with those numbers of a row that are in its own row too
-pub record IsAfterOwn (spots : List Spot) (call : Call) (mine : List (List ℕ)) (row : List ℕ) (a : Item) : Type 0 where
+pub record IsAfterOwn (spots : List DottedRule) (call : Call) (mine : List (List ℕ)) (row : List ℕ)
+    (a : Item) : Type 0 where
   pub after : slice_get spots call.after ≡ Some (spot a.node a.step)
   pub has : Contains row a.origin
   pub own : HasAt mine call.from a.origin
 
 -- the places after these calls, likewise
-pub record IsAfterSome (spots : List Spot) (calls : List Call) (sets : List KeptRows) (row : List ℕ) (below : ℕ)
+pub record IsAfterSome (spots : List DottedRule) (calls : List Call) (sets : List KeptRows) (row : List ℕ) (below : ℕ)
     (a : Item) : Type 0 where
   pub call : Call
   pub stands : In call calls

@@ -8,7 +8,7 @@ use crate::row_chart::judge_rows;
 use crate::row_sets::RowChart;
 use crate::row_spots::row_spots;
 use earleyitems::judge_within;
-use flatgrammar::{Flat, Spot};
+use flatgrammar::{DottedRule, Flat};
 use letters::Letter;
 use ruletable::Memory;
 use std::alloc::Global;
@@ -29,7 +29,7 @@ pub struct Chart {
     /// Allocates the sets.
     alloc: Global,
     /// The sets item by item, if there are no rows. Its memory serves the next line.
-    items: earleyitems::Chart,
+    items: earleyitems::ItemChart,
     /// The sets as rows, of a dense line.
     rows: Option<RowChart>,
 }
@@ -53,7 +53,7 @@ impl Chart {
     {
         Chart {
             alloc,
-            items: earleyitems::Chart::new(alloc),
+            items: earleyitems::ItemChart::new(alloc),
             rows: None,
         }
     }
@@ -73,7 +73,7 @@ impl Chart {
 
     /// Returns the dotted rules of the items of set `j`, each once or more; none if there is no such set. `Memory` if
     /// an allocation fails.
-    pub fn spots(&self, j: usize) -> Result<Vec<Spot>, Memory>
+    pub fn spots(&self, j: usize) -> Result<Vec<DottedRule>, Memory>
         ensures { IfOk result (λ spots. AreSpotsOf (set_at self.now j) spots.items) }
     {
         match &self.rows {
@@ -101,7 +101,7 @@ fn judge_many<L: Letter>(chart: &mut Chart, flat: &Flat, line: &[L]) -> Result<b
 {
     // gives back what the items so far took
     chart.rows = None;
-    chart.items = earleyitems::Chart::new(chart.alloc);
+    chart.items = earleyitems::ItemChart::new(chart.alloc);
     let tables = flat.share()?;
     if let Some(judged) = judge_rows(chart.alloc, tables, line)? {
         chart.rows = Some(judged.chart);

@@ -6,10 +6,10 @@ ghost use Rattle.flatgrammar.specs.TableViews.{takes_of, whole_root};
 ghost use Rattle.earley.specs.PlaceTables.{AreBelow, IsStep, IsReadAt, IsCalledAt, AreSteps, AreStarts, AreCallsTo};
 ghost use Rattle.earley.specs.PlaceTables.{AreCallsBelow, AreStartsIf, IsReached, AreCallsReached};
 ghost use Rattle.earley.specs.declared.place_table.Called.{Called as code_called};
-ghost use Rattle.earley.specs.declared.place_table.Step.{Step as code_step};
+ghost use Rattle.earley.specs.declared.place_table.DottedActions.{DottedActions as code_step};
 ghost use Rattle.earley.specs.PlaceTables.{AreRootPlaces, IsPlaceTable};
 
-use flatgrammar::{Deed, Item, Node, Spot, Tables, begin_steps, deed_of, null, whole_root};
+use flatgrammar::{Deed, DottedRule, Item, Node, Tables, begin_steps, deed_of, null, whole_root};
 use ruletable::Memory;
 use std::alloc::Global;
 use std::rc::Rc;
@@ -30,7 +30,7 @@ pub(crate) struct Called {
 
 /// The actions of a dotted rule.
 #[derive(Clone, Copy)]
-pub(crate) struct Step {
+pub(crate) struct DottedActions {
     /// The root that it calls, with the dotted rule after the call.
     pub(crate) called: Option<Called>,
     /// Whether its node is complete there.
@@ -68,9 +68,9 @@ pub(crate) struct PlaceTable {
     /// The grammar.
     pub(crate) flat: Rc<Tables>,
     /// The dotted rules, by number.
-    pub(crate) spots: Vec<Spot>,
+    pub(crate) spots: Vec<DottedRule>,
     /// The actions of each dotted rule, by number.
-    pub(crate) steps: Vec<Step>,
+    pub(crate) steps: Vec<DottedActions>,
     /// Of each node, as a root, where it starts and its call sites.
     pub(crate) roots: Vec<RootPlaces>,
 }
@@ -79,7 +79,7 @@ pub(crate) struct PlaceTable {
 #[derive(Drop)]
 struct Numbers {
     /// The dotted rules, by number.
-    spots: Vec<Spot>,
+    spots: Vec<DottedRule>,
     /// Of each node the number of its first dotted rule.
     firsts: Vec<usize>,
 }
@@ -168,12 +168,12 @@ fn places_of(node: &Node, reached: bool) -> usize {
 }
 
 // Numbers the places of a node.
-fn number_node(node: usize, count: usize, spots: &mut Vec<Spot>) -> Result<(), Memory>
+fn number_node(node: usize, count: usize, spots: &mut Vec<DottedRule>) -> Result<(), Memory>
     requires { AreBelow node spots.old.items }
     ensures { IfOk result (λ done. AreBelow (node + 1) spots.new.items) }
 {
     for step in 0..count {
-        spots.push(Spot { node, step })?;
+        spots.push(DottedRule { node, step })?;
     }
     Ok(())
 }
@@ -210,7 +210,7 @@ fn number(numbers: &Numbers, node: usize, step: usize) -> Option<usize>
 }
 
 // Returns what a place calls. `None` if the place after the call has no number.
-fn called_at(flat: &Tables, numbers: &Numbers, at: Spot, deed: Deed) -> Option<Option<Called>>
+fn called_at(flat: &Tables, numbers: &Numbers, at: DottedRule, deed: Deed) -> Option<Option<Called>>
     requires called { deed.called ≡ call_at flat.now at }
     requires takes { deed.takes ≡ takes_of flat.now (item_at 0 at) }
     ensures { IfSome result (IsCalledAt flat.now numbers.now.spots.items at) }
@@ -227,7 +227,7 @@ fn called_at(flat: &Tables, numbers: &Numbers, at: Spot, deed: Deed) -> Option<O
 }
 
 // Returns the place after the letter that a place reads, if it may read one. `None` if that place has no number.
-fn read_at(numbers: &Numbers, at: Spot, deed: Deed) -> Option<Option<usize>>
+fn read_at(numbers: &Numbers, at: DottedRule, deed: Deed) -> Option<Option<usize>>
     ensures { IfSome result (IsReadAt numbers.now.spots.items at deed.reads) }
 {
     if !deed.reads {
@@ -240,7 +240,7 @@ fn read_at(numbers: &Numbers, at: Spot, deed: Deed) -> Option<Option<usize>>
 
 /// Returns the actions of the dotted rule `at`. `None` if its call or its symbol leads to a dotted rule without a
 /// number.
-fn step_at(flat: &Tables, numbers: &Numbers, at: Spot) -> Option<Step>
+fn step_at(flat: &Tables, numbers: &Numbers, at: DottedRule) -> Option<DottedActions>
     ensures { IfSome result (IsStep flat.now numbers.now.spots.items at) }
 {
     let item = Item {
@@ -251,7 +251,7 @@ fn step_at(flat: &Tables, numbers: &Numbers, at: Spot) -> Option<Step>
     let deed = deed_of(flat, item);
     let called = called_at(flat, numbers, at, deed)?;
     let read = read_at(numbers, at, deed)?;
-    Some(Step {
+    Some(DottedActions {
         called,
         done: deed.done,
         read,
@@ -259,7 +259,11 @@ fn step_at(flat: &Tables, numbers: &Numbers, at: Spot) -> Option<Step>
 }
 
 // Returns what each place does. `None` if the place after one has no number.
-fn all_steps(alloc: Global, flat: &Tables, numbers: &Numbers) -> Result<Option<Vec<Step>>, Memory>
+fn all_steps(
+    alloc: Global,
+    flat: &Tables,
+    numbers: &Numbers,
+) -> Result<Option<Vec<DottedActions>>, Memory>
     ensures { IfOk result (λ steps. IfSome steps (λ s. AreSteps flat.now numbers.now.spots.items s.items)) }
 {
     let mut steps = Vec::new(alloc);
@@ -309,7 +313,12 @@ fn starts_if(
 }
 
 // Adds the call of a place, if it calls that root. What the place does is given.
-fn keep_call(from: usize, step: Step, root: usize, calls: &mut Vec<Call>) -> Result<(), Memory>
+fn keep_call(
+    from: usize,
+    step: DottedActions,
+    root: usize,
+    calls: &mut Vec<Call>,
+) -> Result<(), Memory>
     ensures { IfOk result (λ done. (steps : List code_step) → slice_get steps from ≡ Some step
         → AreCallsBelow steps root from calls.old.items → AreCallsBelow steps root (from + 1) calls.new.items) }
 {
@@ -326,7 +335,7 @@ fn keep_call(from: usize, step: Step, root: usize, calls: &mut Vec<Call>) -> Res
 }
 
 // Returns the places that call a root.
-fn calls_of(alloc: Global, steps: &[Step], root: usize) -> Result<Vec<Call>, Memory>
+fn calls_of(alloc: Global, steps: &[DottedActions], root: usize) -> Result<Vec<Call>, Memory>
     ensures { IfOk result (λ calls. AreCallsTo steps.now root calls.items) }
 {
     let mut calls = Vec::new(alloc);
@@ -342,7 +351,7 @@ fn all_roots(
     flat: &Tables,
     numbers: &Numbers,
     marks: &[bool],
-    steps: &[Step],
+    steps: &[DottedActions],
 ) -> Result<Option<Vec<RootPlaces>>, Memory>
     ensures { IfOk result (λ roots. IfSome roots (λ r. AreRootPlaces flat.now numbers.now.spots.items steps.now
         r.items)) }
@@ -374,7 +383,7 @@ fn is_root_reached(roots: &[RootPlaces], root: usize) -> bool
 }
 
 // Returns whether what a place calls is reached.
-fn is_call_reached(roots: &[RootPlaces], step: Step) -> bool
+fn is_call_reached(roots: &[RootPlaces], step: DottedActions) -> bool
     ensures { IsTrue result → (c : code_called) → step.called ≡ Some c → IsReached roots.now c.root }
 {
     match step.called {
@@ -384,7 +393,7 @@ fn is_call_reached(roots: &[RootPlaces], step: Step) -> bool
 }
 
 // Returns whether all that places call is reached.
-fn are_calls_reached(roots: &[RootPlaces], steps: &[Step]) -> bool
+fn are_calls_reached(roots: &[RootPlaces], steps: &[DottedActions]) -> bool
     ensures { IsTrue result → AreCallsReached roots.now steps.now }
 {
     for i in 0..steps.len() {

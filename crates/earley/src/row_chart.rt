@@ -20,7 +20,7 @@ use crate::row_index::{FilledSets, keep_set, no_sets};
 use crate::row_sets::{KeptRows, RowChart, kept_rows};
 use crate::row_step::{advance_call, predict_root};
 use crate::{BitRow, RowSet};
-use flatgrammar::{Item, Spot, Tables, reads, whole_root};
+use flatgrammar::{DottedRule, Item, Tables, reads, whole_root};
 use letters::Letter;
 use ruletable::Memory;
 use std::alloc::Global;
@@ -202,14 +202,14 @@ fn has_number(rows: &[BitRow], place: usize, number: usize) -> bool
 }
 
 // Returns whether an item stands at a place.
-fn is_at(at: Spot, item: Item) -> bool
+fn is_at(at: DottedRule, item: Item) -> bool
     ensures { IsTrue result ↔ ((at.node ≡ item.node) × (at.step ≡ item.step)) }
 {
     at.node == item.node && at.step == item.step
 }
 
 // Returns whether a place is that of an item, and its row has the item's origin.
-fn holds_at(spots: &[Spot], rows: &[BitRow], place: usize, item: Item) -> bool
+fn holds_at(spots: &[DottedRule], rows: &[BitRow], place: usize, item: Item) -> bool
     requires { place < length spots.now }
     ensures { IsTrue result ↔ ((slice_get spots.now place ≡ Some (spot item.node item.step))
         × HasAt rows.now place item.origin) }
@@ -222,7 +222,7 @@ fn holds_at(spots: &[Spot], rows: &[BitRow], place: usize, item: Item) -> bool
 }
 
 // Returns whether rows hold an item.
-fn has_item(spots: &[Spot], rows: &[BitRow], item: Item) -> bool
+fn has_item(spots: &[DottedRule], rows: &[BitRow], item: Item) -> bool
     ensures { IsTrue result ↔ IsRowItem spots.now rows.now item }
 {
     for place in 0..spots.len() {

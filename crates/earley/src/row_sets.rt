@@ -1,7 +1,7 @@
 //! Filled sets as rows.
 ghost use Rattle.std.specs.Prelude.{◌≡◌, ℕ, List, [], IfOk, length, slice_index_or};
 ghost use Rattle.std.specs.List.Sorted.{IsStrictlyIncreasing};
-ghost use Rattle.flatgrammar.specs.declared.block.Spot.{Spot as code_spot};
+ghost use Rattle.flatgrammar.specs.declared.block.DottedRule.{DottedRule as code_spot};
 ghost use Rattle.earley.specs.RowItems.{row_items};
 
 use crate::place_table::PlaceTable;

@@ -4,7 +4,7 @@ ghost use Rattle.earley.specs.RowSets.{HasSome};
 ghost use Rattle.earley.specs.RowItems.{AreSpotsBelow};
 
 use crate::BitRow;
-use flatgrammar::Spot;
+use flatgrammar::DottedRule;
 use ruletable::Memory;
 use std::alloc::Global;
 
@@ -30,7 +30,11 @@ fn has_some(rows: &[BitRow], place: usize) -> bool
 
 /// Returns the dotted rules that have a number, each once where the dotted rules are different. `Memory`
 /// if an allocation fails.
-pub(crate) fn row_spots(alloc: Global, spots: &[Spot], rows: &[BitRow]) -> Result<Vec<Spot>, Memory>
+pub(crate) fn row_spots(
+    alloc: Global,
+    spots: &[DottedRule],
+    rows: &[BitRow],
+) -> Result<Vec<DottedRule>, Memory>
     ensures { IfOk result (λ found. AreSpotsBelow spots.now rows.now (length spots.now) found.items) }
 {
     let mut found = Vec::new(alloc);

@@ -4,7 +4,7 @@ ghost use Rattle.earley.specs.RowSets.{HasAt};
 ghost use Rattle.earleyitems.specs.ItemSets.{IsPredicted, IsCompleted};
 ghost use Rattle.earleyitems.specs.Worklist.{AdvancesNullable, IsWork};
 ghost use Rattle.flatgrammar.specs.Blocks.{begin_count};
-ghost use Rattle.flatgrammar.specs.declared.block.Spot.{Spot as code_spot};
+ghost use Rattle.flatgrammar.specs.declared.block.DottedRule.{DottedRule as code_spot};
 ghost use Rattle.flatgrammar.specs.declared.flat_item.Item as code_item;
 ghost use Rattle.earley.specs.PlaceTables.{IsPlaceTable, IsReached};
 ghost use Rattle.earley.specs.RowCharts.{row_views};

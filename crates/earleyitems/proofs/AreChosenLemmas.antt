@@ -10,7 +10,7 @@ use Rattle.flatgrammar.proofs.SliceGetLemmas.{push_cases}
 use Rattle.flatgrammar.proofs.InLemmas.{in_left, at_end, before_end, different_end}
 use Rattle.earleyitems.specs.EarleySets.{EarleySet}
 use Rattle.earleyitems.specs.declared.postdot.HomedItem.{HomedItem}
-use Rattle.earleyitems.specs.declared.postdot.Caller.{Caller}
+use Rattle.earleyitems.specs.declared.postdot.CallingItem.{CallingItem}
 use Rattle.earleyitems.specs.Chosen.{items_of, callers_of, Calls, ReadsSome, AreChosen, AreCallers, AreReaders}
 use Rattle.flatgrammar.specs.TableViews.{call_of}
 use Rattle.earleyitems.specs.ItemSets.{Adds}
@@ -78,7 +78,7 @@ module _ (Q : Item → Type 0) where
   chosen_end items few k le = subst (λ v. AreChosen Q v few) (take_past items k le)
 
 -- one more item that calls
-pub callers_more : (flat : code_flat.Tables) (seen : List Item) (list new : List Caller) (c : Caller)
+pub callers_more : (flat : code_flat.Tables) (seen : List Item) (list new : List CallingItem) (c : CallingItem)
     → AreCallers flat seen list → call_of flat c.at.item ≡ Some (c.root, c.next) → new ≡ list ++ c ∷ [] →
     AreCallers flat (seen ++ c.at.item ∷ []) new
 callers_more flat seen list new c are tells pushed = record {
@@ -88,6 +88,6 @@ callers_more flat seen list new c are tells pushed = record {
   tell = λ d i. by d (before_end d c list (subst (λ v. In d v) pushed i));
 }
   where
-    by : (d : Caller) → In d list ⊎ (d ≡ c) → call_of flat d.at.item ≡ Some (d.root, d.next)
+    by : (d : CallingItem) → In d list ⊎ (d ≡ c) → call_of flat d.at.item ≡ Some (d.root, d.next)
     by d (inl h) = are.tell d h
     by d (inr same) = subst (λ v. call_of flat v.at.item ≡ Some (v.root, v.next)) (sym same) tells

@@ -6,7 +6,7 @@ use Rattle.std.proofs.lemmas.List.{append-nil}
 use Rattle.flatgrammar.specs.Places.{In, now, on, AreDifferent}
 use Rattle.flatgrammar.specs.declared.flat_item.Item.{Item}
 use Rattle.flatgrammar.specs.declared.tables.Tables as code_flat
-use Rattle.flatgrammar.specs.declared.block.Spot.{Spot}
+use Rattle.flatgrammar.specs.declared.block.DottedRule.{DottedRule}
 use Rattle.flatgrammar.specs.TableViews.{read_of}
 use Rattle.flatgrammar.specs.NodeSteps.{IfSomeSet}
 use Rattle.flatgrammar.specs.Blocks.{item_at, Block, block_of, readers_of, AreSpotLists}
@@ -122,7 +122,8 @@ module _ (flat : code_flat.Tables) (c : ℕ) where
       ∙ map_end (λ h. h.item) (take k ws) (slice_index_or ws k d)))
       (read_both (items_of (take k ws)) ((slice_index_or ws k d).item ∷ []) old mid new p q)
 
-  pub scan_spots_more : (j : ℕ) (ws : List Spot) (k : ℕ) (d : Spot) (old mid new : List Item) → k < length ws
+  pub scan_spots_more : (j : ℕ) (ws : List DottedRule) (k : ℕ) (d : DottedRule) (old mid new : List Item)
+      → k < length ws
       → AreScannedItems flat c (map (item_at j) (take k ws)) old mid
       → AreScannedItems flat c (item_at j (slice_index_or ws k d) ∷ []) mid new
       → AreScannedItems flat c (map (item_at j) (take (k + 1) ws)) old new

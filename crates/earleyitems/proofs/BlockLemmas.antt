@@ -12,7 +12,7 @@ use Rattle.flatgrammar.specs.TableViews.{call_of, takes_of, GiveRoots}
 use Rattle.earleyitems.specs.ItemSets.{waiting_or, IsPredicted, IsCompleted}
 use Rattle.earleyitems.specs.Closed.{HoldAll}
 use Rattle.earleyitems.specs.Worklist.{AdvancesNullable, IsWork, IsWorked}
-use Rattle.flatgrammar.specs.declared.block.Spot.{Spot}
+use Rattle.flatgrammar.specs.declared.block.DottedRule.{DottedRule}
 use Rattle.flatgrammar.specs.Blocks.{item_at, Block, begin_count, call_at, Inside, begun, called}
 use Rattle.earleyitems.specs.SetViews.{expand, full, AreBlocks, AreOpened}
 use Rattle.earleyitems.proofs.ScanLastLemmas.{predicted_holds}
@@ -32,17 +32,17 @@ in_either (x ∷ xs) (on h) = by (in_either xs h)
     by (inl g) = inl (on g)
     by (inr g) = inr g
 
-pub in_map : (j : ℕ) (p : Spot) (spots : List Spot) → In p spots → In (item_at j p) (map (item_at j) spots)
+pub in_map : (j : ℕ) (p : DottedRule) (spots : List DottedRule) → In p spots → In (item_at j p) (map (item_at j) spots)
 in_map j p [] h = elim h [ ]
 in_map j p (q ∷ spots) (now same) = now (ap (λ v. item_at j v) same)
 in_map j p (q ∷ spots) (on h) = on (in_map j p spots h)
 
-pub record Mapped (j : ℕ) (a : Item) (spots : List Spot) : Type 0 where
-  pub spot : Spot
+pub record Mapped (j : ℕ) (a : Item) (spots : List DottedRule) : Type 0 where
+  pub spot : DottedRule
   pub stands : In spot spots
   pub is : a ≡ item_at j spot
 
-pub from_map : (j : ℕ) (a : Item) (spots : List Spot) → In a (map (item_at j) spots) → Mapped j a spots
+pub from_map : (j : ℕ) (a : Item) (spots : List DottedRule) → In a (map (item_at j) spots) → Mapped j a spots
 from_map j a [] h = elim h [ ]
 from_map j a (q ∷ spots) (now same) = record { spot = q; stands = now refl; is = same }
 from_map j a (q ∷ spots) (on h) = let m = from_map j a spots h in
@@ -51,11 +51,11 @@ from_map j a (q ∷ spots) (on h) = let m = from_map j a spots h in
 pub record Expanded (blocks : ℕ → Block) (j : ℕ) (heads : List ℕ) (a : Item) : Type 0 where
   pub head : ℕ
   pub stands : In head heads
-  pub spot : Spot
+  pub spot : DottedRule
   pub lies : In spot (blocks head).spots
   pub is : a ≡ item_at j spot
 
-pub in_expand : (blocks : ℕ → Block) (j h : ℕ) (heads : List ℕ) (p : Spot) → In h heads → In p (blocks h).spots
+pub in_expand : (blocks : ℕ → Block) (j h : ℕ) (heads : List ℕ) (p : DottedRule) → In h heads → In p (blocks h).spots
     → In (item_at j p) (expand blocks j heads)
 in_expand blocks j h [] p at_h lies = elim at_h [ ]
 in_expand blocks j h (g ∷ heads) p (now same) lies =
@@ -159,7 +159,7 @@ module _ (flat : code_flat.Tables) (roots : GiveRoots (flat_of flat) flat.roots.
     (sets : List (List Item)) (earlier : HoldAll (flat_of flat) x sets) where
   -- where a root is predicted, all of its block stands
   pub inside_holds : (h : ℕ) → ((k : ℕ) → k < begin_count flat h → Holds (flat_of flat) x (length sets) (at h k)
-      (length sets)) → {p : Spot} → Inside flat h p →
+      (length sets)) → {p : DottedRule} → Inside flat h p →
       Holds (flat_of flat) x (length sets) (at p.node p.step) (length sets)
   inside_holds h predicted (begun {k = k} lt) = predicted k lt
   inside_holds h predicted (called {p = p} {t = t} {l = l} {k = k} i call lt) =
@@ -193,13 +193,13 @@ different_both (x ∷ xs) ys dx dy apart =
     by (inl g) = dx.0 g
     by (inr g) = apart x (now refl) g
 
-spot_same : (j : ℕ) (p q : Spot) → item_at j p ≡ item_at j q → p ≡ q
+spot_same : (j : ℕ) (p q : DottedRule) → item_at j p ≡ item_at j q → p ≡ q
 spot_same j p q h =
     let n : p.node ≡ q.node = ap (λ v. v.node) h in
     let s : p.step ≡ q.step = ap (λ v. v.step) h in
     ap (λ v. record { node = v; step = p.step }) n ∙ ap (λ v. record { node = q.node; step = v }) s
 
-pub different_map : (j : ℕ) (spots : List Spot) → AreDifferent spots → AreDifferent (map (item_at j) spots)
+pub different_map : (j : ℕ) (spots : List DottedRule) → AreDifferent spots → AreDifferent (map (item_at j) spots)
 different_map j [] d = tt
 different_map j (p ∷ spots) d = (
   (λ h. let m = from_map j (item_at j p) spots h in
@@ -207,7 +207,7 @@ different_map j (p ∷ spots) d = (
   different_map j spots d.1,
 )
 
-pub different_spots : (j : ℕ) (spots : List Spot) → AreDifferent (map (item_at j) spots) → AreDifferent spots
+pub different_spots : (j : ℕ) (spots : List DottedRule) → AreDifferent (map (item_at j) spots) → AreDifferent spots
 different_spots j [] d = tt
 different_spots j (p ∷ spots) d = ((λ h. d.0 (in_map j p spots h)), different_spots j spots d.1)
 

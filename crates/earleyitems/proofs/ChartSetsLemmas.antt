@@ -16,7 +16,7 @@ use Rattle.flatgrammar.specs.declared.tables.Tables as code_flat
 use Rattle.flatgrammar.specs.NodeSteps.{flat_of}
 use Rattle.earleyitems.specs.Charts.{item_of, IsExact, IsExactSet}
 use Rattle.earleyitems.specs.ChartSets.{pair, chart_of, set_at, IsSet, AreSized, HaveMoreItems}
-use Rattle.flatgrammar.specs.declared.block.Spot.{Spot}
+use Rattle.flatgrammar.specs.declared.block.DottedRule.{DottedRule}
 use Rattle.flatgrammar.specs.Blocks.{Block, item_at, block_of}
 use Rattle.earleyitems.specs.SetViews.{expand, full, view, views}
 use Rattle.flatgrammar.proofs.SliceGetLemmas.{get_below}
@@ -188,7 +188,7 @@ sized_push tables kept_sets kept_set all last j f is =
     (push_cases kept_sets kept_set j f is)
 
 -- one block more
-pub size_more : (blocks : ℕ → Block) (j : ℕ) (heads : List ℕ) (k d : ℕ) (spots : List Spot) → k < length heads
+pub size_more : (blocks : ℕ → Block) (j : ℕ) (heads : List ℕ) (k d : ℕ) (spots : List DottedRule) → k < length heads
     → spots ≡ (blocks (slice_index_or heads k d)).spots →
     length (expand blocks j (take (k + 1) heads)) ≡ length (expand blocks j (take k heads)) + length spots
 size_more blocks j heads k d spots lt is =

@@ -7,7 +7,7 @@ use Rattle.std.proofs.lemmas.List.{append-nil}
 use Rattle.flatgrammar.specs.Places.{In, now, on}
 use Rattle.flatgrammar.specs.declared.flat_item.Item.{Item}
 use Rattle.flatgrammar.specs.declared.tables.Tables as code_flat
-use Rattle.flatgrammar.specs.declared.block.Spot.{Spot}
+use Rattle.flatgrammar.specs.declared.block.DottedRule.{DottedRule}
 use Rattle.earleyitems.specs.ItemSets.{Adds, IsAdvanced, IsCompleted, waiting_or, waiting_in}
 use Rattle.flatgrammar.specs.TableViews.{call_of, done_of, null_of, takes_of}
 use Rattle.earleyitems.specs.EarleySets.{EarleySet}
@@ -126,7 +126,8 @@ module _ (flat : code_flat.Tables) (root : ℕ) where
       subst (λ v. Adds (IsAdvanced flat root v) old new) (sym (take_one ws k d lt))
       (advanced_both flat root (take k ws) (slice_index_or ws k d ∷ []) old mid new p q)
 
-  pub advanced_spots_more : (j : ℕ) (ws : List Spot) (k : ℕ) (d : Spot) (old mid new : List Item) → k < length ws
+  pub advanced_spots_more : (j : ℕ) (ws : List DottedRule) (k : ℕ) (d : DottedRule) (old mid new : List Item)
+      → k < length ws
       → Adds (IsAdvanced flat root (map (item_at j) (take k ws))) old mid →
       Adds (IsAdvanced flat root (item_at j (slice_index_or ws k d) ∷ [])) mid new
       → Adds (IsAdvanced flat root (map (item_at j) (take (k + 1) ws))) old new
@@ -136,7 +137,7 @@ module _ (flat : code_flat.Tables) (root : ℕ) where
       ∙ map_end (item_at j) (take k ws) (slice_index_or ws k d)))
       (advanced_both flat root (map (item_at j) (take k ws)) (item_at j (slice_index_or ws k d) ∷ []) old mid new p q)
 
-  pub advanced_heads_more : (blocks : ℕ → Block) (j : ℕ) (hs : List ℕ) (k d : ℕ) (spots : List Spot)
+  pub advanced_heads_more : (blocks : ℕ → Block) (j : ℕ) (hs : List ℕ) (k d : ℕ) (spots : List DottedRule)
       (old mid new : List Item) → k < length hs →
       spots ≡ (blocks (slice_index_or hs k d)).spots → Adds (IsAdvanced flat root (expand blocks j (take k hs))) old
       mid →

@@ -9,7 +9,7 @@ use Rattle.flatgrammar.specs.Holds.{Holds}
 use Rattle.flatgrammar.specs.Places.{places, In, AreDifferent}
 use Rattle.flatgrammar.proofs.PlacesLemmas.{holds_origin, at_most, every, in_every, length_every}
 use Rattle.flatgrammar.specs.declared.flat_item.Item.{Item}
-use Rattle.flatgrammar.specs.declared.block.Spot.{Spot}
+use Rattle.flatgrammar.specs.declared.block.DottedRule.{DottedRule}
 use Rattle.flatgrammar.specs.declared.tables.Tables as code_flat
 use Rattle.flatgrammar.specs.FlatViews.{node_of}
 use Rattle.flatgrammar.specs.NodeSteps.{flat_of}
@@ -42,7 +42,7 @@ size_map f [] = refl
 size_map f (y ∷ xs) = ap suc (size_map f xs)
 
 module _ (flat : code_flat.Tables) where
-  inside_begins : {h : ℕ} {p : Spot} → Inside flat h p → p.step < begin_count flat p.node
+  inside_begins : {h : ℕ} {p : DottedRule} → Inside flat h p → p.step < begin_count flat p.node
   inside_begins (begun lt) = lt
   inside_begins (called i call lt) = lt
 
@@ -130,7 +130,7 @@ module _ (flat : code_flat.Tables) (roots : GiveRoots (flat_of flat) flat.roots.
       (λ t. waits_early item.origin (slice_get sets item.origin) refl c.advanced.stands)
 
   module _ (ii hi : ℕ) (heads : List ℕ) (items : List Item) (g : IsWorklist flat x sets ii hi heads items) where
-    spot_holds : (h : ℕ) (p : Spot) → In h heads → In p (block_of flat h).spots
+    spot_holds : (h : ℕ) (p : DottedRule) → In h heads → In p (block_of flat h).spots
         → Holds (flat_of flat) x (length sets) (at p.node p.step) (length sets)
     spot_holds h p at_h lies = inside_holds flat roots x sets earlier h (g.predicted h at_h)
         ((tables.block h (g.are_heads h at_h)).inside p lies)
@@ -293,7 +293,7 @@ module _ (flat : code_flat.Tables) (roots : GiveRoots (flat_of flat) flat.roots.
       head_kept = full_keeps flat (length sets) heads heads' items items' (λ h i. longer_in called_heads i)
           (λ a i. longer_in passed_items i)
 
-      passed_holds_here : (r : Spot) → In r (block_of flat (slice_index_or heads hi d)).passes
+      passed_holds_here : (r : DottedRule) → In r (block_of flat (slice_index_or heads hi d)).passes
           → Holds (flat_of flat) x (length sets) (at r.node r.step) (length sets)
       passed_holds_here r h =
           let p = this_block.passes r h in
@@ -379,7 +379,7 @@ module _ (flat : code_flat.Tables) (roots : GiveRoots (flat_of flat) flat.roots.
           calls_there h t (inl i) c = longer_in called_heads (g.opened.calls h i t c)
           calls_there h t (inr same) c = called_heads.all t (subst (λ v. In t (block_of flat v).calls) same c)
 
-          passes_there : (h : ℕ) (r : Spot) → In h (take hi heads) ⊎ (h ≡ slice_index_or heads hi d)
+          passes_there : (h : ℕ) (r : DottedRule) → In h (take hi heads) ⊎ (h ≡ slice_index_or heads hi d)
               → In r (block_of flat h).passes →
               In (item_at (length sets) r) (full (block_of flat) (length sets) heads' items')
           passes_there h r (inl i) p = head_kept (item_at (length sets) r) (g.opened.passes h i r p)

@@ -9,7 +9,7 @@ use Rattle.flatgrammar.proofs.SliceGetLemmas.{push_cases}
 use Rattle.flatgrammar.proofs.SpotListLemmas.{readers_pick}
 use Rattle.flatgrammar.specs.Blocks.{home_of, home_or, inner_of, AreHomes, AreSpotLists, block_of, item_at, lists_of}
 use Rattle.flatgrammar.specs.Blocks.{readers_of}
-use Rattle.flatgrammar.specs.declared.block.Spot.{Spot}
+use Rattle.flatgrammar.specs.declared.block.DottedRule.{DottedRule}
 use Rattle.flatgrammar.specs.declared.inner.Inner.{Inner}
 use Rattle.flatgrammar.specs.declared.spot_list.Ask.{Ask}
 use Rattle.flatgrammar.specs.Places.{In, now, on}
@@ -20,9 +20,9 @@ use Rattle.earleyitems.specs.ItemHomes.{head_rows, head_rows_with, IsHome, IsHom
 use Rattle.earleyitems.specs.ItemHomes.{AreReadersHomed, AreCallersHomed, AreFirstHomed, AreWaitersHomed, AreSetsHomed}
 use Rattle.earleyitems.specs.ItemLists.{ItemList}
 use Rattle.earleyitems.specs.ItemSets.{IsOneMore}
-use Rattle.earleyitems.specs.declared.postdot.Caller.{Caller}
+use Rattle.earleyitems.specs.declared.postdot.CallingItem.{CallingItem}
 use Rattle.earleyitems.specs.declared.postdot.HomedItem.{HomedItem}
-use Rattle.earleyitems.specs.declared.sets.Bounds.{Bounds}
+use Rattle.earleyitems.specs.declared.sets.SetBounds.{SetBounds}
 use Rattle.earleyitems.specs.declared.sets.Record.{Record}
 use Rattle.earleyitems.specs.declared.sets.Stores.{Stores}
 use Rattle.earleyitems.specs.declared.waiters.Waiter.{Waiter}
@@ -105,7 +105,7 @@ module _ (flat : code_flat.Tables) where
       ap (λ v. slice_get v home) (sym (row_at kept_sets heads a.origin f at)) ∙ is
 
   -- what a block has is at home where its head is
-  module _ (are_homes : AreHomes flat) (rows : List (List ℕ)) (heads : List ℕ) (h j k : ℕ) (p : Spot)
+  module _ (are_homes : AreHomes flat) (rows : List (List ℕ)) (heads : List ℕ) (h j k : ℕ) (p : DottedRule)
       (row : slice_index_or rows j [] ≡ heads) (at : slice_get heads k ≡ Some h) where
     pub spot_home : In p (block_of flat h).spots → IsHome flat rows (item_at j p) k
     spot_home stands = ap (λ v. slice_get v k) row ∙ (at ∙ ap Some (sym (are_homes.spots h p stands)))
@@ -117,7 +117,7 @@ module _ (flat : code_flat.Tables) where
       → In site.spot (block_of flat h).spots
   site_stands lists h site stands = (lists h).0.0 site.spot (in_mapped (λ a. a.spot) stands)
 
-  pub reader_stands : (lists : AreSpotLists flat) (h c : ℕ) (p : Spot) → In p (readers_of flat h c)
+  pub reader_stands : (lists : AreSpotLists flat) (h c : ℕ) (p : DottedRule) → In p (readers_of flat h c)
       → In p (block_of flat h).spots
   reader_stands lists h c p stands = (readers_pick flat h c lists).0 p stands
 
@@ -136,7 +136,8 @@ module _ (flat : code_flat.Tables) where
         → AreReadersHomed flat more readers
     readers_keep readers are r h = have r.item.origin r.home (home_of flat r.item.node) (are r h)
 
-    pub callers_keep : (callers : List Caller) → AreCallersHomed flat rows callers → AreCallersHomed flat more callers
+    pub callers_keep : (callers : List CallingItem) → AreCallersHomed flat rows callers
+        → AreCallersHomed flat more callers
     callers_keep callers are c h = have c.at.item.origin c.at.home (home_of flat c.at.item.node) (are c h)
 
     pub waiters_keep : (waiters : List Waiter) → AreWaitersHomed flat rows waiters → AreWaitersHomed flat more waiters
@@ -173,7 +174,7 @@ module _ (flat : code_flat.Tables) where
         by (inl was) = are i v was
         by (inr last) = subst (λ u. IsHome flat rows u.item u.home) last.1 is
 
-    pub callers_push : (cs : List Caller) (c : Caller) → IsHome flat rows c.at.item c.at.home
+    pub callers_push : (cs : List CallingItem) (c : CallingItem) → IsHome flat rows c.at.item c.at.home
         → AreCallersHomed flat rows cs → AreCallersHomed flat rows (cs ++ c ∷ [])
     callers_push cs c is are d h = by (in_either cs h)
       where
@@ -195,7 +196,7 @@ module _ (flat : code_flat.Tables) where
     first_homed ws all first go le are i w lt at =
         are i w (set_get ws go.0 i w (omega (arith, lt, le)) (ap (λ v. slice_get v i) (sym go.1) ∙ at))
 
-    last_homed : (s : Stores) (count : ℕ) (bounds : List Bounds)
+    last_homed : (s : Stores) (count : ℕ) (bounds : List SetBounds)
         → AreWaitersHomed flat rows (take count s.waiters.items)
         → ((k : ℕ) (f : EarleySet) → slice_get (sets_in s bounds) k ≡ Some f → AreWaitersHomed flat rows f.waiters)
         → AreWaitersHomed flat rows (take (last_waiters count bounds) s.waiters.items)
@@ -212,7 +213,7 @@ module _ (flat : code_flat.Tables) where
       let none : slice_get {X = Item} [] i ≡ Some a = ap (λ v. slice_get v i) (sym is) ∙ at in absurd (cc none)
 
   -- those of all sets are all
-  pub all_homed : (s : Stores) (bounds : List Bounds) → last_waiters 0 bounds ≡ length s.waiters.items
+  pub all_homed : (s : Stores) (bounds : List SetBounds) → last_waiters 0 bounds ≡ length s.waiters.items
       → AreSetsHomed flat (sets_in s bounds) → AreWaitersHomed flat (head_rows (sets_in s bounds)) s.waiters.items
   all_homed s bounds ends are =
       let rows = head_rows (sets_in s bounds) in

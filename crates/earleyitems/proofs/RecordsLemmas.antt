@@ -7,9 +7,9 @@ use borrow.Rule.Slice.PartMut.{put_mid}
 use Rattle.std.proofs.lemmas.List.{length-map, map-set, take-append-drop}
 use Rattle.std.proofs.Math.Seq.{map-set_same}
 use Rattle.flatgrammar.proofs.CallOfLemmas.{get_map, get_unmap}
-use Rattle.earleyitems.specs.declared.sets.Part.{Part}
+use Rattle.earleyitems.specs.declared.sets.IndexRange.{IndexRange}
 use Rattle.earleyitems.specs.declared.sets.Record.{Record}
-use Rattle.earleyitems.specs.declared.sets.Bounds.{Bounds}
+use Rattle.earleyitems.specs.declared.sets.SetBounds.{SetBounds}
 use Rattle.earleyitems.specs.declared.sets.Stores.{Stores}
 use Rattle.earleyitems.specs.EarleySets.{EarleySet, part_of, set_in, sets_in, the_record, heads_of, firsts_of}
 use Rattle.earleyitems.specs.EarleySets.{last_waiters}
@@ -85,12 +85,12 @@ first_set rs i d first lt =
       map-set (λ r. r.first) rs i new,
     )
 
-last_push : (count : ℕ) (bounds : List Bounds) (b : Bounds) → last_waiters count (bounds ++ b ∷ []) ≡ b.waiters
+last_push : (count : ℕ) (bounds : List SetBounds) (b : SetBounds) → last_waiters count (bounds ++ b ∷ []) ≡ b.waiters
 last_push count [] b = refl
 last_push count (c ∷ bounds) b = last_push c.waiters bounds b
 
 -- the waiting lists of a set stand among all
-pub waits_go : (s : Stores) (bounds : List Bounds) (k : ℕ) (f : EarleySet) → slice_get (sets_in s bounds) k ≡ Some f
+pub waits_go : (s : Stores) (bounds : List SetBounds) (k : ℕ) (f : EarleySet) → slice_get (sets_in s bounds) k ≡ Some f
     → GoesOn f.waiters s.waiters.items
 waits_go s bounds k f is =
     let u = get_unmap (set_in s) bounds k f is in
@@ -98,7 +98,8 @@ waits_go s bounds k f is =
     (drop u.from.waiters s.waiters.items, sym (take-append-drop u.from.waiters s.waiters.items))
 
 -- the lists of a further set
-pub added_stored : (old new : Stores) (bounds all : List Bounds) (b : Bounds) → all ≡ bounds ++ b ∷ [] → GoOn old new
+pub added_stored : (old new : Stores) (bounds all : List SetBounds) (b : SetBounds) → all ≡ bounds ++ b ∷ []
+    → GoOn old new
     → AreStored old bounds → AreBounds new b → b.waiters ≡ length new.waiters.items → AreStored new all
 added_stored old new bounds all b is go are here ends = subst (λ v. AreStored new v) (sym is) (record {
   within = all_bounds_push old new bounds b go are.within here;
@@ -112,7 +113,7 @@ behind_is old xs more from is same =
     (part_appended old xs more (record { from = from; to = length xs }) is same refl).is
 
 -- the records of a set, written after those of the others
-pub record AreBehind (heads : List ℕ) (old new here : List Record) (part : Part) : Type 0 where
+pub record AreBehind (heads : List ℕ) (old new here : List Record) (part : IndexRange) : Type 0 where
   pub goes : GoesOn old new
   pub part_is : part_of new part ≡ here
   pub heads_are : heads_of (part_of new part) ≡ heads
@@ -129,7 +130,7 @@ are_behind heads old xs here rest from n to are same long same_heads size end =
     let sum = ap (λ v. length v) is ∙ length-append old here in
     let wide = rest_long xs from in
     let longer = go_longer old xs (fresh heads, are) in
-    let part : Part = record { from = from; to = to } in
+    let part : IndexRange = record { from = from; to = to } in
     let full : to ≡ length new = omega (arith, sum, wide, longer, long, same, size, end) in
     let put = part_appended old new here part is same full in
     let slice = behind_is old xs (fresh heads) from are same in

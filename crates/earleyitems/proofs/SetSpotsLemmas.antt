@@ -8,7 +8,7 @@ use Rattle.std.specs.declared.rc.Rc.{Rc}
 use Rattle.flatgrammar.specs.Blocks.{block_of, item_at, spot}
 use Rattle.flatgrammar.specs.Flat.{Place, at}
 use Rattle.flatgrammar.specs.Places.{In, now, on}
-use Rattle.flatgrammar.specs.declared.block.Spot.{Spot}
+use Rattle.flatgrammar.specs.declared.block.DottedRule.{DottedRule}
 use Rattle.flatgrammar.specs.declared.flat_item.Item.{Item}
 use Rattle.flatgrammar.specs.declared.tables.Tables as code_flat
 use Rattle.earleyitems.specs.ChartSets.{chart_of, pair, set_at, AreSpotsOf}
@@ -18,7 +18,7 @@ use Rattle.earleyitems.specs.declared.sets.Record.{Record}
 use Rattle.earleyitems.proofs.ChartSetsLemmas.{index_map, index_past}
 use Rattle.earleyitems.proofs.ExpandLemmas.{get_views, length_views}
 
-abbrev pub spot_of : Item → Spot
+abbrev pub spot_of : Item → DottedRule
 spot_of a = spot a.node a.step
 
 abbrev node_at : Place → ℕ
@@ -28,7 +28,7 @@ abbrev step_at : Place → ℕ
 step_at (at s k) = k
 
 -- a dotted rule with an item of the list
-pub record IsSpotOf (items : List Item) (s : Spot) : Type 0 where
+pub record IsSpotOf (items : List Item) (s : DottedRule) : Type 0 where
   pub item : Item
   pub stands : In item items
   pub is : spot_of item ≡ s
@@ -39,7 +39,7 @@ pair_in [] a h = elim h [ ]
 pair_in (b ∷ items) a (now same) = now (ap pair same)
 pair_in (b ∷ items) a (on h) = on (pair_in items a h)
 
-pub in_pairs : (items : List Item) (s : Spot) (i : ℕ) → In {A = Place × ℕ} (at s.node s.step, i) (map pair items)
+pub in_pairs : (items : List Item) (s : DottedRule) (i : ℕ) → In {A = Place × ℕ} (at s.node s.step, i) (map pair items)
     → IsSpotOf items s
 in_pairs [] s i h = elim h [ ]
 in_pairs (b ∷ items) s i (now same) =
@@ -51,7 +51,7 @@ in_pairs (b ∷ items) s i (on h) = let f = in_pairs items s i h in
     record { item = f.item; stands = on f.stands; is = f.is }
 
 -- by lists
-spots_in : (items : List Item) (s : Spot) → In s (map spot_of items) → IsSpotOf items s
+spots_in : (items : List Item) (s : DottedRule) → In s (map spot_of items) → IsSpotOf items s
 spots_in [] s h = elim h [ ]
 spots_in (b ∷ items) s (now same) = record { item = b; stands = now refl; is = sym same }
 spots_in (b ∷ items) s (on h) = let f = spots_in items s h in record { item = f.item; stands = on f.stands; is = f.is }
@@ -62,7 +62,7 @@ in_spots_of (b ∷ items) a (now same) = now (ap spot_of same)
 in_spots_of (b ∷ items) a (on h) = on (in_spots_of items a h)
 
 -- the dotted rules of a set
-back_map : (j : ℕ) (spots : List Spot) → map spot_of (map (item_at j) spots) ≡ spots
+back_map : (j : ℕ) (spots : List DottedRule) → map spot_of (map (item_at j) spots) ≡ spots
 back_map j [] = refl
 back_map j (s ∷ spots) = ap (λ v. s ∷ v) (back_map j spots)
 
@@ -77,7 +77,7 @@ heads_spots tables j (r ∷ records) =
     ∙ sym (map-append spot_of (map (item_at j) here) rest ∙ ap (λ v. v ++ map spot_of rest) (back_map j here))
 
 pub spots_of_view : (tables : code_flat.Tables) (j : ℕ) (kept_set : EarleySet) (records : List Record)
-    (items : List Item) (mid new : List Spot) → heads_of records ≡ kept_set.heads → items ≡ kept_set.items
+    (items : List Item) (mid new : List DottedRule) → heads_of records ≡ kept_set.heads → items ≡ kept_set.items
     → mid ≡ flat_map (λ (r : Record). (block_of tables r.head).spots) records
     → new ≡ mid ++ map spot_of items → new ≡ map spot_of (view tables j kept_set)
 spots_of_view tables j kept_set records items mid new heads same first next =
@@ -87,7 +87,7 @@ spots_of_view tables j kept_set records items mid new heads same first next =
     ∙ ap (λ v. map spot_of (expand (block_of tables) j v)) heads)
     ∙ ap (λ v. map spot_of front ++ map spot_of v) same ∙ sym (map-append spot_of front kept_set.items)
 
-spots_tell : (set : List Item) (spots : List Spot) → spots ≡ map spot_of set → AreSpotsOf (map pair set) spots
+spots_tell : (set : List Item) (spots : List DottedRule) → spots ≡ map spot_of set → AreSpotsOf (map pair set) spots
 spots_tell set spots are s = (
   λ h. let f = spots_in set s (subst (λ v. In s v) are h) in
       record {
@@ -101,7 +101,7 @@ spots_tell set spots are s = (
 
 module _ (o : Option (Rc code_flat.Tables Global)) (tables : Rc code_flat.Tables Global) (some : o ≡ Some tables)
     (kept_sets : List EarleySet) (j : ℕ) where
-  pub view_spots : (f : EarleySet) (spots : List Spot) → slice_get kept_sets j ≡ Some f
+  pub view_spots : (f : EarleySet) (spots : List DottedRule) → slice_get kept_sets j ≡ Some f
       → spots ≡ map spot_of (view tables.value j f) → AreSpotsOf (set_at (chart_of o kept_sets) j) spots
   view_spots f spots is are =
       let zero_is : 0 + j ≡ j = omega arith in
@@ -110,7 +110,7 @@ module _ (o : Option (Rc code_flat.Tables Global)) (tables : Rc code_flat.Tables
       subst (λ v. AreSpotsOf (set_at (chart_of v kept_sets) j) spots) (sym some)
       (subst (λ v. AreSpotsOf v spots) (sym same) (spots_tell (view tables.value j f) spots are))
 
-  pub past_spots : (spots : List Spot) → spots ≡ [] → length kept_sets ≤ j
+  pub past_spots : (spots : List DottedRule) → spots ≡ [] → length kept_sets ≤ j
       → AreSpotsOf (set_at (chart_of o kept_sets) j) spots
   past_spots spots none past =
       let long = length_views tables.value 0 kept_sets in
@@ -119,6 +119,6 @@ module _ (o : Option (Rc code_flat.Tables Global)) (tables : Rc code_flat.Tables
       (subst (λ v. AreSpotsOf v spots) (sym same) (spots_tell [] spots none))
 
 pub no_tables_spots : (o : Option (Rc code_flat.Tables Global)) (kept_sets : List EarleySet) (j : ℕ)
-    (spots : List Spot) → o ≡ None → spots ≡ [] → AreSpotsOf (set_at (chart_of o kept_sets) j) spots
+    (spots : List DottedRule) → o ≡ None → spots ≡ [] → AreSpotsOf (set_at (chart_of o kept_sets) j) spots
 no_tables_spots o kept_sets j spots none is =
     subst (λ v. AreSpotsOf (set_at (chart_of v kept_sets) j) spots) (sym none) (spots_tell [] spots is)

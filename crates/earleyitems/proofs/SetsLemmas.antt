@@ -7,8 +7,8 @@ use Rattle.std.specs.Prelude.{slice_range}
 use Rattle.std.proofs.Math.Seq.{drop-append_seam, length-take-le}
 use Rattle.std.proofs.lemmas.List.{drop-append-le, take-append-le, length-drop, take_all, map-append, append-nil}
 use Rattle.flatgrammar.proofs.SliceGetLemmas.{push_cases}
-use Rattle.earleyitems.specs.declared.sets.Part.{Part}
-use Rattle.earleyitems.specs.declared.sets.Bounds.{Bounds}
+use Rattle.earleyitems.specs.declared.sets.IndexRange.{IndexRange}
+use Rattle.earleyitems.specs.declared.sets.SetBounds.{SetBounds}
 use Rattle.earleyitems.specs.declared.sets.Stores.{Stores}
 use Rattle.earleyitems.specs.EarleySets.{EarleySet, part_of, set_in, sets_in, IsPart, AreBounds, AreAllBounds, GoesOn}
 use Rattle.earleyitems.specs.EarleySets.{GoOn, IsAppended}
@@ -16,7 +16,7 @@ use borrow.Rule.Slice.PartMut.{put_mid, post_of}
 use Rattle.std.proofs.lemmas.Slice.{take-put_mid}
 
 -- a part of a list that goes on
-part_same : {A : Type 0} (old new : List A) (part : Part) → GoesOn old new → IsPart part (length old)
+part_same : {A : Type 0} (old new : List A) (part : IndexRange) → GoesOn old new → IsPart part (length old)
     → part_of new part ≡ part_of old part
 part_same old new part go is =
     let inside = is.inside in
@@ -28,7 +28,7 @@ part_same old new part go is =
     ∙ (ap (λ v. take (part.to - part.from) v) (drop-append-le part.from old go.0 from)
     ∙ take-append-le (part.to - part.from) (drop part.from old) go.0 room)
 
-part_within : {A : Type 0} (old new : List A) (part : Part) → GoesOn old new → IsPart part (length old)
+part_within : {A : Type 0} (old new : List A) (part : IndexRange) → GoesOn old new → IsPart part (length old)
     → IsPart part (length new)
 part_within old new part go is =
     let inside = is.inside in
@@ -80,7 +80,8 @@ behind_new old xs ys rest from n go same size is =
     written_behind xs ys rest from n le count is ∙ ap (λ v. v ++ ys) front
 
 -- what was appended to a list
-pub part_appended : {A : Type 0} (old new more : List A) (part : Part) → new ≡ old ++ more → part.from ≡ length old
+pub part_appended : {A : Type 0} (old new more : List A) (part : IndexRange) → new ≡ old ++ more
+    → part.from ≡ length old
     → part.to ≡ length new → IsAppended new more part
 part_appended old new more part is from to =
     let size = ap (λ v. length v) is ∙ length-append old more in
@@ -97,14 +98,14 @@ pub goes_nowhere : {A : Type 0} (old new : List A) → new ≡ old → GoesOn ol
 goes_nowhere old new is = ([], is ∙ sym (append-nil old))
 
 -- a set that stands there stands there on
-front_same : (old new : Stores) (b : Bounds) → GoOn old new → AreBounds old b → set_in new b ≡ set_in old b
+front_same : (old new : Stores) (b : SetBounds) → GoOn old new → AreBounds old b → set_in new b ≡ set_in old b
 front_same old new b go are =
     let one = part_same old.records.items new.records.items b.records go.records are.records in
     let two = part_same old.items.items new.items.items b.items go.items are.items in
     let three = set_part_same old.waiters.items new.waiters.items b.waiters go.waiters are.waiters in
     rw (one, two, three) refl
 
-bounds_same : (old new : Stores) (b : Bounds) → GoOn old new → AreBounds old b → AreBounds new b
+bounds_same : (old new : Stores) (b : SetBounds) → GoOn old new → AreBounds old b → AreBounds new b
 bounds_same old new b go are = record {
   records = part_within old.records.items new.records.items b.records go.records are.records;
   items = part_within old.items.items new.items.items b.items go.items are.items;
@@ -112,7 +113,7 @@ bounds_same old new b go are = record {
       let within = are.waiters in omega (arith, within, size));
 }
 
-pub sets_same : (old new : Stores) (bounds : List Bounds) → GoOn old new → AreAllBounds old bounds
+pub sets_same : (old new : Stores) (bounds : List SetBounds) → GoOn old new → AreAllBounds old bounds
     → sets_in new bounds ≡ sets_in old bounds
 sets_same old new [] go are = refl
 sets_same old new (b ∷ bounds) go are =
@@ -120,12 +121,12 @@ sets_same old new (b ∷ bounds) go are =
     let rest = sets_same old new bounds go (λ j c is. are (suc j) c is) in
     rw (here, rest) refl
 
-pub all_bounds_same : (old new : Stores) (bounds : List Bounds) → GoOn old new → AreAllBounds old bounds
+pub all_bounds_same : (old new : Stores) (bounds : List SetBounds) → GoOn old new → AreAllBounds old bounds
     → AreAllBounds new bounds
 all_bounds_same old new bounds go are j b is = bounds_same old new b go (are j b is)
 
 -- one set more
-pub sets_push : (old new : Stores) (bounds : List Bounds) (b : Bounds) (kept_set : EarleySet) → GoOn old new
+pub sets_push : (old new : Stores) (bounds : List SetBounds) (b : SetBounds) (kept_set : EarleySet) → GoOn old new
     → AreAllBounds old bounds → set_in new b ≡ kept_set →
     sets_in new (bounds ++ b ∷ []) ≡ sets_in old bounds ++ kept_set ∷ []
 sets_push old new bounds b kept_set go are is =
@@ -133,7 +134,8 @@ sets_push old new bounds b kept_set go are is =
     ∙ (ap (λ v. v ++ set_in new b ∷ []) (sets_same old new bounds go are)
     ∙ ap (λ v. sets_in old bounds ++ v ∷ []) is)
 
-pub all_bounds_push : (old new : Stores) (bounds : List Bounds) (b : Bounds) → GoOn old new → AreAllBounds old bounds
+pub all_bounds_push : (old new : Stores) (bounds : List SetBounds) (b : SetBounds) → GoOn old new
+    → AreAllBounds old bounds
     → AreBounds new b → AreAllBounds new (bounds ++ b ∷ [])
 all_bounds_push old new bounds b go are here j c is = by (push_cases bounds b j c is)
   where

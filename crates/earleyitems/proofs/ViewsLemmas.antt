@@ -17,7 +17,7 @@ use Rattle.flatgrammar.specs.TableViews.{count_in, read_in, GiveRoots, whole_roo
 use Rattle.earleyitems.specs.ScannedItems.{IsScannedItem}
 use Rattle.earleyitems.specs.Closed.{Hold, IsClosed, Keeps}
 use Rattle.earleyitems.specs.Charts.{IsFirst, IsAfter, IsBuilt}
-use Rattle.flatgrammar.specs.declared.block.Spot.{Spot}
+use Rattle.flatgrammar.specs.declared.block.DottedRule.{DottedRule}
 use Rattle.flatgrammar.specs.Blocks.{item_at, Block, begin_count, block_of, AreTables}
 use Rattle.earleyitems.specs.SetViews.{expand, full, view, views, IsWorklist, IsWholeAt}
 use Rattle.flatgrammar.proofs.CallOfLemmas.{begun_starts, root_stands, get_below, some_same}
@@ -204,7 +204,7 @@ not_more item ws w none differs h = by (before_end item w ws h)
     by (inl g) = none g
     by (inr same) = differs same
 
-pub spots_none : (j : ℕ) (item : Item) (spots : List Spot) (k : ℕ) (d : Spot) → k < length spots
+pub spots_none : (j : ℕ) (item : Item) (spots : List DottedRule) (k : ℕ) (d : DottedRule) → k < length spots
     → (In item (map (item_at j) (take k spots)) → ⊥) → (item ≡ item_at j (slice_index_or spots k d) → ⊥) →
     In item (map (item_at j) (take (k + 1) spots)) → ⊥
 spots_none j item spots k d lt none differs h =
@@ -212,12 +212,12 @@ spots_none j item spots k d lt none differs h =
     (subst (λ v. In item v) (ap (λ v. map (item_at j) v) (take_one spots k d lt)
     ∙ map_end (item_at j) (take k spots) (slice_index_or spots k d)) h)
 
-pub spots_some : (j : ℕ) (item : Item) (spots : List Spot) (k : ℕ) (d : Spot) → k < length spots
+pub spots_some : (j : ℕ) (item : Item) (spots : List DottedRule) (k : ℕ) (d : DottedRule) → k < length spots
     → item ≡ item_at j (slice_index_or spots k d) → In item (map (item_at j) spots)
 spots_some j item spots k d lt same = subst (λ v. In v (map (item_at j) spots)) (sym same)
     (in_map j (slice_index_or spots k d) spots (at_index_in spots k d lt))
 
-pub heads_none : (blocks : ℕ → Block) (j : ℕ) (item : Item) (heads : List ℕ) (k d : ℕ) (spots : List Spot)
+pub heads_none : (blocks : ℕ → Block) (j : ℕ) (item : Item) (heads : List ℕ) (k d : ℕ) (spots : List DottedRule)
     → k < length heads → spots ≡ (blocks (slice_index_or heads k d)).spots →
     (In item (expand blocks j (take k heads)) → ⊥) → (In item (map (item_at j) spots) → ⊥)
     → In item (expand blocks j (take (k + 1) heads)) → ⊥
@@ -231,7 +231,7 @@ heads_none blocks j item heads k d spots lt is none differs h =
     by (inl g) = none g
     by (inr g) = differs (subst (λ v. In item (map (item_at j) v)) (sym is) g)
 
-pub heads_some : (blocks : ℕ → Block) (j : ℕ) (item : Item) (heads : List ℕ) (k d : ℕ) (spots : List Spot)
+pub heads_some : (blocks : ℕ → Block) (j : ℕ) (item : Item) (heads : List ℕ) (k d : ℕ) (spots : List DottedRule)
     → k < length heads → spots ≡ (blocks (slice_index_or heads k d)).spots →
     In item (map (item_at j) spots) → In item (expand blocks j heads)
 heads_some blocks j item heads k d spots lt is h =
@@ -244,6 +244,6 @@ pub heads_all : (blocks : ℕ → Block) (j : ℕ) (item : Item) (heads : List �
 heads_all blocks j item heads k le none h = none
     (subst (λ v. In item (expand blocks j v)) (sym (take_past heads k le)) h)
 
-pub spots_all : (j : ℕ) (item : Item) (spots : List Spot) (k : ℕ) → length spots ≤ k
+pub spots_all : (j : ℕ) (item : Item) (spots : List DottedRule) (k : ℕ) → length spots ≤ k
     → (In item (map (item_at j) (take k spots)) → ⊥) → In item (map (item_at j) spots) → ⊥
 spots_all j item spots k le none h = none (subst (λ v. In item (map (item_at j) v)) (sym (take_past spots k le)) h)

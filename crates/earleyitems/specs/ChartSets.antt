@@ -6,7 +6,7 @@ use Rattle.std.specs.declared.rc.Rc.{Rc}
 use Rattle.flatgrammar.specs.Flat.{Flat, Place, at}
 use Rattle.flatgrammar.specs.Holds.{Holds}
 use Rattle.flatgrammar.specs.Places.{In, AreDifferent}
-use Rattle.flatgrammar.specs.declared.block.Spot.{Spot}
+use Rattle.flatgrammar.specs.declared.block.DottedRule.{DottedRule}
 use Rattle.flatgrammar.specs.declared.flat_item.Item.{Item}
 use Rattle.earleyitems.specs.EarleySets.{EarleySet}
 use Rattle.flatgrammar.specs.declared.tables.Tables as code_flat
@@ -26,13 +26,13 @@ abbrev pub set_at : List (List (Place × ℕ)) → ℕ → List (Place × ℕ)
 set_at sets j = slice_index_or sets j []
 
 -- an item of a set has this dotted rule
-pub record HasSpot (set : List (Place × ℕ)) (s : Spot) : Type 0 where
+pub record HasSpot (set : List (Place × ℕ)) (s : DottedRule) : Type 0 where
   pub origin : ℕ
   pub stands : In {A = Place × ℕ} (at s.node s.step, origin) set
 
 -- the dotted rules are those of the items of a set
-abbrev pub AreSpotsOf : List (Place × ℕ) → List Spot → Type 0
-AreSpotsOf set spots = (s : Spot) → In s spots ↔ HasSpot set s
+abbrev pub AreSpotsOf : List (Place × ℕ) → List DottedRule → Type 0
+AreSpotsOf set spots = (s : DottedRule) → In s spots ↔ HasSpot set s
 
 -- a list is exactly the items of set j, each once
 pub record IsSet (flat : Flat) (x : List ℕ) (j : ℕ) (set : List (Place × ℕ)) : Type 0 where

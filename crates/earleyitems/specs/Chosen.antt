@@ -7,7 +7,7 @@ use Rattle.flatgrammar.specs.declared.flat_item.Item.{Item}
 use Rattle.flatgrammar.specs.declared.tables.Tables as code_flat
 use Rattle.earleyitems.specs.EarleySets.{EarleySet}
 use Rattle.earleyitems.specs.declared.postdot.HomedItem.{HomedItem}
-use Rattle.earleyitems.specs.declared.postdot.Caller.{Caller}
+use Rattle.earleyitems.specs.declared.postdot.CallingItem.{CallingItem}
 
 -- the items without their homes
 abbrev pub items_of : List HomedItem → List Item
@@ -28,15 +28,15 @@ pub record AreChosen (Q : Item → Type 0) (all few : List Item) : Type 0 where
   pub different : AreDifferent all → AreDifferent few
 
 -- the items that call
-abbrev pub callers_of : List Caller → List Item
+abbrev pub callers_of : List CallingItem → List Item
 callers_of list = map (λ c. c.at.item) list
 
 -- each item calls what it is said to call
-abbrev pub AreCalls : code_flat.Tables → List Caller → Type 0
-AreCalls flat callers = (c : Caller) → In c callers → call_of flat c.at.item ≡ Some (c.root, c.next)
+abbrev pub AreCalls : code_flat.Tables → List CallingItem → Type 0
+AreCalls flat callers = (c : CallingItem) → In c callers → call_of flat c.at.item ≡ Some (c.root, c.next)
 
 -- of all items at least those that call, with what they call
-pub record AreCallers (flat : code_flat.Tables) (all : List Item) (callers : List Caller) : Type 0 where
+pub record AreCallers (flat : code_flat.Tables) (all : List Item) (callers : List CallingItem) : Type 0 where
   pub chosen : AreChosen (Calls flat) all (callers_of callers)
   pub tell : AreCalls flat callers
 

@@ -3,9 +3,9 @@ use Rattle.std.specs.Prelude.{◌≡◌, ℕ, ◌≤◌, ◌++◌, List, [], ◌
 use Rattle.std.specs.Prelude.{Some}
 use Rattle.flatgrammar.specs.declared.flat_item.Item.{Item}
 use Rattle.earleyitems.specs.declared.waiters.Waiter.{Waiter}
-use Rattle.earleyitems.specs.declared.sets.Part.{Part}
+use Rattle.earleyitems.specs.declared.sets.IndexRange.{IndexRange}
 use Rattle.earleyitems.specs.declared.sets.Record.{Record}
-use Rattle.earleyitems.specs.declared.sets.Bounds.{Bounds}
+use Rattle.earleyitems.specs.declared.sets.SetBounds.{SetBounds}
 use Rattle.earleyitems.specs.declared.sets.Stores.{Stores}
 
 -- a set as it is kept
@@ -17,7 +17,7 @@ pub record EarleySet : Type 0 where
   pub size : ℕ
 
 -- a part of a list
-abbrev pub part_of : {A : Type 0} → List A → Part → List A
+abbrev pub part_of : {A : Type 0} → List A → IndexRange → List A
 part_of xs part = slice_range xs part.from part.to
 
 abbrev pub the_record : ℕ → ℕ → Record
@@ -34,7 +34,7 @@ abbrev pub AreSameHeads : List Record → List Record → Type 0
 AreSameHeads old new = heads_of new ≡ heads_of old
 
 -- the set that stands between those bounds
-abbrev pub set_in : Stores → Bounds → EarleySet
+abbrev pub set_in : Stores → SetBounds → EarleySet
 set_in s b = record {
   heads = heads_of (part_of s.records.items b.records);
   items = part_of s.items.items b.items;
@@ -43,29 +43,29 @@ set_in s b = record {
   size = b.size;
 }
 
-abbrev pub sets_in : Stores → List Bounds → List EarleySet
+abbrev pub sets_in : Stores → List SetBounds → List EarleySet
 sets_in s bounds = map (set_in s) bounds
 
 -- a part lies within so many entries
-pub record IsPart (part : Part) (count : ℕ) : Type 0 where
+pub record IsPart (part : IndexRange) (count : ℕ) : Type 0 where
   pub ordered : part.from ≤ part.to
   pub inside : part.to ≤ count
 
-pub record AreBounds (s : Stores) (b : Bounds) : Type 0 where
+pub record AreBounds (s : Stores) (b : SetBounds) : Type 0 where
   pub records : IsPart b.records (length s.records.items)
   pub items : IsPart b.items (length s.items.items)
   pub waiters : b.waiters ≤ length s.waiters.items
 
-abbrev pub AreAllBounds : Stores → List Bounds → Type 0
-AreAllBounds s bounds = (j : ℕ) (b : Bounds) → slice_get bounds j ≡ Some b → AreBounds s b
+abbrev pub AreAllBounds : Stores → List SetBounds → Type 0
+AreAllBounds s bounds = (j : ℕ) (b : SetBounds) → slice_get bounds j ≡ Some b → AreBounds s b
 
 -- how many waiters the last set has before its end
-abbrev pub last_waiters : ℕ → List Bounds → ℕ
+abbrev pub last_waiters : ℕ → List SetBounds → ℕ
 last_waiters count [] = count
 last_waiters count (b ∷ bounds) = last_waiters b.waiters bounds
 
 -- the lists of some sets; after the waiters of the last one there are no others
-pub record AreStored (s : Stores) (bounds : List Bounds) : Type 0 where
+pub record AreStored (s : Stores) (bounds : List SetBounds) : Type 0 where
   pub within : AreAllBounds s bounds
   pub ends : last_waiters 0 bounds ≡ length s.waiters.items
 
@@ -80,6 +80,6 @@ pub record GoOn (old new : Stores) : Type 0 where
   pub waiters : GoesOn old.waiters.items new.waiters.items
 
 -- the part of a list that was appended to it
-pub record IsAppended {A : Type 0} (new more : List A) (part : Part) : Type 0 where
+pub record IsAppended {A : Type 0} (new more : List A) (part : IndexRange) : Type 0 where
   pub is : part_of new part ≡ more
   pub within : IsPart part (length new)

@@ -6,7 +6,7 @@ use Rattle.flatgrammar.specs.declared.flat_item.Item.{Item}
 use Rattle.flatgrammar.specs.declared.tables.Tables as code_flat
 use Rattle.earleyitems.specs.EarleySets.{EarleySet}
 use Rattle.earleyitems.specs.ItemLists.{ItemList}
-use Rattle.earleyitems.specs.declared.postdot.Caller.{Caller}
+use Rattle.earleyitems.specs.declared.postdot.CallingItem.{CallingItem}
 use Rattle.earleyitems.specs.declared.postdot.HomedItem.{HomedItem}
 use Rattle.earleyitems.specs.declared.waiters.Waiter.{Waiter}
 
@@ -39,8 +39,8 @@ AreItemsHomed flat rows list = (i : ℕ) (a : Item) (home : ℕ) → slice_get l
 abbrev pub AreReadersHomed : code_flat.Tables → List (List ℕ) → List HomedItem → Type 0
 AreReadersHomed flat rows readers = (r : HomedItem) → In r readers → IsHome flat rows r.item r.home
 
-abbrev pub AreCallersHomed : code_flat.Tables → List (List ℕ) → List Caller → Type 0
-AreCallersHomed flat rows callers = (c : Caller) → In c callers → IsHome flat rows c.at.item c.at.home
+abbrev pub AreCallersHomed : code_flat.Tables → List (List ℕ) → List CallingItem → Type 0
+AreCallersHomed flat rows callers = (c : CallingItem) → In c callers → IsHome flat rows c.at.item c.at.home
 
 -- of the first so many waiters
 abbrev pub AreFirstHomed : code_flat.Tables → List (List ℕ) → List Waiter → ℕ → Type 0

@@ -1,6 +1,6 @@
 -- A set as it is kept: heads with their blocks, and the items beside them.
 use Rattle.std.specs.Prelude.{◌≡◌, ℕ, suc, ◌<◌, ◌≤◌, ◌⊎◌, List, [], ◌∷◌, ◌++◌, length, map, take, Some}
-use Rattle.flatgrammar.specs.declared.block.Spot.{Spot}
+use Rattle.flatgrammar.specs.declared.block.DottedRule.{DottedRule}
 use Rattle.flatgrammar.specs.Flat.{at}
 use Rattle.flatgrammar.specs.Holds.{Holds}
 use Rattle.flatgrammar.specs.Places.{In, AreDifferent}
@@ -24,12 +24,14 @@ full blocks j heads items = expand blocks j heads ++ items
 
 pub record AreBlocks (flat : code_flat.Tables) (blocks : ℕ → Block) (heads : List ℕ) : Type 0 where
   pub block : (h : ℕ) → In h heads → IsBlock flat h (blocks h)
-  pub apart : (g h : ℕ) → In g heads → In h heads → (p : Spot) → In p (blocks g).spots → In p (blocks h).spots → g ≡ h
+  pub apart : (g h : ℕ) → In g heads → In h heads → (p : DottedRule) → In p (blocks g).spots → In p (blocks h).spots
+      → g ≡ h
 
 -- what the blocks of a front of the heads predict and advance is there
 pub record AreOpened (blocks : ℕ → Block) (j : ℕ) (front heads : List ℕ) (items : List Item) : Type 0 where
   pub calls : (h : ℕ) → In h front → (t : ℕ) → In t (blocks h).calls → In t heads
-  pub passes : (h : ℕ) → In h front → (r : Spot) → In r (blocks h).passes → In (item_at j r) (full blocks j heads items)
+  pub passes : (h : ℕ) → In h front → (r : DottedRule) → In r (blocks h).passes
+      → In (item_at j r) (full blocks j heads items)
 
 abbrev pub view : code_flat.Tables → ℕ → EarleySet → List Item
 view flat j kept_set = full (block_of flat) j kept_set.heads kept_set.items

@@ -25,7 +25,7 @@ use crate::postdot::{HomedItem, Postdot};
 use crate::scan::scan;
 use crate::set_spots::{push_heads, push_items};
 use crate::sets::{Filled, Record, Sets};
-use flatgrammar::{Flat, Item, Spot, Tables, spots, whole_root};
+use flatgrammar::{DottedRule, Flat, Item, Tables, spots, whole_root};
 use letters::Letter;
 use ruletable::Memory;
 use std::alloc::Global;
@@ -39,7 +39,7 @@ use std::rc::Rc;
 /// grammar's tables, so `tables` and `sets` together give the items. A chart that is empty, or whose last line failed,
 /// has no tables and no set. `kept` has the memory of the set under way, which the next line uses again.
 #[derive(Drop)]
-pub struct Chart {
+pub struct ItemChart {
     /// Allocates the sets.
     alloc: Global,
     /// The grammar that filled the sets, if there are any.
@@ -47,12 +47,12 @@ pub struct Chart {
     /// The sets of the last line.
     sets: Sets,
     /// The work tables of the set under way.
-    kept: Kept,
+    kept: WorkTables,
 }
 
 /// The work tables of the set under way. They are kept from line to line, so that a line allocates little.
 #[derive(Drop)]
-struct Kept {
+struct WorkTables {
     /// The predictions of the set.
     heads: Heads,
     /// The items beside the closures.
@@ -61,10 +61,10 @@ struct Kept {
     postdot: Postdot,
 }
 
-impl Kept {
+impl WorkTables {
     // Returns tables without entries. It takes no memory.
-    fn new(alloc: Global) -> Kept {
-        Kept {
+    fn new(alloc: Global) -> WorkTables {
+        WorkTables {
             heads: Heads::new(alloc),
             items: Items::new(alloc),
             postdot: Postdot::new(alloc),
@@ -72,7 +72,7 @@ impl Kept {
     }
 }
 
-impl Model for Chart {
+impl Model for ItemChart {
     ghost use Rattle.std.specs.Prelude.{ℕ, List};
     ghost use Rattle.flatgrammar.specs.Flat.{Place};
     ghost use Rattle.earleyitems.specs.ChartSets.{chart_of, AreSized};
@@ -84,16 +84,16 @@ impl Model for Chart {
     ghost invariant = { λ c. AreSized c.tables c.sets };
 }
 
-impl Chart {
+impl ItemChart {
     /// Returns a chart with no set. It takes no memory.
-    pub fn new(alloc: Global) -> Chart
+    pub fn new(alloc: Global) -> ItemChart
         ensures { result ≡ [] }
     {
-        Chart {
+        ItemChart {
             alloc,
             tables: None,
             sets: Sets::new(alloc),
-            kept: Kept::new(alloc),
+            kept: WorkTables::new(alloc),
         }
     }
 
@@ -109,7 +109,7 @@ impl Chart {
 
     /// Returns the dotted rules of the items of set `j`, each once or more; none if there is no such set. `Memory` if
     /// an allocation fails.
-    pub fn spots(&self, j: usize) -> Result<Vec<Spot>, Memory>
+    pub fn spots(&self, j: usize) -> Result<Vec<DottedRule>, Memory>
         ensures { IfOk result (λ spots. AreSpotsOf (set_at self.now j) spots.items) }
     {
         let mut spots = Vec::new(self.alloc);
@@ -127,18 +127,21 @@ impl Chart {
     }
 
     // Empties the chart, and returns its sets, which are none, and what is kept for the next line.
-    fn take_kept(&mut self) -> (Sets, Kept)
+    fn take_kept(&mut self) -> (Sets, WorkTables)
         ensures empty { self.new ≡ [] }
         ensures none { result.0 ≡ [] }
     {
         self.tables = None;
         let mut sets = mem::replace(&mut self.sets, Sets::new(self.alloc));
         sets.clear();
-        (sets, mem::replace(&mut self.kept, Kept::new(self.alloc)))
+        (
+            sets,
+            mem::replace(&mut self.kept, WorkTables::new(self.alloc)),
+        )
     }
 
     // Keeps the sets of a line, with the tables that they were filled by, and what is kept for the next line.
-    fn keep(&mut self, tables: Rc<Tables>, sets: Sets, kept: Kept)
+    fn keep(&mut self, tables: Rc<Tables>, sets: Sets, kept: WorkTables)
         requires { (j : ℕ) (f : kept_set) → slice_get sets j ≡ Some f → f.size ≡ length (view tables.value j f) }
         ensures { self.new ≡ chart_of (Some tables) sets }
     {
@@ -194,7 +197,7 @@ fn scan_last<L: Letter>(
 fn fill_sets<L: Letter>(
     flat: &Tables,
     line: &[L],
-    kept: &mut Kept,
+    kept: &mut WorkTables,
     sets: &mut Sets,
     most: usize,
 ) -> Result<bool, Memory>
@@ -238,7 +241,7 @@ fn fill_sets<L: Letter>(
     Ok(true)
 }
 
-fn in_spots(spots: &[Spot], number: usize, item: Item) -> bool
+fn in_spots(spots: &[DottedRule], number: usize, item: Item) -> bool
     ensures { IsTrue result ↔ In item (map (item_at number) spots.now) }
 {
     for spot in spots {
@@ -296,10 +299,10 @@ fn is_yes<L: Letter>(flat: &Tables, sets: &Sets, line: &[L]) -> bool
 // Fills an empty chart by these tables, and answers.
 #[inline(never)]
 fn judge_by<L: Letter>(
-    chart: &mut Chart,
+    chart: &mut ItemChart,
     tables: Rc<Tables>,
     sets: Sets,
-    kept: Kept,
+    kept: WorkTables,
     line: &[L],
     most: usize,
 ) -> Result<Option<bool>, Memory>
@@ -336,7 +339,7 @@ fn judge_by<L: Letter>(
 ///
 /// `Memory` if an allocation fails; the chart is empty then.
 pub fn judge_within<L: Letter>(
-    chart: &mut Chart,
+    chart: &mut ItemChart,
     flat: &Flat,
     line: &[L],
     most: usize,

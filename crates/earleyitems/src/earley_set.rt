@@ -2,7 +2,7 @@
 ghost use Rattle.std.specs.Prelude.{◌≡◌};
 ghost use Rattle.earleyitems.specs.EarleySets.{heads_of, firsts_of};
 
-use crate::sets::{Bounds, Record, Stores};
+use crate::sets::{Record, SetBounds, Stores};
 use flatgrammar::Item;
 use std::marker::Model;
 
@@ -15,7 +15,7 @@ pub(crate) struct EarleySet<'a> {
     /// The lists of all sets.
     pub(crate) stores: &'a Stores,
     /// Where the lists of this set stand.
-    pub(crate) bounds: &'a Bounds,
+    pub(crate) bounds: &'a SetBounds,
 }
 
 impl<'a> Model for EarleySet<'a> {

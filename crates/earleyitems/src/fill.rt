@@ -9,7 +9,7 @@ ghost use Rattle.earleyitems.specs.Worklist.{AdvancesNullable};
 ghost use Rattle.earleyitems.specs.ItemSets.{Adds, IsAdvanced, waiting_in, IsCompleted};
 ghost use Rattle.flatgrammar.specs.Blocks.{block_of, item_at, begin_count, IsHead, IsLate, AreTables, AreAlone};
 ghost use Rattle.flatgrammar.specs.Blocks.{AreHomes};
-ghost use Rattle.flatgrammar.specs.declared.block.Spot as code_spot;
+ghost use Rattle.flatgrammar.specs.declared.block.DottedRule as code_spot;
 ghost use Rattle.earleyitems.specs.Waiting.{Chain, AreWaiting, AreWaitingAll, BeginHere, BeginAll};
 ghost use Rattle.flatgrammar.specs.declared.flat_item.Item as code_item;
 ghost use Rattle.flatgrammar.specs.declared.tables.Tables as code_flat;
@@ -25,7 +25,7 @@ use crate::postdot::{HomedItem, Postdot, keep_caller, keep_reader};
 use crate::sets::Sets;
 use crate::waiters::Waiter;
 use flatgrammar::{
-    Deed, Item, Spot, Tables, call, calls, deed_of, null, passes, sole_caller, spots,
+    Deed, DottedRule, Item, Tables, call, calls, deed_of, null, passes, sole_caller, spots,
 };
 use ruletable::Memory;
 
@@ -190,11 +190,16 @@ fn predict_all(calls: &[usize], heads: &mut Heads) -> Result<(), Memory>
 }
 
 /// Adds dotted rules with an origin.
-fn add_spots(spots: &[Spot], origin: usize, home: usize, set: &mut Items) -> Result<(), Memory>
+fn add_spots(
+    spots: &[DottedRule],
+    origin: usize,
+    home: usize,
+    set: &mut Items,
+) -> Result<(), Memory>
     ensures added { IfOk result (λ done. Adds (λ a. In a (map (item_at origin) spots.now)) set.old.items
         set.new.items) }
     ensures homes { IfOk result (λ done. (flat : code_flat.Tables) (rows : List (List ℕ))
-        → ((p : code_spot.Spot) → In p spots.now → IsHome flat rows (item_at origin p) home)
+        → ((p : code_spot.DottedRule) → In p spots.now → IsHome flat rows (item_at origin p) home)
         → AreItemsHomed flat rows set.old → AreItemsHomed flat rows set.new) }
 {
     for spot in spots {
@@ -265,7 +270,8 @@ fn process_head(
     ensures items { IfOk result (λ done. Adds (λ a. In a (map (item_at origin) (block_of flat.now head).passes))
         items.old.items items.new.items) }
     ensures homes { IfOk result (λ done. (rows : List (List ℕ))
-        → ((p : code_spot.Spot) → In p (block_of flat.now head).passes → IsHome flat.now rows (item_at origin p) home)
+        → ((p : code_spot.DottedRule) → In p (block_of flat.now head).passes
+        → IsHome flat.now rows (item_at origin p) home)
         → AreItemsHomed flat.now rows items.old → AreItemsHomed flat.now rows items.new) }
 {
     predict_all(calls(flat, head), heads)?;

@@ -13,4 +13,4 @@ mod set_spots;
 mod sets;
 mod waiters;
 
-pub use chart::{Chart, judge_within};
+pub use chart::{ItemChart, judge_within};

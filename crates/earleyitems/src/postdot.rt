@@ -21,7 +21,7 @@ pub(crate) struct HomedItem {
 
 /// An item that calls a root.
 #[derive(Clone, Copy)]
-pub(crate) struct Caller {
+pub(crate) struct CallingItem {
     /// The item.
     pub(crate) at: HomedItem,
     /// The root that it calls.
@@ -34,7 +34,7 @@ pub(crate) struct Caller {
 #[derive(Drop)]
 pub(crate) struct Postdot {
     /// The items that call a root.
-    pub(crate) callers: Vec<Caller>,
+    pub(crate) callers: Vec<CallingItem>,
     /// The items that may read a symbol.
     pub(crate) readers: Vec<HomedItem>,
 }
@@ -53,7 +53,7 @@ impl Postdot {
 pub(crate) fn keep_caller(
     at: HomedItem,
     called: Option<(usize, usize)>,
-    callers: &mut Vec<Caller>,
+    callers: &mut Vec<CallingItem>,
 ) -> Result<(), Memory>
     ensures chosen { IfOk result (λ done. (flat : code_flat.Tables) (seen : List code_item.Item)
         → called ≡ call_of flat at.item → AreCallers flat seen callers.old.items
@@ -64,7 +64,7 @@ pub(crate) fn keep_caller(
 {
     match called {
         Some((root, next)) => {
-            callers.push(Caller { at, root, next })?;
+            callers.push(CallingItem { at, root, next })?;
             Ok(())
         }
         None => Ok(()),

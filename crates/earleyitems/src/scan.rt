@@ -4,7 +4,7 @@ ghost use Rattle.std.specs.Prelude.{List, slice_index_or};
 ghost use Rattle.std.specs.Prelude.{◌∷◌};
 ghost use Rattle.flatgrammar.specs.NodeSteps.{IfSomeSet};
 ghost use Rattle.flatgrammar.specs.Places.{In, AreDifferent};
-ghost use Rattle.flatgrammar.specs.declared.block.Spot as code_spot;
+ghost use Rattle.flatgrammar.specs.declared.block.DottedRule as code_spot;
 ghost use Rattle.earleyitems.specs.ItemSets.{Adds};
 ghost use Rattle.earleyitems.specs.ScannedItems.{IsScannedItem, AreScannedItems};
 ghost use Rattle.earleyitems.specs.Chosen.{items_of, ReadsSome, AreChosen};
@@ -18,7 +18,7 @@ use crate::earley_set::EarleySet;
 use crate::items::Items;
 use crate::postdot::HomedItem;
 use crate::sets::Record;
-use flatgrammar::{Item, Spot, Tables, readers, reads};
+use flatgrammar::{DottedRule, Item, Tables, readers, reads};
 use letters::Letter;
 use ruletable::Memory;
 
@@ -64,7 +64,7 @@ fn scan_items(flat: &Tables, value: u32, from: &[HomedItem], set: &mut Items) ->
 fn scan_spots(
     flat: &Tables,
     value: u32,
-    from: &[Spot],
+    from: &[DottedRule],
     origin: usize,
     home: usize,
     set: &mut Items,
@@ -72,7 +72,7 @@ fn scan_spots(
     ensures added { IfOk result (λ done. AreScannedItems flat.now value (map (item_at origin) from.now) set.old.items
         set.new.items) }
     ensures homes { IfOk result (λ done. (rows : List (List ℕ))
-        → ((p : code_spot.Spot) → In p from.now → IsHome flat.now rows (item_at origin p) home)
+        → ((p : code_spot.DottedRule) → In p from.now → IsHome flat.now rows (item_at origin p) home)
         → AreItemsHomed flat.now rows set.old → AreItemsHomed flat.now rows set.new) }
 {
     for spot in from {

@@ -5,14 +5,14 @@ ghost use Rattle.flatgrammar.specs.Blocks.{block_of, spot};
 ghost use Rattle.earleyitems.specs.declared.sets.Record.{Record as the_record};
 
 use crate::sets::Record;
-use flatgrammar::{Item, Spot, Tables, spots};
+use flatgrammar::{DottedRule, Item, Tables, spots};
 use ruletable::Memory;
 
 /// Adds the dotted rules of the closures of predictions.
 pub(crate) fn push_heads(
     flat: &Tables,
     records: &[Record],
-    out: &mut Vec<Spot>,
+    out: &mut Vec<DottedRule>,
 ) -> Result<(), Memory>
     ensures { OnOk result (out.new.items ≡ out.old.items
         ++ flat_map (λ (r : the_record). (block_of flat.now r.head).spots) records.now) }
@@ -24,11 +24,11 @@ pub(crate) fn push_heads(
 }
 
 /// Adds the dotted rules of items.
-pub(crate) fn push_items(items: &[Item], out: &mut Vec<Spot>) -> Result<(), Memory>
+pub(crate) fn push_items(items: &[Item], out: &mut Vec<DottedRule>) -> Result<(), Memory>
     ensures { OnOk result (out.new.items ≡ out.old.items ++ map (λ a. spot a.node a.step) items.now) }
 {
     for item in items {
-        out.push(Spot {
+        out.push(DottedRule {
             node: item.node,
             step: item.step,
         })?;

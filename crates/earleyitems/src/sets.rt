@@ -11,7 +11,7 @@ ghost use Rattle.earleyitems.specs.Waiting.{IsKept};
 
 use crate::earley_set::EarleySet;
 use crate::heads::Heads;
-use crate::postdot::Caller;
+use crate::postdot::CallingItem;
 use crate::waiters::{Waiter, list_waiters};
 use flatgrammar::{Item, Tables};
 use ruletable::Memory;
@@ -20,7 +20,7 @@ use std::marker::Model;
 
 /// The entries of a vector from index `from` to before index `to`.
 #[derive(Clone, Copy)]
-pub(crate) struct Part {
+pub(crate) struct IndexRange {
     pub(crate) from: usize,
     pub(crate) to: usize,
 }
@@ -36,11 +36,11 @@ pub(crate) struct Record {
 
 /// Where the lists of a set stand in `Stores`.
 #[derive(Clone, Copy)]
-pub(crate) struct Bounds {
+pub(crate) struct SetBounds {
     /// Its predictions.
-    pub(crate) records: Part,
+    pub(crate) records: IndexRange,
     /// Its items beside the closures.
-    pub(crate) items: Part,
+    pub(crate) items: IndexRange,
     /// The entries of its waiting lists stand before this index.
     pub(crate) waiters: usize,
     /// The number of its items, with those of closures.
@@ -55,7 +55,7 @@ pub(crate) struct Filled<'a> {
     /// Its items beside the closures.
     pub(crate) items: &'a [Item],
     /// Those of the items that call.
-    pub(crate) callers: &'a [Caller],
+    pub(crate) callers: &'a [CallingItem],
     /// The number of items of the closures.
     pub(crate) blocks: usize,
 }
@@ -78,7 +78,7 @@ pub(crate) struct Stores {
 #[derive(Drop)]
 pub(crate) struct Sets {
     /// Of each set where its lists stand.
-    bounds: Vec<Bounds>,
+    bounds: Vec<SetBounds>,
     /// The lists of all sets.
     stores: Stores,
 }
@@ -96,13 +96,13 @@ impl Model for Sets {
 
 // Appends a list to another, and returns where it stands.
 #[inline(always)]
-fn append<T: Copy>(list: &mut Vec<T>, more: &[T]) -> Result<Part, Memory>
+fn append<T: Copy>(list: &mut Vec<T>, more: &[T]) -> Result<IndexRange, Memory>
     ensures more { GoesOn list.old.items list.new.items }
     ensures part { IfOk result (λ part. IsAppended list.new.items more.now part) }
 {
     let from = list.len();
     list.extend_from_slice(more)?;
-    Ok(Part {
+    Ok(IndexRange {
         from,
         to: list.len(),
     })
@@ -115,7 +115,7 @@ fn store(
     filled: Filled<'_>,
     number: usize,
     stores: &mut Stores,
-) -> Result<Bounds, Memory>
+) -> Result<SetBounds, Memory>
     requires lists { AreSpotLists flat.now }
     requires callers { AreCallers flat.now filled.items.now filled.callers.now }
     requires blocks { (j : ℕ) → filled.blocks ≡ length (expand (block_of flat.now) j filled.heads.now) }
@@ -142,7 +142,7 @@ fn store(
         &mut stores.records,
         &mut stores.waiters,
     )?;
-    Ok(Bounds {
+    Ok(SetBounds {
         records,
         items,
         waiters: stores.waiters.len(),
@@ -155,7 +155,7 @@ fn store(
 fn add_set(
     flat: &Tables,
     filled: Filled<'_>,
-    bounds: &mut Vec<Bounds>,
+    bounds: &mut Vec<SetBounds>,
     stores: &mut Stores,
 ) -> Result<(), Memory>
     requires stored { AreStored stores.old bounds.old.items }
@@ -177,7 +177,7 @@ fn add_set(
 }
 
 // Empties the lists of all sets, and keeps their memory.
-fn empty(bounds: &mut Vec<Bounds>, stores: &mut Stores)
+fn empty(bounds: &mut Vec<SetBounds>, stores: &mut Stores)
     ensures bounds { bounds.new.items ≡ [] }
     ensures waiters { stores.new.waiters.items ≡ [] }
 {

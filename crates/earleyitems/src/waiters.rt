@@ -14,8 +14,8 @@ ghost use Rattle.earleyitems.specs.Waiting.{call_site_at, item_from, AreWaiting}
 ghost use Rattle.earleyitems.specs.Chosen.{callers_of, Calls, AreCalls, AreChosen};
 
 use crate::heads::Heads;
-use crate::postdot::Caller;
-use crate::sets::{Part, Record};
+use crate::postdot::CallingItem;
+use crate::sets::{IndexRange, Record};
 use flatgrammar::{Ask, Item, Tables, asks};
 use ruletable::Memory;
 
@@ -123,7 +123,7 @@ fn list_blocks(
 // Puts the items after those that call on the waiting lists.
 fn list_callers(
     heads: &Heads,
-    callers: &[Caller],
+    callers: &[CallingItem],
     records: &mut [Record],
     waiters: &mut Vec<Waiter>,
 ) -> Result<(), Memory>
@@ -153,7 +153,7 @@ fn list_callers(
 fn list_all(
     flat: &Tables,
     heads: &Heads,
-    callers: &[Caller],
+    callers: &[CallingItem],
     number: usize,
     records: &mut [Record],
     waiters: &mut Vec<Waiter>,
@@ -202,11 +202,11 @@ fn add_records(heads: &[usize], records: &mut Vec<Record>) -> Result<(), Memory>
 pub(crate) fn list_waiters(
     flat: &Tables,
     heads: &Heads,
-    callers: &[Caller],
+    callers: &[CallingItem],
     number: usize,
     records: &mut Vec<Record>,
     waiters: &mut Vec<Waiter>,
-) -> Result<Part, Memory>
+) -> Result<IndexRange, Memory>
     requires lists { AreSpotLists flat.now }
     requires homes { AreHomes flat.now }
     requires callers { AreCalls flat.now callers.now }
@@ -225,7 +225,7 @@ pub(crate) fn list_waiters(
     let from = records.len();
     add_records(heads.list(), records)?;
     list_all(flat, heads, callers, number, &mut records[from..], waiters)?;
-    Ok(Part {
+    Ok(IndexRange {
         from,
         to: records.len(),
     })

@@ -9,7 +9,7 @@ use Rattle.std.proofs.lemmas.List.{get_or_past, get_or-set_same, get_or-set_othe
 use Rattle.std.proofs.lemmas.List.{get_or-replicate, append-nil}
 use Rattle.std.proofs.Math.Seq.{take-suc}
 use Rattle.std.proofs.lemmas.Option.{slice_get_within}
-use Rattle.fixpoint.specs.declared.needs.Link.{Link}
+use Rattle.fixpoint.specs.declared.needs.ListEntry.{ListEntry}
 use Rattle.fixpoint.specs.declared.needs.Users.{Users}
 use Rattle.fixpoint.specs.Demands.{Demand, row_of}
 use Rattle.fixpoint.specs.NeedCounts.{IsQueue, Told}
@@ -20,24 +20,25 @@ use Rattle.fixpoint.proofs.IsDerivedLemmas.{empty_row, added_one, added_none, ad
 use Rattle.fixpoint.proofs.IsDerivedLemmas.{users_all}
 use Rattle.fixpoint.proofs.ToldLemmas.{other_default, told_none, told_push}
 
-get_before : (xs ys : List Link) (k : ℕ) {l : Link} → slice_get xs k ≡ Some l → slice_get (xs ++ ys) k ≡ Some l
+get_before : (xs ys : List ListEntry) (k : ℕ) {l : ListEntry} → slice_get xs k ≡ Some l
+    → slice_get (xs ++ ys) k ≡ Some l
 get_before [] ys k is = absurd (cc is)
 get_before (x ∷ xs) ys zero is = is
 get_before (x ∷ xs) ys (suc k) is = get_before xs ys k is
 
-get_new : (xs : List Link) (l : Link) → slice_get (xs ++ l ∷ []) (length xs) ≡ Some l
+get_new : (xs : List ListEntry) (l : ListEntry) → slice_get (xs ++ l ∷ []) (length xs) ≡ Some l
 get_new [] l = refl
 get_new (x ∷ xs) l = get_new xs l
 
-first_within : (links : List Link) {k : ℕ} {ns : List ℕ} → Chain links k ns → k ≤ length links
+first_within : (links : List ListEntry) {k : ℕ} {ns : List ℕ} → Chain links k ns → k ≤ length links
 first_within links end = omega arith
 first_within links (link {k = k} at le rest) = let lt = slice_get_within links k _ at in omega (arith, lt)
 
-chain_more : (links added : List Link) {k : ℕ} {ns : List ℕ} → Chain links k ns → Chain (links ++ added) k ns
+chain_more : (links added : List ListEntry) {k : ℕ} {ns : List ℕ} → Chain links k ns → Chain (links ++ added) k ns
 chain_more links added end = end
 chain_more links added (link {k = k} at le rest) = link (get_before links added k at) le (chain_more links added rest)
 
-chain_new : (links : List Link) (l : Link) {ns : List ℕ} → Chain links l.next ns →
+chain_new : (links : List ListEntry) (l : ListEntry) {ns : List ℕ} → Chain links l.next ns →
     Chain (links ++ l ∷ []) (length links + 1) (l.user ∷ ns)
 chain_new links l rest = link (get_new links l) (first_within links rest) (chain_more links (l ∷ []) rest)
 
@@ -137,7 +138,8 @@ hold_all needs users i is h = record {
 }
 
 -- a list that is not empty goes on with its first entry's next
-pub goes_on : (links : List Link) (l : Link) {k : ℕ} {ns : List ℕ} → 0 < k → slice_get links (k - 1) ≡ Some l →
+pub goes_on : (links : List ListEntry) (l : ListEntry) {k : ℕ} {ns : List ℕ} → 0 < k
+    → slice_get links (k - 1) ≡ Some l →
     Chain links k ns → (rest : List ℕ) × (ns ≡ l.user ∷ rest) × (l.next < k) × Chain links l.next rest
 goes_on links l lt at end = absurd (omega (arith, lt))
 goes_on links l lt at (link {k = k} {l = other} {ns = ns} there le rest) =
@@ -147,7 +149,7 @@ goes_on links l lt at (link {k = k} {l = other} {ns = ns} there le rest) =
     let less = ap (λ v. v.next) same in
     (ns, ap (λ v. v.user ∷ ns) same, omega (arith, le, less), subst (λ v. Chain links v.next ns) same rest)
 
-pub telling_none : (links : List Link) (at : ℕ) (row left order : List ℕ) → Chain links at row →
+pub telling_none : (links : List ListEntry) (at : ℕ) (row left order : List ℕ) → Chain links at row →
     IsQueue left order → IsTelling links at row left order left order
 telling_none links at row left order list q = record {
   front = [];
@@ -158,7 +160,7 @@ telling_none links at row left order list q = record {
 }
 
 -- processing one more
-pub telling_next : {links : List Link} {l : Link} {at : ℕ} {row a o b p c q : List ℕ} → 0 < at →
+pub telling_next : {links : List ListEntry} {l : ListEntry} {at : ℕ} {row a o b p c q : List ℕ} → 0 < at →
     slice_get links (at - 1) ≡ Some l → IsTelling links at row a o b p → Told (l.user ∷ []) b p c q →
     IsTelling links l.next row a o c q
 telling_next {links} {l} {at} {row} {a} {o} {b} {p} {c} {q} lt here t s =
@@ -170,23 +172,23 @@ telling_next {links} {l} {at} {row} {a} {o} {b} {p} {c} {q} lt here t s =
       told = told_push t.front l.user a o b p c q t.told s;
     }
 
-chain_end : (links : List Link) (at : ℕ) (ns : List ℕ) → at ≤ 0 → Chain links at ns → ns ≡ []
+chain_end : (links : List ListEntry) (at : ℕ) (ns : List ℕ) → at ≤ 0 → Chain links at ns → ns ≡ []
 chain_end links at ns le end = refl
 chain_end links at ns le (link {k = k} here low rest) = absurd (omega (arith, le))
 
 -- at the end of the list the whole row was processed
-pub telling_done : {links : List Link} {at : ℕ} {row a o b p : List ℕ} → at ≤ 0 → IsTelling links at row a o b p →
+pub telling_done : {links : List ListEntry} {at : ℕ} {row a o b p : List ℕ} → at ≤ 0 → IsTelling links at row a o b p →
     Told row a o b p
 telling_done {links} {at} {row} {a} {o} {b} {p} le t =
     let none : t.rest ≡ [] = chain_end links at t.rest le t.list in
     subst (λ v. Told v a o b p) (sym (t.is ∙ ap (λ v. t.front ++ v) none ∙ append-nil t.front)) t.told
 
 -- the list that is processed goes on with a link
-pub telling_within : {links : List Link} {at : ℕ} {row a o b p : List ℕ} → IsTelling links at row a o b p →
+pub telling_within : {links : List ListEntry} {at : ℕ} {row a o b p : List ℕ} → IsTelling links at row a o b p →
     at ≤ length links
 telling_within {links} t = first_within links t.list
 
-pub telling_falls : {links : List Link} {l : Link} {at : ℕ} {row a o b p : List ℕ} → 0 < at →
+pub telling_falls : {links : List ListEntry} {l : ListEntry} {at : ℕ} {row a o b p : List ℕ} → 0 < at →
     slice_get links (at - 1) ≡ Some l → IsTelling links at row a o b p → l.next < at
 telling_falls {links} {l} lt here t = (goes_on links l lt here t.list).2
 
@@ -195,7 +197,7 @@ in_middle [] ns n = in_first n ns
 in_middle (m ∷ front) ns n = in_later m n (front ++ n ∷ ns) (in_middle front ns n)
 
 -- the user of that link stands in the row
-pub telling_user : {links : List Link} {l : Link} {at : ℕ} {row a o b p : List ℕ} → 0 < at →
+pub telling_user : {links : List ListEntry} {l : ListEntry} {at : ℕ} {row a o b p : List ℕ} → 0 < at →
     slice_get links (at - 1) ≡ Some l → IsTelling links at row a o b p → Contains row l.user
 telling_user {links} {l} lt here t = let g = goes_on links l lt here t.list in
     subst (λ v. Contains v l.user) (sym (t.is ∙ ap (λ v. t.front ++ v) g.1)) (in_middle t.front g.0 l.user)

@@ -11,8 +11,8 @@ use Rattle.fixpoint.specs.StepRows.{Step}
 use Rattle.fixpoint.specs.Way.{Way, At, AreOfOnePart, IsSeen, to_done, to_later, to_same, to_ahead, IsKept, IsWay}
 use Rattle.fixpoint.specs.Way.{Closes}
 use Rattle.fixpoint.specs.declared.cycles.Part.{Part}
-use Rattle.fixpoint.specs.declared.cycles.Place.{Place}
-use Rattle.fixpoint.specs.declared.cycles.Place.TheVariants as place
+use Rattle.fixpoint.specs.declared.cycles.SearchPlace.{SearchPlace}
+use Rattle.fixpoint.specs.declared.cycles.SearchPlace.TheVariants as place
 use Rattle.fixpoint.proofs.LeadsLemmas.{leads_joined}
 use Rattle.fixpoint.proofs.OpensLemmas.{same_way}
 use Rattle.fixpoint.proofs.AtLemmas.{at_one, at_append_left, at_push, at_push_cases, at_take, take_at, drop_in, in_drop}
@@ -58,7 +58,7 @@ module _ (rows : List (List ℕ)) (w : Way) (parts' : List Part) (last : Part) (
       (leads_from j m le (g.seen j n m h step))
 
 -- a chain whose first step leads to what is done stays with what is done
-stays_in : (rows : List (List ℕ)) (places : List Place) (P : Type 0) (n : ℕ) →
+stays_in : (rows : List (List ℕ)) (places : List SearchPlace) (P : Type 0) (n : ℕ) →
     ((k m : ℕ) → At places k place.Done → Step rows k m → At places m place.Done) →
     ((m : ℕ) → Step rows n m → At places m place.Done ⊎ P) → (m : ℕ) → Leads rows n m → At places m place.Done ⊎ P
 stays_in rows places P n closed first m (one step) = first m step

@@ -7,12 +7,12 @@ use Rattle.std.proofs.lemmas.List.{length-set}
 use Rattle.std.proofs.lemmas.List.Elements.{Contains-push, Contains-push_cases, Contains-append_left}
 use Rattle.std.proofs.Math.Seq.{take-suc}
 use Rattle.fixpoint.specs.Way.{At, Finishes}
-use Rattle.fixpoint.specs.declared.cycles.Place.{Place}
-use Rattle.fixpoint.specs.declared.cycles.Place.TheVariants as place
+use Rattle.fixpoint.specs.declared.cycles.SearchPlace.{SearchPlace}
+use Rattle.fixpoint.specs.declared.cycles.SearchPlace.TheVariants as place
 use Rattle.fixpoint.proofs.ContainsLemmas.{none_of}
 use Rattle.fixpoint.proofs.AtLemmas.{set_same, set_other, set_cases}
 
-pub finishes_none : (places : List Place) → Finishes [] places places
+pub finishes_none : (places : List SearchPlace) → Finishes [] places places
 finishes_none places = record {
   count = refl;
   all = λ n h. absurd (none_of n h);
@@ -20,7 +20,7 @@ finishes_none places = record {
   other = λ n p h. inl h;
 }
 
-finishes_push : (row : List ℕ) (x : ℕ) (a b : List Place) → Finishes row a b → x < length b →
+finishes_push : (row : List ℕ) (x : ℕ) (a b : List SearchPlace) → Finishes row a b → x < length b →
     Finishes (row ++ x ∷ []) a (set b x place.Done)
 finishes_push row x a b g lt = record {
   count = length-set b x place.Done ∙ g.count;
@@ -40,7 +40,7 @@ finishes_push row x a b g lt = record {
       (cases_eq n x);
 }
 
-pub finishes_next : (row : List ℕ) (i x : ℕ) (a b : List Place) → i < length row → x ≡ get_or row i 0 →
+pub finishes_next : (row : List ℕ) (i x : ℕ) (a b : List SearchPlace) → i < length row → x ≡ get_or row i 0 →
     Finishes (take i row) a b → x < length b → Finishes (take (i + 1) row) a (set b x place.Done)
 finishes_next row i x a b lt is g in_it =
     rw (add-one i, take-suc row i 0, sym is) (finishes_push (take i row) x a b g in_it)

@@ -7,7 +7,7 @@ use Rattle.fixpoint.proofs.ContainsLemmas.{get_in}
 use Rattle.fixpoint.specs.StepRows.{AreStepsWithin}
 use Rattle.fixpoint.specs.Way.{Way, At, IsWay, IsLast, AreShort}
 use Rattle.fixpoint.specs.declared.cycles.Part.{Part}
-use Rattle.fixpoint.specs.declared.cycles.Place.TheVariants as place
+use Rattle.fixpoint.specs.declared.cycles.SearchPlace.TheVariants as place
 use Rattle.fixpoint.proofs.AtLemmas.{at_push, at_push_cases}
 
 take_all : (xs ys : List Part) → take (length xs) (xs ++ ys) ≡ xs

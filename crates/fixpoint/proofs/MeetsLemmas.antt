@@ -10,7 +10,7 @@ use Rattle.fixpoint.specs.NumberMarks.{IsMarked}
 use Rattle.fixpoint.specs.Way.{Way, At, IsSeen, to_done, to_later, to_same, to_ahead, IsKept, IsWay, IsOwing, IsSource}
 use Rattle.fixpoint.specs.Way.{Joins, Meets}
 use Rattle.fixpoint.specs.declared.cycles.Part.{Part}
-use Rattle.fixpoint.specs.declared.cycles.Place.TheVariants as place
+use Rattle.fixpoint.specs.declared.cycles.SearchPlace.TheVariants as place
 use Rattle.fixpoint.proofs.JoinsLemmas.{last_of}
 use Rattle.fixpoint.proofs.LeadsLemmas.{leads_joined}
 use Rattle.fixpoint.proofs.IsMarkedLemmas.{marked_here, marked_set, set_marked}

@@ -11,13 +11,14 @@ use Rattle.fixpoint.specs.StepRows.{Step, row_at}
 use Rattle.fixpoint.specs.Way.{Way, At, IsSeen, to_done, to_later, to_same, to_ahead, IsKept, IsWay, IsOwing, IsSource}
 use Rattle.fixpoint.specs.Way.{Opens}
 use Rattle.fixpoint.specs.declared.cycles.Part.{Part}
-use Rattle.fixpoint.specs.declared.cycles.Place.{Place}
-use Rattle.fixpoint.specs.declared.cycles.Place.TheVariants as place
+use Rattle.fixpoint.specs.declared.cycles.SearchPlace.{SearchPlace}
+use Rattle.fixpoint.specs.declared.cycles.SearchPlace.TheVariants as place
 use Rattle.fixpoint.proofs.AtLemmas.{at_one, at_append_left, at_append_right, at_append_cases, at_push, at_push_cases}
 use Rattle.fixpoint.proofs.AtLemmas.{set_same, set_other, set_cases}
 
 module _ (rows : List (List ℕ)) where
-  pub same_way : (p p' : List Place) (h h' a a' : List ℕ) (q q' : List Part) (m m' : List Bool) → p' ≡ p → h' ≡ h →
+  pub same_way : (p p' : List SearchPlace) (h h' a a' : List ℕ) (q q' : List Part) (m m' : List Bool) → p' ≡ p
+      → h' ≡ h →
       a' ≡ a → q' ≡ q → m' ≡ m →
       IsWay rows (record { places = p; path = h; ahead = a; parts = q; marks = m }) →
       IsWay rows (record { places = p'; path = h'; ahead = a'; parts = q'; marks = m' })
@@ -210,13 +211,13 @@ module _ (rows : List (List ℕ)) where
         in_it : t < length w.places
         in_it = slice_get_within w.places t place.New is_new
 
-        apart : (n : ℕ) (p : Place) → At w.places n p → (p ≡ place.New → ⊥) → n ≢ t
+        apart : (n : ℕ) (p : SearchPlace) → At w.places n p → (p ≡ place.New → ⊥) → n ≢ t
         apart n p h not e = not (at_one w.places t p place.New (subst (λ v. At w.places v p) e h) is_new)
 
-        stays : (n : ℕ) (p : Place) → At w.places n p → (p ≡ place.New → ⊥) → At next.places n p
+        stays : (n : ℕ) (p : SearchPlace) → At w.places n p → (p ≡ place.New → ⊥) → At next.places n p
         stays n p h not = set_other w.places t n (place.On (length w.path)) p (apart n p h not) h
 
-        was : (n : ℕ) (p : Place) → At next.places n p → (p ≡ place.On (length w.path) → ⊥) → At w.places n p
+        was : (n : ℕ) (p : SearchPlace) → At next.places n p → (p ≡ place.On (length w.path) → ⊥) → At w.places n p
         was n p h not = ⊎_elim (λ is. absurd (not is.1)) (λ old. old.1)
             (set_cases w.places t n (place.On (length w.path)) p h)
 

@@ -11,8 +11,8 @@ use Rattle.fixpoint.specs.NumberMarks.{IsMarked}
 use Rattle.fixpoint.specs.Way.{Way, At, IsWay, IsThrough, Opens, Closes, Tally, SetsAll, IsRanked, KeepsDone}
 use Rattle.fixpoint.specs.Way.{Ranks, undone, rank_at}
 use Rattle.fixpoint.specs.declared.cycles.Part.{Part}
-use Rattle.fixpoint.specs.declared.cycles.Place.{Place}
-use Rattle.fixpoint.specs.declared.cycles.Place.TheVariants as place
+use Rattle.fixpoint.specs.declared.cycles.SearchPlace.{SearchPlace}
+use Rattle.fixpoint.specs.declared.cycles.SearchPlace.TheVariants as place
 use Rattle.fixpoint.proofs.ClosesLemmas.{last_step}
 use Rattle.fixpoint.proofs.ContainsLemmas.{none_of}
 use Rattle.fixpoint.proofs.AtLemmas.{at_one, at_some, at_push, drop_in, in_drop, set_cases, set_other}
@@ -41,12 +41,12 @@ pub sets_next : (row : List ℕ) (i x v : ℕ) (a b : List ℕ) → i < length r
 sets_next row i x v a b lt is g in_it =
     rw (add-one i, take-suc row i 0, sym is) (sets_push (take i row) x v a b g in_it)
 
-undone_one : (q : Place) (b : List Place) → undone (q ∷ b) ≤ undone b + 1
+undone_one : (q : SearchPlace) (b : List SearchPlace) → undone (q ∷ b) ≤ undone b + 1
 undone_one place.New b = omega arith
 undone_one (place.On i) b = omega arith
 undone_one place.Done b = omega arith
 
-undone_le : (a b : List Place) → length a ≡ length b →
+undone_le : (a b : List SearchPlace) → length a ≡ length b →
     ((n : ℕ) → At a n place.Done → At b n place.Done) → undone b ≤ undone a
 undone_le [] [] e h = omega arith
 undone_le [] (q ∷ b) e h = absurd (omega (arith, e))
@@ -59,7 +59,8 @@ undone_le (place.New ∷ a) (q ∷ b) e h = let k = undone_le a b (omega (arith,
 undone_le (place.On i ∷ a) (q ∷ b) e h = let k = undone_le a b (omega (arith, e)) (λ n g. h (suc n) g) in
     let m = undone_one q b in omega (arith, k, m)
 
-undone_lt : (a b : List Place) (n i : ℕ) → length a ≡ length b → ((m : ℕ) → At a m place.Done → At b m place.Done) →
+undone_lt : (a b : List SearchPlace) (n i : ℕ) → length a ≡ length b
+    → ((m : ℕ) → At a m place.Done → At b m place.Done) →
     At a n (place.On i) → At b n place.Done → undone b < undone a
 undone_lt [] b n i e h x y = absurd (cc x)
 undone_lt (p ∷ a) [] n i e h x y = absurd (cc y)
@@ -77,7 +78,7 @@ undone_lt (place.New ∷ a) (q ∷ b) (suc n) i e h x y = let k =
 undone_lt (place.On j ∷ a) (q ∷ b) (suc n) i e h x y = let k =
     undone_lt a b n i (omega (arith, e)) (λ m g. h (suc m) g) x y in let m = undone_one q b in omega (arith, k, m)
 
-undone_some : (a : List Place) (n i : ℕ) → At a n (place.On i) → 0 < undone a
+undone_some : (a : List SearchPlace) (n i : ℕ) → At a n (place.On i) → 0 < undone a
 undone_some [] n i h = absurd (cc h)
 undone_some (place.New ∷ a) n i h = omega arith
 undone_some (place.On j ∷ a) n i h = omega arith

@@ -10,15 +10,15 @@ use Rattle.fixpoint.specs.StepRows.{row_at, Step}
 use Rattle.fixpoint.specs.Way.{Way, At, IsWay, IsOwing, Opens, Meets, Closes, GoesOn, IsThrough, ComesToEnd, AreShort}
 use Rattle.fixpoint.specs.Way.{before_step, cost}
 use Rattle.fixpoint.specs.declared.cycles.Part.{Part}
-use Rattle.fixpoint.specs.declared.cycles.Place.{Place}
-use Rattle.fixpoint.specs.declared.cycles.Place.TheVariants as place
+use Rattle.fixpoint.specs.declared.cycles.SearchPlace.{SearchPlace}
+use Rattle.fixpoint.specs.declared.cycles.SearchPlace.TheVariants as place
 use Rattle.fixpoint.proofs.ClosesLemmas.{closed_is_way}
 use Rattle.fixpoint.proofs.IsMarkedLemmas.{none_set}
 use Rattle.fixpoint.proofs.MeetsLemmas.{met_is_way, skipped_is_way}
 use Rattle.fixpoint.proofs.OpensLemmas.{opened_is_way, owing_of, owing_none, source_of, all_lead}
 use Rattle.fixpoint.proofs.AtLemmas.{at_some, at_one, set_cases, set_same}
 
-cost_open : (places : List Place) (rows : List (List ℕ)) (n i : ℕ) → At places n place.New → n < length rows →
+cost_open : (places : List SearchPlace) (rows : List (List ℕ)) (n i : ℕ) → At places n place.New → n < length rows →
     cost (set places n (place.On i)) rows + length (row_at rows n) + 2 ≡ cost places rows
 cost_open [] rows n i h lt = absurd (cc h)
 cost_open (p ∷ places) [] n i h lt = absurd (omega arith)
@@ -30,13 +30,13 @@ cost_open (place.New ∷ places) (row ∷ rows) (suc n) i h lt = let k =
 cost_open (place.On j ∷ places) (row ∷ rows) (suc n) i h lt = cost_open places rows n i h (omega (arith, lt))
 cost_open (place.Done ∷ places) (row ∷ rows) (suc n) i h lt = cost_open places rows n i h (omega (arith, lt))
 
-cost_more : (p : Place) (places : List Place) (row : List ℕ) (rows : List (List ℕ)) →
+cost_more : (p : SearchPlace) (places : List SearchPlace) (row : List ℕ) (rows : List (List ℕ)) →
     cost places rows ≤ cost (p ∷ places) (row ∷ rows)
 cost_more place.New places row rows = omega arith
 cost_more (place.On i) places row rows = omega arith
 cost_more place.Done places row rows = omega arith
 
-cost_le : (a b : List Place) (rows : List (List ℕ)) → length a ≡ length b →
+cost_le : (a b : List SearchPlace) (rows : List (List ℕ)) → length a ≡ length b →
     ((n : ℕ) → At a n place.New → At b n place.New) → cost a rows ≤ cost b rows
 cost_le [] b rows e h = omega arith
 cost_le (p ∷ a) [] rows e h = absurd (omega (arith, e))
@@ -126,7 +126,7 @@ pub new_or_done : (rows : List (List ℕ)) (w : Way) → IsWay rows w → w.part
 new_or_done rows w g none n lt = let e = g.kept.places in
     let s = at_some w.places n (omega (arith, e, lt)) in cases s.0 s.1
   where
-    cases : (p : Place) → At w.places n p → At w.places n place.New ⊎ At w.places n place.Done
+    cases : (p : SearchPlace) → At w.places n p → At w.places n place.New ⊎ At w.places n place.Done
     cases place.New h = inl h
     cases place.Done h = inr h
     cases (place.On i) h = absurd (empty_path rows w g none n i h)
@@ -152,7 +152,7 @@ through_more rows w w' w'' n lt g is_new p c = record {
         (λ ne. let e = at_one w.places m place.New place.Done h (g.done m (omega (arith, le, ne))) in cc e)
         (cases_eq m n)
 
-pub through_done : (rows : List (List ℕ)) (w : Way) (n : ℕ) (p : Place) → n < length rows → IsThrough rows w n →
+pub through_done : (rows : List (List ℕ)) (w : Way) (n : ℕ) (p : SearchPlace) → n < length rows → IsThrough rows w n →
     At w.places n p → (p ≡ place.New → ⊥) → IsThrough rows w (n + 1)
 through_done rows w n p lt g h not = record {
   way = g.way;
@@ -181,7 +181,7 @@ row_within [] n k step = absurd (let lt = step.1 in omega (arith, lt))
 row_within (row ∷ rows) zero k step = omega arith
 row_within (row ∷ rows) (suc n) k step = let lt = row_within rows n k step in omega (arith, lt)
 
-pub replicate_is_new : (count n : ℕ) (p : Place) → At (replicate count place.New) n p → p ≡ place.New
+pub replicate_is_new : (count n : ℕ) (p : SearchPlace) → At (replicate count place.New) n p → p ≡ place.New
 replicate_is_new zero n p h = absurd (cc h)
 replicate_is_new (suc count) zero p h = cc h
 replicate_is_new (suc count) (suc n) p h = replicate_is_new count n p h
@@ -232,10 +232,10 @@ none_through rows count size = record {
   done = λ n lt. absurd (omega (arith, lt));
 }
   where
-    all_new : (count n : ℕ) (p : Place) → At (replicate count place.New) n p → (p ≡ place.New → ⊥) → ⊥
+    all_new : (count n : ℕ) (p : SearchPlace) → At (replicate count place.New) n p → (p ≡ place.New → ⊥) → ⊥
     all_new count n p h not = not (replicate_is_new count n p h)
 
-pub none_through_of : (rows : List (List ℕ)) (count : ℕ) (places : List Place) (path ahead : List ℕ)
+pub none_through_of : (rows : List (List ℕ)) (count : ℕ) (places : List SearchPlace) (path ahead : List ℕ)
     (parts : List Part) (marks : List Bool) → count ≡ length rows →
     places ≡ replicate count place.New → path ≡ [] → ahead ≡ [] → parts ≡ [] → marks ≡ replicate count false →
     IsThrough rows (record { places = places; path = path; ahead = ahead; parts = parts; marks = marks }) 0

@@ -1,16 +1,16 @@
 -- Lists that share one vector of links. The private calls of `derive` alone use these words.
 use Rattle.std.specs.Prelude.{◌≡◌, ℕ, ◌+◌, ◌<◌, ◌≤◌, List, [], ◌∷◌, ◌++◌, length, slice_get, slice_index_or, Some}
 use Rattle.std.specs.Prelude.{Contains}
-use Rattle.fixpoint.specs.declared.needs.Link.{Link}
+use Rattle.fixpoint.specs.declared.needs.ListEntry.{ListEntry}
 use Rattle.fixpoint.specs.declared.needs.Users.{Users}
 use Rattle.fixpoint.specs.Demands.{Demand}
 use Rattle.fixpoint.specs.NeedCounts.{Added, AreUsersTo, AreUsers, Told}
 use Rattle.fixpoint.specs.StepRows.{row_at}
 
 -- the list that begins with link k, where k + 1 is given; a list that begins with 0 is empty
-pub data Chain (links : List Link) : ℕ → List ℕ → Type 0 where
+pub data Chain (links : List ListEntry) : ℕ → List ℕ → Type 0 where
   end : Chain links 0 []
-  link : {k : ℕ} {l : Link} {ns : List ℕ} → slice_get links k ≡ Some l → l.next ≤ k → Chain links l.next ns →
+  link : {k : ℕ} {l : ListEntry} {ns : List ℕ} → slice_get links k ≡ Some l → l.next ≤ k → Chain links l.next ns →
       Chain links (k + 1) (l.user ∷ ns)
 
 -- where the list of m begins
@@ -52,7 +52,7 @@ pub record HoldUsers (needs : List Demand) (users : Users) : Type 0 where
   pub needed : AreUsers needs rows
 
 -- a prefix of the row was processed, and its list goes on with the rest
-pub record IsTelling (links : List Link) (at : ℕ) (row left order left' order' : List ℕ) : Type 0 where
+pub record IsTelling (links : List ListEntry) (at : ℕ) (row left order left' order' : List ℕ) : Type 0 where
   pub front : List ℕ
   pub rest : List ℕ
   pub is : row ≡ front ++ rest

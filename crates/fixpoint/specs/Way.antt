@@ -5,13 +5,13 @@ use Rattle.fixpoint.specs.Leads.{Leads}
 use Rattle.fixpoint.specs.NumberMarks.{IsMarked, MarksThose}
 use Rattle.fixpoint.specs.StepRows.{Step}
 use Rattle.fixpoint.specs.declared.cycles.Part.{Part}
-use Rattle.fixpoint.specs.declared.cycles.Place.{Place}
-use Rattle.fixpoint.specs.declared.cycles.Place.TheVariants as place
+use Rattle.fixpoint.specs.declared.cycles.SearchPlace.{SearchPlace}
+use Rattle.fixpoint.specs.declared.cycles.SearchPlace.TheVariants as place
 use Rattle.fixpoint.specs.declared.cycles.Search as declared
 
 -- what the search holds
 pub record Way : Type 0 where
-  pub places : List Place
+  pub places : List SearchPlace
   pub path : List ℕ
   pub ahead : List ℕ
   pub parts : List Part
@@ -115,11 +115,11 @@ pub record Meets (place m : ℕ) (old new : Way) : Type 0 where
   pub marks : new.marks ≡ set old.marks m true
 
 -- each of these is done now, and of the others nothing changed
-pub record Finishes (these : List ℕ) (places places' : List Place) : Type 0 where
+pub record Finishes (these : List ℕ) (places places' : List SearchPlace) : Type 0 where
   pub count : length places' ≡ length places
   pub all : (n : ℕ) → Contains these n → At places' n place.Done
-  pub only : (n : ℕ) (p : Place) → At places' n p → At places n p ⊎ (Contains these n × (p ≡ place.Done))
-  pub other : (n : ℕ) (p : Place) → At places n p → At places' n p ⊎ Contains these n
+  pub only : (n : ℕ) (p : SearchPlace) → At places' n p → At places n p ⊎ (Contains these n × (p ≡ place.Done))
+  pub other : (n : ℕ) (p : SearchPlace) → At places n p → At places' n p ⊎ Contains these n
 
 -- the path from that place on is done, and marked where it is of more than one number
 pub record Closes (first : ℕ) (old new : Way) : Type 0 where
@@ -131,7 +131,7 @@ pub record Closes (first : ℕ) (old new : Way) : Type 0 where
   pub few : length (drop first old.path) ≤ 1 → new.marks ≡ old.marks
 
 -- how many turns the numbers that weren't seen yet can cause
-abbrev pub cost : List Place → List (List ℕ) → ℕ
+abbrev pub cost : List SearchPlace → List (List ℕ) → ℕ
 cost [] rows = 0
 cost (p ∷ places) [] = 0
 cost (place.New ∷ places) (row ∷ rows) = cost places rows + length row + 2
@@ -199,7 +199,7 @@ pub record SetsAll (these : List ℕ) (v : ℕ) (ranks ranks' : List ℕ) : Type
   pub other : (n : ℕ) → (Contains these n → ⊥) → rank_at ranks' n ≡ rank_at ranks n
 
 -- how many numbers aren't done
-abbrev pub undone : List Place → ℕ
+abbrev pub undone : List SearchPlace → ℕ
 undone [] = 0
 undone (place.New ∷ places) = undone places + 1
 undone (place.On i ∷ places) = undone places + 1

@@ -10,14 +10,14 @@ ghost use Rattle.fixpoint.specs.StepRows.{slices_of, row_at, AreStepsWithin};
 ghost use Rattle.fixpoint.specs.Way.{Way, way_of, At, Opens, Joins, Meets, Finishes, Closes, GoesOn, IsKept, IsWay};
 ghost use Rattle.fixpoint.specs.Way.{IsOwing, IsSource, IsThrough, IsLast, AreShort, ComesToEnd, before_step, tally_of};
 ghost use Rattle.fixpoint.specs.Way.{SetsAll, Ranks, IsRanked, KeepsDone};
-ghost use Rattle.fixpoint.specs.declared.cycles.Place.TheVariants as place;
+ghost use Rattle.fixpoint.specs.declared.cycles.SearchPlace.TheVariants as place;
 
 use crate::marks::mark;
 use std::alloc::{AllocError, Global};
 
 // How far the search is with a number.
 #[derive(Clone, Copy)]
-enum Place {
+enum SearchPlace {
     // The search has not met it.
     New,
     // It is on the path, at this index.
@@ -40,7 +40,7 @@ struct Part {
 #[derive(Drop)]
 struct Search {
     /// Of each number where the search has it.
-    places: Vec<Place>,
+    places: Vec<SearchPlace>,
     /// Numbers that each lead to the next.
     path: Vec<usize>,
     /// The targets of steps from the path that the search has not looked at.
@@ -68,12 +68,12 @@ fn join(parts: &mut Vec<Part>, place: usize)
 }
 
 // Sets the place of each number in `these` to `Done`.
-fn finish(these: &[usize], places: &mut [Place])
+fn finish(these: &[usize], places: &mut [SearchPlace])
     requires { AreBelow these.now (length places.old) }
     ensures { Finishes these.now places.old places.new }
 {
     for n in these {
-        places[*n] = Place::Done;
+        places[*n] = SearchPlace::Done;
     }
 }
 
@@ -96,7 +96,7 @@ impl Search {
     {
         let first = self.path.len();
         let rest = self.ahead.len();
-        self.places[n] = Place::On(first);
+        self.places[n] = SearchPlace::On(first);
         self.parts.push(Part { first, rest })?;
         self.path.push(n)?;
         self.ahead.extend_from_slice(row)?;
@@ -144,13 +144,13 @@ impl Search {
         ensures tally { IfOk result (λ _. tally_of self.new ≡ tally_of self.old) }
     {
         match self.places[target] {
-            Place::New => {
+            SearchPlace::New => {
                 self.open(target, steps[target])?;
             }
-            Place::On(place) => {
+            SearchPlace::On(place) => {
                 self.meet(target, place);
             }
-            Place::Done => {}
+            SearchPlace::Done => {}
         }
         Ok(())
     }
@@ -199,7 +199,7 @@ impl Search {
         ensures through { IfOk result (λ _. IsThrough (slices_of steps.now) (way_of self.new) (n + 1)) }
         ensures ranked { IfOk result (λ _. IsRanked (slices_of steps.now) (way_of self.new) (tally_of self.new)) }
     {
-        if let Place::New = self.places[n] {
+        if let SearchPlace::New = self.places[n] {
             self.open(n, steps[n])?;
             self.follow(steps)?;
         }
@@ -212,7 +212,7 @@ impl Search {
         ensures ranked { IfOk result (λ search. IsRanked (slices_of steps.now) (way_of search) (tally_of search)) }
     {
         Ok(Search {
-            places: vec![in alloc; Place::New; steps.len()]?,
+            places: vec![in alloc; SearchPlace::New; steps.len()]?,
             path: Vec::new(alloc),
             ahead: Vec::new(alloc),
             parts: Vec::new(alloc),

@@ -67,7 +67,7 @@ fn counts(alloc: Global, needs: &[Need]) -> Result<Vec<usize>, AllocError>
 
 /// An entry of a list.
 #[derive(Clone, Copy)]
-struct Link {
+struct ListEntry {
     /// The number that stands in the list.
     user: usize,
     /// One more than the index of the next entry, or 0 at the end of the list.
@@ -81,7 +81,7 @@ struct Users {
     /// Of each number one more than the index of its list's first entry, or 0 if its list is empty.
     firsts: Vec<usize>,
     /// The entries of all lists.
-    links: Vec<Link>,
+    links: Vec<ListEntry>,
 }
 
 impl Users {
@@ -100,7 +100,7 @@ impl Users {
         requires { m < length self.old.firsts.items }
         ensures { IfOk result (λ _. AddsAll (m ∷ []) n self.old self.new) }
     {
-        self.links.push(Link {
+        self.links.push(ListEntry {
             user: n,
             next: self.firsts[m],
         })?;

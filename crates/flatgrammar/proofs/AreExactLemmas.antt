@@ -2,7 +2,7 @@
 -- Serves: lower, judge.
 use Rattle.std.proofs.Common.{◌≡◌, ◌⊎◌, inl, inr, ℕ, Bool, Option, List, [], Vec, Global, sym, ◌∙◌, ap, subst}
 use Rattle.flatgrammar.specs.declared.flat_node.Node as code_node
-use Rattle.flatgrammar.specs.declared.block.Spot.{Spot}
+use Rattle.flatgrammar.specs.declared.block.DottedRule.{DottedRule}
 use Rattle.flatgrammar.specs.declared.block.Block as code_block
 use Rattle.flatgrammar.specs.declared.inner.Inner.{Inner}
 use Rattle.flatgrammar.specs.declared.spot_list.SpotList.{SpotList}
@@ -60,7 +60,7 @@ module _ (nodes : Vec code_node.Node Global) (bodies : Vec ℕ Global) (roots : 
     only = one.only;
   }
 
-  same_grows : (P : Spot → Type 0) (old new : Block)
+  same_grows : (P : DottedRule → Type 0) (old new : Block)
       → Grows (tables nodes bodies roots nulls nobody none unlisted whole limit) inners.items P old new →
       Grows (tables nodes bodies roots nulls inners blocks lists whole limit) inners.items P old new
   same_grows P old new g = record {
@@ -92,7 +92,7 @@ module _ (nodes : Vec code_node.Node Global) (bodies : Vec ℕ Global) (roots : 
         is = record { next = s.is.next; call = s.is.call; own = s.is.own };
       })
 
-      to_pass : (r : Spot) → In r old.passes ⊎ SomeOf P
+      to_pass : (r : DottedRule) → In r old.passes ⊎ SomeOf P
           (λ p. IsPast (tables nodes bodies roots nulls nobody none unlisted whole limit) p r) →
           In r old.passes ⊎ SomeOf P (λ p. IsPast (tables nodes bodies roots nulls inners blocks lists whole limit) p r)
       to_pass r (inl h) = inl h
@@ -109,7 +109,7 @@ module _ (nodes : Vec code_node.Node Global) (bodies : Vec ℕ Global) (roots : 
         };
       })
 
-      from_pass : (r : Spot) → In r old.passes ⊎ SomeOf P
+      from_pass : (r : DottedRule) → In r old.passes ⊎ SomeOf P
           (λ p. IsPast (tables nodes bodies roots nulls inners blocks lists whole limit) p r) →
           In r old.passes ⊎ SomeOf P (λ p. IsPast (tables nodes bodies roots nulls nobody none unlisted whole limit)
           p r)
@@ -135,13 +135,13 @@ module _ (nodes : Vec code_node.Node Global) (bodies : Vec ℕ Global) (roots : 
     inners = λ t inner is. sym (are_inners t inner is).home;
   }
     where
-      at_home : (h : ℕ) (p : Spot) → In p []
+      at_home : (h : ℕ) (p : DottedRule) → In p []
           ⊎ IsAtHome (tables nodes bodies roots nulls nobody none unlisted whole limit) inners.items h p
           → home_of (tables nodes bodies roots nulls inners blocks lists whole limit) p.node ≡ h
       at_home h p (inl at) = elim at [ ]
       at_home h p (inr at) = at.0
 
-      past_home : (h : ℕ) (p : Spot) → In p []
+      past_home : (h : ℕ) (p : DottedRule) → In p []
           ⊎ SomeOf (IsAtHome (tables nodes bodies roots nulls nobody none unlisted whole limit) inners.items h)
           (λ q. IsPast (tables nodes bodies roots nulls nobody none unlisted whole limit) q p)
           → home_of (tables nodes bodies roots nulls inners blocks lists whole limit) p.node ≡ h

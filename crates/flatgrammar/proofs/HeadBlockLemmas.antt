@@ -4,7 +4,7 @@ use Rattle.std.proofs.Common.{◌≡◌, ◌↔◌, ℕ, zero, suc, ◌+◌, ◌
 use Rattle.std.proofs.Common.{None, List, [], ◌∷◌, length, set, slice_get, refl, sym, ◌∙◌, ap, subst, arith}
 use Rattle.std.proofs.lemmas.Bool.{cases_lt}
 use Rattle.flatgrammar.specs.Places.{In, AreDifferent}
-use Rattle.flatgrammar.specs.declared.block.Spot.{Spot}
+use Rattle.flatgrammar.specs.declared.block.DottedRule.{DottedRule}
 use Rattle.flatgrammar.specs.declared.block.Block as code_block
 use Rattle.flatgrammar.specs.declared.flat_item.Item.{Item}
 use Rattle.flatgrammar.specs.declared.inner.Inner.{Inner}
@@ -45,7 +45,7 @@ no_more xs Q never a = ((λ h. inl h), (λ h. from h))
     from (inr h) = absurd (never a h)
 
 module _ (flat : code_flat.Tables) (inners : List (Option Inner)) where
-  pub called_one : (p : Spot) (t l : ℕ) → call_at flat p ≡ Some (t, l) → inner_at inners t ≡ None → (u : ℕ)
+  pub called_one : (p : DottedRule) (t l : ℕ) → call_at flat p ≡ Some (t, l) → inner_at inners t ≡ None → (u : ℕ)
       → IsCalled flat inners p u ↔ (u ≡ t)
   called_one p t l call own u = (
     (λ c. ap (λ v. v.0) (some_same (sym c.call ∙ call))),
@@ -56,9 +56,9 @@ module _ (flat : code_flat.Tables) (inners : List (Option Inner)) where
     }),
   )
 
-  pub passed_one : (p : Spot) (t l : ℕ) → call_at flat p ≡ Some (t, l) → null_of flat t ≡ true
+  pub passed_one : (p : DottedRule) (t l : ℕ) → call_at flat p ≡ Some (t, l) → null_of flat t ≡ true
       → takes_of flat (item_at 0 p) ≡ false → (l ≡ p.step → ⊥) →
-      (r : Spot) → IsPast flat p r ↔ (r ≡ spot p.node l)
+      (r : DottedRule) → IsPast flat p r ↔ (r ≡ spot p.node l)
   passed_one p t l call null free moves r = (
     (λ c. same_spot c.node (ap (λ v. v.1) (some_same (sym c.call ∙ call)))),
     (λ same. record {
@@ -74,7 +74,7 @@ module _ (flat : code_flat.Tables) (inners : List (Option Inner)) where
       same_spot : r.node ≡ p.node → r.step ≡ l → r ≡ spot p.node l
       same_spot n s = ap (λ v. spot v r.step) n ∙ ap (λ v. spot p.node v) s
 
-  one_of : (p : Spot) (Q : Spot → Type 0) → SomeOf (λ q. q ≡ p) Q ↔ Q p
+  one_of : (p : DottedRule) (Q : DottedRule → Type 0) → SomeOf (λ q. q ≡ p) Q ↔ Q p
   one_of p Q = ((λ s. subst (λ v. Q v) s.stands s.is), (λ h. record { spot = p; stands = refl; is = h }))
 
   or_of : {A B C : Type 0} → B ↔ C → (A ⊎ B) ↔ (A ⊎ C)
@@ -95,9 +95,10 @@ module _ (flat : code_flat.Tables) (inners : List (Option Inner)) where
   iff_back e = (e.1, e.0)
 
   -- one more dotted rule
-  pub grows_one : (p : Spot) (old new : Block) → new.spots ≡ old.spots ++ p ∷ []
+  pub grows_one : (p : DottedRule) (old new : Block) → new.spots ≡ old.spots ++ p ∷ []
       → ((t : ℕ) → In t new.calls ↔ (In t old.calls ⊎ IsCalled flat inners p t)) →
-      ((r : Spot) → In r new.passes ↔ (In r old.passes ⊎ IsPast flat p r)) → Grows flat inners (λ q. q ≡ p) old new
+      ((r : DottedRule) → In r new.passes ↔ (In r old.passes ⊎ IsPast flat p r))
+      → Grows flat inners (λ q. q ≡ p) old new
   grows_one p old new is calls passes = record {
     spots = one_more old.spots new.spots p (λ q. q ≡ p) is (λ q. ((λ h. h), (λ h. h)));
     calls = λ t. iff_both (calls t) (or_of (iff_back (one_of p (λ q. IsCalled flat inners q t))));
@@ -105,7 +106,8 @@ module _ (flat : code_flat.Tables) (inners : List (Option Inner)) where
     different = λ d apart. subst (λ v. AreDifferent v) (sym is) (different_end p old.spots (apart p refl) d);
   }
 
-  pub grows_none : (P : Spot → Type 0) (block : Block) → ((p : Spot) → P p → ⊥) → Grows flat inners P block block
+  pub grows_none : (P : DottedRule → Type 0) (block : Block) → ((p : DottedRule) → P p → ⊥)
+      → Grows flat inners P block block
   grows_none P block never = record {
     spots = no_more block.spots P never;
     calls = λ t. no_more block.calls (λ u. SomeOf P (λ p. IsCalled flat inners p u)) (λ u s. never s.spot s.stands) t;
@@ -114,8 +116,8 @@ module _ (flat : code_flat.Tables) (inners : List (Option Inner)) where
   }
 
   -- further dotted rules
-  pub grows_then : (P Q R : Spot → Type 0) (a b c : Block) → ((p : Spot) → R p ↔ (P p ⊎ Q p))
-      → ((p : Spot) → P p → Q p → ⊥) → Grows flat inners P a b → Grows flat inners Q b c → Grows flat inners R a c
+  pub grows_then : (P Q R : DottedRule → Type 0) (a b c : Block) → ((p : DottedRule) → R p ↔ (P p ⊎ Q p))
+      → ((p : DottedRule) → P p → Q p → ⊥) → Grows flat inners P a b → Grows flat inners Q b c → Grows flat inners R a c
   grows_then P Q R a b c parts apart g h = record {
     spots = λ p. thrice (g.spots p) (h.spots p) (parts p);
     calls = λ t. thrice (g.calls t) (h.calls t) (some_parts (λ p. IsCalled flat inners p t));
@@ -143,7 +145,7 @@ module _ (flat : code_flat.Tables) (inners : List (Option Inner)) where
           from (inl x) = f.1 (inl (e.1 (inl x)))
           from (inr s) = new (u.0 s)
 
-      some_parts : (S : Spot → Type 0) → SomeOf R S ↔ (SomeOf P S ⊎ SomeOf Q S)
+      some_parts : (S : DottedRule → Type 0) → SomeOf R S ↔ (SomeOf P S ⊎ SomeOf Q S)
       some_parts S = ((λ s. to s ((parts s.spot).0 s.stands)), (λ s. from s))
         where
           to : (s : SomeOf R S) → P s.spot ⊎ Q s.spot → SomeOf P S ⊎ SomeOf Q S
@@ -154,17 +156,17 @@ module _ (flat : code_flat.Tables) (inners : List (Option Inner)) where
           from (inl s) = record { spot = s.spot; stands = (parts s.spot).1 (inl s.stands); is = s.is }
           from (inr s) = record { spot = s.spot; stands = (parts s.spot).1 (inr s.stands); is = s.is }
 
-      between : (p : Spot) → Q p → In p a.spots ⊎ P p → ((p : Spot) → R p → In p a.spots → ⊥) → ⊥
+      between : (p : DottedRule) → Q p → In p a.spots ⊎ P p → ((p : DottedRule) → R p → In p a.spots → ⊥) → ⊥
       between p q (inl i) far = far p ((parts p).1 (inr q)) i
       between p q (inr is) far = apart p is q
 
-  pub grows_as : (P Q : Spot → Type 0) (a b : Block) → ((p : Spot) → P p ↔ Q p) → Grows flat inners P a b
+  pub grows_as : (P Q : DottedRule → Type 0) (a b : Block) → ((p : DottedRule) → P p ↔ Q p) → Grows flat inners P a b
       → Grows flat inners Q a b
   grows_as P Q a b same g =
       grows_then P (λ p. ⊥) Q a b b (λ p. ((λ q. inl ((same p).1 q)), (λ s. from p s))) (λ p h none. none) g
       (grows_none (λ p. ⊥) b (λ p none. none))
     where
-      from : (p : Spot) → P p ⊎ ⊥ → Q p
+      from : (p : DottedRule) → P p ⊎ ⊥ → Q p
       from p (inl h) = (same p).0 h
       from p (inr none) = absurd none
 
@@ -181,13 +183,14 @@ module _ (flat : code_flat.Tables) (inners : List (Option Inner)) where
       (λ p. ((λ r. to p r (cases_lt p.step k)), (λ s. from p s)))
       (λ p r same. let lt = r.1 in let e : p.step ≡ k = ap (λ v. v.step) same in absurd (omega (arith, lt, e))) g h
     where
-      to : (p : Spot) → (p.node ≡ n) × (p.step < k + 1) → (p.step < k) ⊎ (k ≤ p.step) → ((p.node ≡ n) × (p.step < k))
+      to : (p : DottedRule) → (p.node ≡ n) × (p.step < k + 1) → (p.step < k) ⊎ (k ≤ p.step)
+          → ((p.node ≡ n) × (p.step < k))
           ⊎ (p ≡ spot n k)
       to p r (inl lt) = inl (r.0, lt)
       to p r (inr le) = let lt = r.1 in let e : p.step ≡ k = omega (arith, lt, le) in
           inr (ap (λ v. spot v p.step) r.0 ∙ ap (λ v. spot n v) e)
 
-      from : (p : Spot) → ((p.node ≡ n) × (p.step < k)) ⊎ (p ≡ spot n k) → (p.node ≡ n) × (p.step < k + 1)
+      from : (p : DottedRule) → ((p.node ≡ n) × (p.step < k)) ⊎ (p ≡ spot n k) → (p.node ≡ n) × (p.step < k + 1)
       from p (inl r) = let lt = r.1 in (r.0, omega (arith, lt))
       from p (inr same) = let e : p.step ≡ k = ap (λ v. v.step) same in (ap (λ v. v.node) same, omega (arith, e))
 
@@ -229,13 +232,13 @@ module _ (flat : code_flat.Tables) (inners : List (Option Inner)) where
           (subst (λ v. Grows flat inners (λ p. (p.node < n) × IsAtHome flat inners h p) (block_in None) (block_in v))
           was (are h)) grows)
         where
-          to : (p : Spot) → (p.node < n + 1) × IsAtHome flat inners h p → (p.node < n) ⊎ (n ≤ p.node)
+          to : (p : DottedRule) → (p.node < n + 1) × IsAtHome flat inners h p → (p.node < n) ⊎ (n ≤ p.node)
               → ((p.node < n) × IsAtHome flat inners h p) ⊎ BeginsAt flat n p
           to p r (inl less) = inl (less, r.1)
           to p r (inr le) = let less = r.0 in let e : p.node ≡ n = omega (arith, less, le) in
               inr (e, subst (λ v. p.step < begin_count flat v) e r.1.1)
 
-          from : (p : Spot) → ((p.node < n) × IsAtHome flat inners h p) ⊎ BeginsAt flat n p → (p.node < n + 1)
+          from : (p : DottedRule) → ((p.node < n) × IsAtHome flat inners h p) ⊎ BeginsAt flat n p → (p.node < n + 1)
               × IsAtHome flat inners h p
           from p (inl r) = let less = r.0 in (omega (arith, less), r.1)
           from p (inr b) = let e = b.0 in (
@@ -253,7 +256,7 @@ module _ (flat : code_flat.Tables) (inners : List (Option Inner)) where
           (λ p. ((λ r. let less = r.0 in (omega (arith, less), r.1)), (λ r. (to p r (cases_lt p.node n), r.1))))
           (are h))
         where
-          to : (p : Spot) → (p.node < n + 1) × IsAtHome flat inners h p → (p.node < n) ⊎ (n ≤ p.node) → p.node < n
+          to : (p : DottedRule) → (p.node < n + 1) × IsAtHome flat inners h p → (p.node < n) ⊎ (n ≤ p.node) → p.node < n
           to p r (inl less) = less
           to p r (inr le) =
               let less = r.0 in
@@ -271,7 +274,7 @@ module _ (flat : code_flat.Tables) (inners : List (Option Inner)) where
       none None is k lt = absurd (omega (arith, lt))
       none (Some d) is k lt = absurd cc
 
-      to : (p : Spot) → p.step < begin_count flat p.node → p.node < n
+      to : (p : DottedRule) → p.step < begin_count flat p.node → p.node < n
       to p lt = by (cases_lt p.node n)
         where
           by : (p.node < n) ⊎ (n ≤ p.node) → p.node < n
@@ -291,11 +294,11 @@ module _ (flat : code_flat.Tables) (inners : List (Option Inner)) where
 module _ (flat : code_flat.Tables) (roots : GiveRoots (flat_of flat) flat.roots.items) (inners : List (Option Inner))
     (are : AreInners flat inners)
     (made : (h : ℕ) → Grows flat inners (IsAtHome flat inners h) (block_in None) (block_of flat h)) where
-  spot_stands : (h : ℕ) (p : Spot) → home_in inners p.node ≡ h → p.step < begin_count flat p.node
+  spot_stands : (h : ℕ) (p : DottedRule) → home_in inners p.node ≡ h → p.step < begin_count flat p.node
       → In p (block_of flat h).spots
   spot_stands h p home lt = ((made h).spots p).1 (inr (home, lt))
 
-  at_home : (h : ℕ) (p : Spot) → In p (block_of flat h).spots → IsAtHome flat inners h p
+  at_home : (h : ℕ) (p : DottedRule) → In p (block_of flat h).spots → IsAtHome flat inners h p
   at_home h p i = by (((made h).spots p).0 i)
     where
       by : In p [] ⊎ IsAtHome flat inners h p → IsAtHome flat inners h p
@@ -328,7 +331,8 @@ module _ (flat : code_flat.Tables) (roots : GiveRoots (flat_of flat) flat.roots.
       by (Some i) is rec = subst (λ v. Inside flat v (spot t k)) (sym (home_up t i is))
           (Inside.called (rec i is) (are t i is).call lt)
 
-  called_in : (h : ℕ) (from : Spot) (t l : ℕ) → In from (block_of flat h).spots → call_at flat from ≡ Some (t, l) →
+  called_in : (h : ℕ) (from : DottedRule) (t l : ℕ) → In from (block_of flat h).spots
+      → call_at flat from ≡ Some (t, l) →
       In t (block_of flat h).calls ⊎ ((k : ℕ) → k < begin_count flat t → In (spot t k) (block_of flat h).spots)
   called_in h from t l lies call = by (inner_at inners t) refl
     where
@@ -353,7 +357,7 @@ module _ (flat : code_flat.Tables) (roots : GiveRoots (flat_of flat) flat.roots.
       by (inl none) = elim none [ ]
       by (inr s) = s
 
-  passing_from : (h : ℕ) (r : Spot) → In r (block_of flat h).passes
+  passing_from : (h : ℕ) (r : DottedRule) → In r (block_of flat h).passes
       → SomeOf (IsAtHome flat inners h) (λ p. IsPast flat p r)
   passing_from h r i = by (((made h).passes r).0 i)
     where
@@ -391,7 +395,7 @@ module _ (flat : code_flat.Tables) (roots : GiveRoots (flat_of flat) flat.roots.
     different = (made h).different tt (λ p is i. elim i [ ]);
   }
     where
-      passed : (r : Spot) (p : IsPassing flat (block_of flat h).spots r) → (r.step ≡ p.from.step)
+      passed : (r : DottedRule) (p : IsPassing flat (block_of flat h).spots r) → (r.step ≡ p.from.step)
           ⊎ (r.step ≡ p.from.step → ⊥) → In r (block_of flat h).passes ⊎ In r (block_of flat h).spots
       passed r p (inl same) =
           let is : r ≡ p.from = ap (λ v. spot v r.step) p.node ∙ ap (λ v. spot p.from.node v) same in

@@ -6,7 +6,7 @@ use Rattle.std.proofs.Common.{length, take, slice_get, slice_index_or, Vec, Glob
 use Rattle.std.proofs.lemmas.Bool.{cases_lt}
 use Rattle.std.proofs.lemmas.List.{map-append, take_all}
 use Rattle.flatgrammar.specs.Places.{In, now, on, AreDifferent}
-use Rattle.flatgrammar.specs.declared.block.Spot.{Spot}
+use Rattle.flatgrammar.specs.declared.block.DottedRule.{DottedRule}
 use Rattle.flatgrammar.specs.declared.spot_list.Ask.{Ask}
 use Rattle.flatgrammar.specs.declared.spot_list.SpotList.{SpotList}
 use Rattle.flatgrammar.specs.declared.tables.Tables as code_flat
@@ -18,47 +18,48 @@ use Rattle.flatgrammar.proofs.CallOfLemmas.{past_get}
 use Rattle.flatgrammar.proofs.SliceGetLemmas.{push_cases}
 use Rattle.flatgrammar.proofs.InLemmas.{in_left, at_end, before_end, among_more, in_front, from_front, different_end}
 
-taken_more : {a : Spot} (k : ℕ) (xs : List Spot) (d : Spot) → k < length xs → In a (take (k + 1) xs) → In a (take k xs)
+taken_more : {a : DottedRule} (k : ℕ) (xs : List DottedRule) (d : DottedRule) → k < length xs
+    → In a (take (k + 1) xs) → In a (take k xs)
     ⊎ (a ≡ slice_index_or xs k d)
 taken_more {a = a} k xs d lt h = let one : k + 1 ≡ suc k = omega arith in
     among_more a xs k d lt (subst (λ v. In a (take v xs)) one h)
 
-take_one_longer : (a : Spot) (k : ℕ) (xs : List Spot) → In a (take k xs) → In a (take (k + 1) xs)
+take_one_longer : (a : DottedRule) (k : ℕ) (xs : List DottedRule) → In a (take k xs) → In a (take (k + 1) xs)
 take_one_longer a k xs h = let one : suc k ≡ k + 1 = omega arith in subst (λ v. In a (take v xs)) one (by k xs h)
   where
-    by : (k : ℕ) (xs : List Spot) → In a (take k xs) → In a (take (suc k) xs)
+    by : (k : ℕ) (xs : List DottedRule) → In a (take k xs) → In a (take (suc k) xs)
     by zero [] h = elim h [ ]
     by zero (x ∷ xs) h = elim h [ ]
     by (suc k) [] h = h
     by (suc k) (x ∷ xs) (now same) = now same
     by (suc k) (x ∷ xs) (on h) = on (by k xs h)
 
-last_in : (k : ℕ) (xs : List Spot) (d : Spot) → k < length xs → In (slice_index_or xs k d) (take (k + 1) xs)
+last_in : (k : ℕ) (xs : List DottedRule) (d : DottedRule) → k < length xs → In (slice_index_or xs k d) (take (k + 1) xs)
 last_in k xs d lt = let one : suc k ≡ k + 1 = omega arith in subst (λ v. In (slice_index_or xs k d) (take v xs)) one
     (by k xs lt)
   where
-    by : (k : ℕ) (xs : List Spot) → k < length xs → In (slice_index_or xs k d) (take (suc k) xs)
+    by : (k : ℕ) (xs : List DottedRule) → k < length xs → In (slice_index_or xs k d) (take (suc k) xs)
     by zero [] lt = absurd (omega (arith, lt))
     by zero (x ∷ xs) lt = now refl
     by (suc k) [] lt = absurd (omega (arith, lt))
     by (suc k) (x ∷ xs) lt = on (by k xs (let less : k < length xs = omega (arith, lt) in less))
 
 -- the last one of different dotted rules stands once, and those before it are different
-front_differs : (k : ℕ) (xs : List Spot) (d : Spot) → k < length xs → AreDifferent (take (k + 1) xs)
+front_differs : (k : ℕ) (xs : List DottedRule) (d : DottedRule) → k < length xs → AreDifferent (take (k + 1) xs)
     → AreDifferent (take k xs) × (In (slice_index_or xs k d) (take k xs) → ⊥)
 front_differs k xs d lt h = let one : k + 1 ≡ suc k = omega arith in by k xs lt
     (subst (λ v. AreDifferent (take v xs)) one h)
   where
-    next : {a : Spot} (k : ℕ) (xs : List Spot) → In a (take (k + 1) xs) → In a (take (suc k) xs)
+    next : {a : DottedRule} (k : ℕ) (xs : List DottedRule) → In a (take (k + 1) xs) → In a (take (suc k) xs)
     next {a = a} k xs i = let one : k + 1 ≡ suc k = omega arith in subst (λ v. In a (take v xs)) one i
 
-    apart : (k : ℕ) (x : Spot) (xs : List Spot) → k < length xs → (In x (take (suc k) xs) → ⊥)
+    apart : (k : ℕ) (x : DottedRule) (xs : List DottedRule) → k < length xs → (In x (take (suc k) xs) → ⊥)
         → (In (slice_index_or xs k d) (take k xs) → ⊥) → In (slice_index_or xs k d) (x ∷ take k xs) → ⊥
     apart k x xs lt once rest (now same) = once (subst (λ v. In v (take (suc k) xs)) same
         (next k xs (last_in k xs d lt)))
     apart k x xs lt once rest (on i) = rest i
 
-    by : (k : ℕ) (xs : List Spot) → k < length xs → AreDifferent (take (suc k) xs)
+    by : (k : ℕ) (xs : List DottedRule) → k < length xs → AreDifferent (take (suc k) xs)
         → AreDifferent (take k xs) × (In (slice_index_or xs k d) (take k xs) → ⊥)
     by zero [] lt h = absurd (omega (arith, lt))
     by (suc k) [] lt h = absurd (omega (arith, lt))
@@ -69,7 +70,8 @@ front_differs k xs d lt h = let one : k + 1 ≡ suc k = omega arith in by k xs l
         (((λ i. h.0 (next k xs (take_one_longer x k xs i))), rest.0), apart k x xs less h.0 rest.1)
 
 -- one more dotted rule, taken or left
-pub pick_one : (Q : Spot → Type 0) (spots list new : List Spot) (k : ℕ) (d : Spot) → k < length spots → new ≡ list
+pub pick_one : (Q : DottedRule → Type 0) (spots list new : List DottedRule) (k : ℕ) (d : DottedRule)
+    → k < length spots → new ≡ list
     ++ slice_index_or spots k d ∷ [] →
     Picks Q (take k spots) list → Picks Q (take (k + 1) spots) new
 pick_one Q spots list new k d lt pushed picks = (
@@ -80,17 +82,18 @@ pick_one Q spots list new k d lt pushed picks = (
       (λ i. apart.1 (picks.0 (slice_index_or spots k d) i)) (picks.2 apart.0))),
 )
   where
-    from : (q : Spot) → In q list ⊎ (q ≡ slice_index_or spots k d) → In q (take (k + 1) spots)
+    from : (q : DottedRule) → In q list ⊎ (q ≡ slice_index_or spots k d) → In q (take (k + 1) spots)
     from q (inl h) = take_one_longer q k spots (picks.0 q h)
     from q (inr same) = subst (λ v. In v (take (k + 1) spots)) (sym same) (last_in k spots d lt)
 
-    to : (q : Spot) → In q (take k spots) ⊎ (q ≡ slice_index_or spots k d) → Q q
+    to : (q : DottedRule) → In q (take k spots) ⊎ (q ≡ slice_index_or spots k d) → Q q
         → In q (list ++ slice_index_or spots k d ∷ [])
     to q (inl h) is_q = in_left (slice_index_or spots k d ∷ []) (picks.1 q h is_q)
     to q (inr same) is_q = subst (λ v. In v (list ++ slice_index_or spots k d ∷ [])) (sym same)
         (at_end (slice_index_or spots k d) list)
 
-pub leave_one : (Q : Spot → Type 0) (spots list new : List Spot) (k : ℕ) (d : Spot) → k < length spots → new ≡ list
+pub leave_one : (Q : DottedRule → Type 0) (spots list new : List DottedRule) (k : ℕ) (d : DottedRule)
+    → k < length spots → new ≡ list
     → (Q (slice_index_or spots k d) → ⊥) →
     Picks Q (take k spots) list → Picks Q (take (k + 1) spots) new
 leave_one Q spots list new k d lt is never picks =
@@ -100,12 +103,13 @@ leave_one Q spots list new k d lt is never picks =
       (λ h. picks.2 (front_differs k spots d lt h).0),
     )
   where
-    to : (q : Spot) → In q (take k spots) ⊎ (q ≡ slice_index_or spots k d) → Q q → In q list
+    to : (q : DottedRule) → In q (take k spots) ⊎ (q ≡ slice_index_or spots k d) → Q q → In q list
     to q (inl h) is_q = picks.1 q h is_q
     to q (inr same) is_q = absurd (never (subst (λ v. Q v) same is_q))
 
 -- one more dotted rule that asks
-pub pick_ask : (Q : Spot → Type 0) (spots : List Spot) (list new : List Ask) (k : ℕ) (d : Spot) (ask : Ask)
+pub pick_ask : (Q : DottedRule → Type 0) (spots : List DottedRule) (list new : List Ask) (k : ℕ) (d : DottedRule)
+    (ask : Ask)
     → k < length spots → ask.spot ≡ slice_index_or spots k d → new ≡ list ++ ask ∷ [] →
     Picks Q (take k spots) (spots_of list) → Picks Q (take (k + 1) spots) (spots_of new)
 pick_ask Q spots list new k d ask lt same pushed picks = pick_one Q spots (spots_of list) (spots_of new) k d lt
@@ -120,7 +124,8 @@ asks_more flat list new ask are tells pushed a i = by (before_end a ask list (su
     by (inl h) = are a h
     by (inr same) = subst (λ v. call_at flat v.spot ≡ Some (v.root, v.next)) (sym same) tells
 
-pub picked_all : (Q : Spot → Type 0) (spots list : List Spot) (k : ℕ) → length spots ≤ k → Picks Q (take k spots) list
+pub picked_all : (Q : DottedRule → Type 0) (spots list : List DottedRule) (k : ℕ) → length spots ≤ k
+    → Picks Q (take k spots) list
     → Picks Q spots list
 picked_all Q spots list k le picks = (
   (λ p h. from_front p spots k (picks.0 p h)),
@@ -128,8 +133,8 @@ picked_all Q spots list k le picks = (
   (λ d. picks.2 (subst (λ v. AreDifferent v) (sym (take_all k spots le)) d)),
 )
 
-pub letter_more : (flat : code_flat.Tables) (spots : List Spot) (lists : List (Vec Spot Global))
-    (list : Vec Spot Global) → AreByLetter flat spots lists →
+pub letter_more : (flat : code_flat.Tables) (spots : List DottedRule) (lists : List (Vec DottedRule Global))
+    (list : Vec DottedRule Global) → AreByLetter flat spots lists →
     Picks (Reads flat (length lists)) spots list.items → AreByLetter flat spots (lists ++ list ∷ [])
 letter_more flat spots lists list are one c l is = by (push_cases lists list c l is)
   where
@@ -184,7 +189,8 @@ lists_all flat lists n count all are h = by (cases_lt h n)
         ))
 
 -- ends that are wider by one dotted rule
-pub ends_more : (flat : code_flat.Tables) (k : ℕ) (xs : List Spot) (d : Spot) (old new : Ends) → k < length xs
+pub ends_more : (flat : code_flat.Tables) (k : ℕ) (xs : List DottedRule) (d : DottedRule) (old new : Ends)
+    → k < length xs
     → (new.least ≤ old.least) × (old.greatest ≤ new.greatest)
     → ((c : ℕ) → Reads flat c (slice_index_or xs k d) → (new.least ≤ c) × (c ≤ new.greatest))
     → AreEnds flat (take k xs) old → AreEnds flat (take (k + 1) xs) new
@@ -210,8 +216,8 @@ not_outside c low high is above below = by (one_of (nat_lt c low) (nat_lt high c
     by (inr h) = let lt = ltb-true high c h in omega (arith, lt, below)
 
 -- a list of those that read: none if the letter is not between their ends
-within_ends : (flat : code_flat.Tables) (spots : List Spot) (lists : Lists) (c : ℕ) → IsSpotList flat spots lists
-    → (b : Bool) → (nat_lt c lists.ends.least || nat_lt lists.ends.greatest c) ≡ b → (list : List Spot)
+within_ends : (flat : code_flat.Tables) (spots : List DottedRule) (lists : Lists) (c : ℕ) → IsSpotList flat spots lists
+    → (b : Bool) → (nat_lt c lists.ends.least || nat_lt lists.ends.greatest c) ≡ b → (list : List DottedRule)
     → Picks (Reads flat c) spots list → Picks (Reads flat c) spots (if b then [] else list)
 within_ends flat spots lists c are false is list picks = picks
 within_ends flat spots lists c are true is list picks = (
@@ -228,7 +234,7 @@ readers_pick flat h c are =
     within_ends flat (block_of flat h).spots (lists_of flat h) c (are h) _ refl _
     (by (slice_get (lists_of flat h).by_letter c) refl)
   where
-    by : (o : Option (Vec Spot Global)) → slice_get (lists_of flat h).by_letter c ≡ o
+    by : (o : Option (Vec DottedRule Global)) → slice_get (lists_of flat h).by_letter c ≡ o
         → Picks (Reads flat c) (block_of flat h).spots (list_or o (lists_of flat h).readers)
     by None is = ((λ p i. (are h).1.0 p i), (λ p i q. (are h).1.1 p i (c, q)), (λ d. (are h).1.2 d))
     by (Some list) is = (are h).2 c list is

@@ -4,7 +4,7 @@ use Rattle.std.specs.Prelude.{◌≡◌, ℕ, ◌<◌, ◌≤◌, ◌⊎◌, ◌
 use Rattle.std.specs.Prelude.{slice_get, Option, Some, None}
 use Rattle.std.proofs.Common.{Vec, Global}
 use Rattle.flatgrammar.specs.declared.flat_item.Item.{Item}
-use Rattle.flatgrammar.specs.declared.block.Spot.{Spot}
+use Rattle.flatgrammar.specs.declared.block.DottedRule.{DottedRule}
 use Rattle.flatgrammar.specs.declared.block.Block as code_block
 use Rattle.flatgrammar.specs.declared.inner.Inner.{Inner}
 use Rattle.flatgrammar.specs.declared.flat_node.Ends.{Ends}
@@ -15,16 +15,16 @@ use Rattle.flatgrammar.specs.NodeSteps.{flat_of, IfSomeSet}
 use Rattle.flatgrammar.specs.TableViews.{call_of, count_in, null_of, whole_root, takes_of, read_of, GiveRoots, AreNulls}
 use Rattle.flatgrammar.specs.Places.{In, AreDifferent}
 
-abbrev pub item_at : ℕ → Spot → Item
+abbrev pub item_at : ℕ → DottedRule → Item
 item_at j p = record { node = p.node; step = p.step; origin = j }
 
-abbrev pub spot : ℕ → ℕ → Spot
+abbrev pub spot : ℕ → ℕ → DottedRule
 spot n k = record { node = n; step = k }
 
 pub record Block : Type 0 where
-  pub spots : List Spot  -- where something begins
+  pub spots : List DottedRule  -- where something begins
   pub calls : List ℕ  -- the roots that have blocks of their own
-  pub passes : List Spot  -- what goes on at once
+  pub passes : List DottedRule  -- what goes on at once
 
 abbrev pub block_in : Option code_block.Block → Block
 block_in None = record { spots = []; calls = []; passes = [] }
@@ -37,17 +37,17 @@ abbrev pub begin_count : code_flat.Tables → ℕ → ℕ
 begin_count flat t = count_in (slice_get flat.nodes.items t)
 
 -- the root that a dotted rule calls, and the step after it
-abbrev pub call_at : code_flat.Tables → Spot → Option (ℕ × ℕ)
+abbrev pub call_at : code_flat.Tables → DottedRule → Option (ℕ × ℕ)
 call_at flat p = call_of flat (item_at 0 p)
 
 -- the dotted rules that begin wherever a root is predicted
-pub data Inside (flat : code_flat.Tables) (h : ℕ) : Spot → Type 0 where
+pub data Inside (flat : code_flat.Tables) (h : ℕ) : DottedRule → Type 0 where
   begun : {k : ℕ} → k < begin_count flat h → Inside flat h (record { node = h; step = k })
-  called : {p : Spot} {t l k : ℕ} → Inside flat h p → call_at flat p ≡ Some (t, l) → k < begin_count flat t
+  called : {p : DottedRule} {t l k : ℕ} → Inside flat h p → call_at flat p ≡ Some (t, l) → k < begin_count flat t
       → Inside flat h (record { node = t; step = k })
 
-pub record IsPassing (flat : code_flat.Tables) (spots : List Spot) (r : Spot) : Type 0 where
-  pub from : Spot
+pub record IsPassing (flat : code_flat.Tables) (spots : List DottedRule) (r : DottedRule) : Type 0 where
+  pub from : DottedRule
   pub stands : In from spots
   pub root : ℕ
   pub call : call_at flat from ≡ Some (root, r.step)
@@ -55,21 +55,21 @@ pub record IsPassing (flat : code_flat.Tables) (spots : List Spot) (r : Spot) : 
   pub free : takes_of flat (item_at 0 from) ≡ false  -- a turn that takes a letter is not passed
   pub node : r.node ≡ from.node
 
-pub record IsCalling (flat : code_flat.Tables) (spots : List Spot) (t : ℕ) : Type 0 where
-  pub from : Spot
+pub record IsCalling (flat : code_flat.Tables) (spots : List DottedRule) (t : ℕ) : Type 0 where
+  pub from : DottedRule
   pub stands : In from spots
   pub next : ℕ
   pub call : call_at flat from ≡ Some (t, next)
 
 pub record IsBlock (flat : code_flat.Tables) (h : ℕ) (b : Block) : Type 0 where
   pub begun : (k : ℕ) → k < begin_count flat h → In (record { node = h; step = k }) b.spots
-  pub inside : (p : Spot) → In p b.spots → Inside flat h p
+  pub inside : (p : DottedRule) → In p b.spots → Inside flat h p
   pub called : (t : ℕ) → IsCalling flat b.spots t → In t b.calls
       ⊎ ((k : ℕ) → k < begin_count flat t → In (record { node = t; step = k }) b.spots)
   pub calls : (t : ℕ) → In t b.calls → IsCalling flat b.spots t
-  pub passed : (r : Spot) → IsPassing flat b.spots r → In r b.passes ⊎ In r b.spots
-  pub passes : (r : Spot) → In r b.passes → IsPassing flat b.spots r
-  pub late : (r : Spot) → In r b.passes → r.step < begin_count flat r.node → ⊥
+  pub passed : (r : DottedRule) → IsPassing flat b.spots r → In r b.passes ⊎ In r b.spots
+  pub passes : (r : DottedRule) → In r b.passes → IsPassing flat b.spots r
+  pub late : (r : DottedRule) → In r b.passes → r.step < begin_count flat r.node → ⊥
   pub different : AreDifferent b.spots
 
 -- a root whose block begins with it
@@ -83,7 +83,7 @@ IsLate flat a = (a.step < begin_count flat a.node → ⊥) ⊎ ((t : ℕ) × (ca
 -- the tables of a grammar
 pub record AreTables (flat : code_flat.Tables) : Type 0 where
   pub block : (h : ℕ) → IsHead flat h → IsBlock flat h (block_of flat h)
-  pub apart : (g h : ℕ) → IsHead flat g → IsHead flat h → (p : Spot) → In p (block_of flat g).spots
+  pub apart : (g h : ℕ) → IsHead flat g → IsHead flat h → (p : DottedRule) → In p (block_of flat g).spots
       → In p (block_of flat h).spots → g ≡ h
   pub inner : (h t : ℕ) → IsHead flat h → In t (block_of flat h).calls → IsHead flat t
   pub outer : (a : Item) (t l : ℕ) → IsLate flat a → call_of flat a ≡ Some (t, l) → IsHead flat t
@@ -107,8 +107,8 @@ home_of flat t = home_or (inner_of flat t) t
 
 -- what a block has is of nodes that stand in it
 pub record AreHomes (flat : code_flat.Tables) : Type 0 where
-  pub spots : (h : ℕ) (p : Spot) → In p (block_of flat h).spots → home_of flat p.node ≡ h
-  pub passes : (h : ℕ) (p : Spot) → In p (block_of flat h).passes → home_of flat p.node ≡ h
+  pub spots : (h : ℕ) (p : DottedRule) → In p (block_of flat h).spots → home_of flat p.node ≡ h
+  pub passes : (h : ℕ) (p : DottedRule) → In p (block_of flat h).passes → home_of flat p.node ≡ h
   pub inners : (t : ℕ) (inner : Inner) → inner_of flat t ≡ Some inner → home_of flat inner.node ≡ inner.head
 
 -- that dotted rule of the head's block alone calls the node, and goes on elsewhere
@@ -123,31 +123,32 @@ abbrev pub AreAlone : code_flat.Tables → Type 0
 AreAlone flat = (t : ℕ) (inner : Inner) → inner_of flat t ≡ Some inner → IsAlone flat t inner
 
 -- a dotted rule calls a root with a block of its own
-abbrev pub Asks : code_flat.Tables → Spot → Type 0
+abbrev pub Asks : code_flat.Tables → DottedRule → Type 0
 Asks flat p = (t : ℕ) × (l : ℕ) × (call_at flat p ≡ Some (t, l)) × (inner_of flat t ≡ None)
 
 -- a dotted rule reads a letter
-abbrev pub Reads : code_flat.Tables → ℕ → Spot → Type 0
+abbrev pub Reads : code_flat.Tables → ℕ → DottedRule → Type 0
 Reads flat c p = IfSomeSet (read_of flat (item_at 0 p)) c
 
-abbrev pub ReadsAny : code_flat.Tables → Spot → Type 0
+abbrev pub ReadsAny : code_flat.Tables → DottedRule → Type 0
 ReadsAny flat p = (c : ℕ) × Reads flat c p
 
 -- a list has members of the other alone, and all of Q, each once where they are different
-abbrev pub Picks : (Spot → Type 0) → List Spot → List Spot → Type 0
-Picks Q spots list = ((p : Spot) → In p list → In p spots) × ((p : Spot) → In p spots → Q p → In p list)
+abbrev pub Picks : (DottedRule → Type 0) → List DottedRule → List DottedRule → Type 0
+Picks Q spots list = ((p : DottedRule) → In p list → In p spots) × ((p : DottedRule) → In p spots → Q p → In p list)
     × (AreDifferent spots → AreDifferent list)
 
 -- lists by letter
-abbrev pub AreByLetter : code_flat.Tables → List Spot → List (Vec Spot Global) → Type 0
-AreByLetter flat spots lists = (c : ℕ) (list : Vec Spot Global) → slice_get lists c ≡ Some list
+abbrev pub AreByLetter : code_flat.Tables → List DottedRule → List (Vec DottedRule Global) → Type 0
+AreByLetter flat spots lists = (c : ℕ) (list : Vec DottedRule Global) → slice_get lists c ≡ Some list
     → Picks (Reads flat c) spots list.items
 
 -- all letters that dotted rules of a list read are between the ends
-abbrev pub AreEnds : code_flat.Tables → List Spot → Ends → Type 0
-AreEnds flat spots ends = (c : ℕ) (p : Spot) → In p spots → Reads flat c p → (ends.least ≤ c) × (c ≤ ends.greatest)
+abbrev pub AreEnds : code_flat.Tables → List DottedRule → Ends → Type 0
+AreEnds flat spots ends = (c : ℕ) (p : DottedRule) → In p spots → Reads flat c p
+    → (ends.least ≤ c) × (c ≤ ends.greatest)
 
-abbrev pub spots_of : List Ask → List Spot
+abbrev pub spots_of : List Ask → List DottedRule
 spots_of asks = map (λ a. a.spot) asks
 
 -- each dotted rule calls what it is said to ask for
@@ -156,8 +157,8 @@ AreAsks flat asks = (a : Ask) → In a asks → call_at flat a.spot ≡ Some (a.
 
 pub record Lists : Type 0 where
   pub asks : List Ask
-  pub readers : List Spot
-  pub by_letter : List (Vec Spot Global)
+  pub readers : List DottedRule
+  pub by_letter : List (Vec DottedRule Global)
   pub ends : Ends
 
 abbrev pub lists_in : Option SpotList → Lists
@@ -169,24 +170,24 @@ lists_in (Some list) = record {
   ends = list.ends;
 }
 
-abbrev pub IsSpotList : code_flat.Tables → List Spot → Lists → Type 0
+abbrev pub IsSpotList : code_flat.Tables → List DottedRule → Lists → Type 0
 IsSpotList flat spots lists = Picks (Asks flat) spots (spots_of lists.asks) × Picks (ReadsAny flat) spots lists.readers
     × AreByLetter flat spots lists.by_letter × AreAsks flat lists.asks × AreEnds flat lists.readers lists.ends
 
 abbrev pub lists_of : code_flat.Tables → ℕ → Lists
 lists_of flat h = lists_in (slice_get flat.lists.items h)
 
-abbrev pub list_or : Option (Vec Spot Global) → List Spot → List Spot
+abbrev pub list_or : Option (Vec DottedRule Global) → List DottedRule → List DottedRule
 list_or None all = all
 list_or (Some list) all = list.items
 
 -- of lists the dotted rules that are tried on a letter
-abbrev pub readers_in : Lists → ℕ → List Spot
+abbrev pub readers_in : Lists → ℕ → List DottedRule
 readers_in lists c = if nat_lt c lists.ends.least || nat_lt lists.ends.greatest c then []
     else list_or (slice_get lists.by_letter c) lists.readers
 
 -- of a block's dotted rules those that are tried on a letter
-abbrev pub readers_of : code_flat.Tables → ℕ → ℕ → List Spot
+abbrev pub readers_of : code_flat.Tables → ℕ → ℕ → List DottedRule
 readers_of flat h c = readers_in (lists_of flat h) c
 
 -- each block has its lists

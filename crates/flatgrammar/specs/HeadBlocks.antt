@@ -1,6 +1,6 @@
 -- Blocks that are made one dotted rule at a time: each node starts in the block of its head.
 use Rattle.std.specs.Prelude.{◌≡◌, ◌↔◌, ℕ, ◌<◌, ◌⊎◌, true, false, List, slice_get, Option, Some, None}
-use Rattle.flatgrammar.specs.declared.block.Spot.{Spot}
+use Rattle.flatgrammar.specs.declared.block.DottedRule.{DottedRule}
 use Rattle.flatgrammar.specs.declared.block.Block as code_block
 use Rattle.flatgrammar.specs.declared.inner.Inner.{Inner}
 use Rattle.flatgrammar.specs.declared.tables.Tables as code_flat
@@ -10,13 +10,13 @@ use Rattle.flatgrammar.specs.Inners.{inner_at, home_in}
 use Rattle.flatgrammar.specs.Places.{In, AreDifferent}
 
 -- a dotted rule calls a root that stands in no other block
-pub record IsCalled (flat : code_flat.Tables) (inners : List (Option Inner)) (p : Spot) (t : ℕ) : Type 0 where
+pub record IsCalled (flat : code_flat.Tables) (inners : List (Option Inner)) (p : DottedRule) (t : ℕ) : Type 0 where
   pub next : ℕ
   pub call : call_at flat p ≡ Some (t, next)
   pub own : inner_at inners t ≡ None
 
 -- one goes on at once from a dotted rule to another
-pub record IsPast (flat : code_flat.Tables) (p r : Spot) : Type 0 where
+pub record IsPast (flat : code_flat.Tables) (p r : DottedRule) : Type 0 where
   pub root : ℕ
   pub call : call_at flat p ≡ Some (root, r.step)
   pub null : null_of flat root ≡ true
@@ -24,25 +24,26 @@ pub record IsPast (flat : code_flat.Tables) (p r : Spot) : Type 0 where
   pub node : r.node ≡ p.node
   pub moves : r.step ≡ p.step → ⊥
 
-pub record SomeOf (P Q : Spot → Type 0) : Type 0 where
-  pub spot : Spot
+pub record SomeOf (P Q : DottedRule → Type 0) : Type 0 where
+  pub spot : DottedRule
   pub stands : P spot
   pub is : Q spot
 
 -- new has what old has, and the dotted rules of P with what they ask for
-pub record Grows (flat : code_flat.Tables) (inners : List (Option Inner)) (P : Spot → Type 0) (old new : Block) : Type
+pub record Grows (flat : code_flat.Tables) (inners : List (Option Inner)) (P : DottedRule
+    → Type 0) (old new : Block) : Type
     0 where
-  pub spots : (p : Spot) → In p new.spots ↔ (In p old.spots ⊎ P p)
+  pub spots : (p : DottedRule) → In p new.spots ↔ (In p old.spots ⊎ P p)
   pub calls : (t : ℕ) → In t new.calls ↔ (In t old.calls ⊎ SomeOf P (λ p. IsCalled flat inners p t))
-  pub passes : (r : Spot) → In r new.passes ↔ (In r old.passes ⊎ SomeOf P (λ p. IsPast flat p r))
-  pub different : AreDifferent old.spots → ((p : Spot) → P p → In p old.spots → ⊥) → AreDifferent new.spots
+  pub passes : (r : DottedRule) → In r new.passes ↔ (In r old.passes ⊎ SomeOf P (λ p. IsPast flat p r))
+  pub different : AreDifferent old.spots → ((p : DottedRule) → P p → In p old.spots → ⊥) → AreDifferent new.spots
 
 -- where a node begins
-abbrev pub BeginsAt : code_flat.Tables → ℕ → Spot → Type 0
+abbrev pub BeginsAt : code_flat.Tables → ℕ → DottedRule → Type 0
 BeginsAt flat n p = (p.node ≡ n) × (p.step < begin_count flat n)
 
 -- where the nodes of a head begin
-abbrev pub IsAtHome : code_flat.Tables → List (Option Inner) → ℕ → Spot → Type 0
+abbrev pub IsAtHome : code_flat.Tables → List (Option Inner) → ℕ → DottedRule → Type 0
 IsAtHome flat inners h p = (home_in inners p.node ≡ h) × (p.step < begin_count flat p.node)
 
 abbrev pub AreHeadBlocks : code_flat.Tables → List (Option Inner) → List code_block.Block → Type 0

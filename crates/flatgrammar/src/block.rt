@@ -2,7 +2,7 @@
 
 /// A dotted rule: a node, and the step at which the dot stands.
 #[derive(Clone, Copy)]
-pub struct Spot {
+pub struct DottedRule {
     /// The number of the node.
     pub node: usize,
     /// The step.
@@ -16,9 +16,9 @@ pub struct Spot {
 #[derive(Drop)]
 pub struct Block {
     /// The dotted rules at which the root and the nodes inlined into it begin.
-    pub spots: Vec<Spot>,
+    pub spots: Vec<DottedRule>,
     /// The roots with closures of their own that these call.
     pub calls: Vec<usize>,
     /// The dotted rules after calls of nullable roots that may take no symbol.
-    pub passes: Vec<Spot>,
+    pub passes: Vec<DottedRule>,
 }

@@ -4,7 +4,7 @@ ghost use Rattle.flatgrammar.specs.TableViews.{root_in};
 ghost use Rattle.flatgrammar.specs.Blocks.{spot, call_at};
 ghost use Rattle.flatgrammar.specs.Inners.{allows, allows_in, StillAllow, AreCallers};
 
-use crate::block::Spot;
+use crate::block::DottedRule;
 use crate::flat_item::Item;
 use crate::flat_node::{call_count, turned};
 use crate::tables::{Tables, call};
@@ -17,13 +17,13 @@ pub(crate) enum Caller {
     /// No dotted rule.
     Nobody,
     /// This dotted rule alone.
-    One(Spot),
+    One(DottedRule),
     /// Several dotted rules, or a repetition.
     Many,
 }
 
 // Returns what calls a node that one more place calls.
-fn with_spot(caller: Caller, spot: Spot) -> Caller
+fn with_spot(caller: Caller, spot: DottedRule) -> Caller
     ensures old { (n k : ℕ) → allows caller n k → allows result n k }
     ensures new { allows result spot.node spot.step }
 {
@@ -34,7 +34,7 @@ fn with_spot(caller: Caller, spot: Spot) -> Caller
 }
 
 // Notes that a place calls a root.
-fn mark(callers: &mut [Caller], root: usize, spot: Spot)
+fn mark(callers: &mut [Caller], root: usize, spot: DottedRule)
     ensures count { length callers.new ≡ length callers.old }
     ensures still { StillAllow callers.old callers.new }
     ensures here { allows_in (slice_get callers.new root) spot.node spot.step }
@@ -69,7 +69,7 @@ fn mark_place(flat: &Tables, node: usize, step: usize, callers: &mut [Caller])
         origin: 0,
     };
     if let Some((root, _)) = call(flat, item) {
-        mark(callers, root, Spot { node, step });
+        mark(callers, root, DottedRule { node, step });
     }
 }
 

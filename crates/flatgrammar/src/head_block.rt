@@ -1,13 +1,13 @@
 //! Closures of roots: where they and the nodes inlined into them begin.
 ghost use Rattle.std.specs.Prelude.{◌≡◌, ◌↔◌, ◌⊎◌, ◌<◌, ℕ, Some, None, IfOk, length, slice_get};
-ghost use Rattle.flatgrammar.specs.declared.block.Spot as spots;
+ghost use Rattle.flatgrammar.specs.declared.block.DottedRule as spots;
 ghost use Rattle.flatgrammar.specs.declared.inner.Inner as inner;
 ghost use Rattle.flatgrammar.specs.Places.{In};
 ghost use Rattle.flatgrammar.specs.Blocks.{block_in};
 ghost use Rattle.flatgrammar.specs.Inners.{inner_at as the_inner};
 ghost use Rattle.flatgrammar.specs.HeadBlocks.{IsCalled, IsPast, Grows, BeginsAt, AreHeadBlocks};
 
-use crate::block::{Block, Spot};
+use crate::block::{Block, DottedRule};
 use crate::flat_item::Item;
 use crate::inner::{Inner, begin_steps, home, inner_at};
 use crate::tables::{Tables, call, null, takes_letter};
@@ -18,7 +18,7 @@ use std::alloc::Global;
 fn add_call(
     flat: &Tables,
     inners: &[Option<Inner>],
-    spot: Spot,
+    spot: DottedRule,
     calls: &mut Vec<usize>,
 ) -> Result<(), Memory>
     ensures { IfOk result (λ _. (t : ℕ) → In t calls.new.items
@@ -43,8 +43,8 @@ fn add_call(
 
 // Adds the dotted rule after a call of a nullable root, unless it is the one that calls, or what is called has to take
 // a letter.
-fn add_pass(flat: &Tables, spot: Spot, passes: &mut Vec<Spot>) -> Result<(), Memory>
-    ensures { IfOk result (λ _. (r : spots.Spot) → In r passes.new.items
+fn add_pass(flat: &Tables, spot: DottedRule, passes: &mut Vec<DottedRule>) -> Result<(), Memory>
+    ensures { IfOk result (λ _. (r : spots.DottedRule) → In r passes.new.items
         ↔ (In r passes.old.items ⊎ IsPast flat.now spot r)) }
 {
     let item = Item {
@@ -61,7 +61,7 @@ fn add_pass(flat: &Tables, spot: Spot, passes: &mut Vec<Spot>) -> Result<(), Mem
     if next == spot.step {
         return Ok(());
     }
-    passes.push(Spot {
+    passes.push(DottedRule {
         node: spot.node,
         step: next,
     })?;
@@ -72,7 +72,7 @@ fn add_pass(flat: &Tables, spot: Spot, passes: &mut Vec<Spot>) -> Result<(), Mem
 fn add_spot(
     flat: &Tables,
     inners: &[Option<Inner>],
-    spot: Spot,
+    spot: DottedRule,
     block: &mut Block,
 ) -> Result<(), Memory>
     ensures { IfOk result (λ _. Grows flat.now inners.now (λ p. p ≡ spot) (block_in (Some block.old))
@@ -95,7 +95,7 @@ fn add_node(
         (block_in (Some block.new))) }
 {
     for step in 0..begin_steps(flat, node) {
-        add_spot(flat, inners, Spot { node, step }, block)?;
+        add_spot(flat, inners, DottedRule { node, step }, block)?;
     }
     Ok(())
 }

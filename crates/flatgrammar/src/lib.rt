@@ -14,7 +14,7 @@ mod spot_list;
 mod tables;
 mod verdict;
 
-pub use block::{Block, Spot};
+pub use block::{Block, DottedRule};
 pub use flat::Flat;
 pub use flat_item::Item;
 pub use flat_node::{Ends, Node, Set};

@@ -3,7 +3,7 @@ ghost use Rattle.std.specs.Prelude.{◌≡◌, ◌≤◌, ℕ, Some, IsTrue, IfO
 ghost use Rattle.flatgrammar.specs.Blocks.{block_of, call_at, spots_of, Asks, AreAsks, Reads, ReadsAny, Picks};
 ghost use Rattle.flatgrammar.specs.Blocks.{AreByLetter, AreEnds, lists_in, IsSpotList};
 
-use crate::block::Spot;
+use crate::block::DottedRule;
 use crate::flat_item::Item;
 use crate::flat_node::{Ends, Node, widened};
 use crate::tables::{Tables, call, reads, sole_caller, spots};
@@ -17,7 +17,7 @@ const FEW: usize = 4;
 #[derive(Clone, Copy)]
 pub struct Ask {
     /// The dotted rule.
-    pub spot: Spot,
+    pub spot: DottedRule,
     /// The root that it calls.
     pub root: usize,
     /// The step after the call.
@@ -30,15 +30,15 @@ pub struct SpotList {
     /// The dotted rules that call a root with a closure of its own.
     pub asks: Vec<Ask>,
     /// The dotted rules that may read a symbol.
-    pub readers: Vec<Spot>,
+    pub readers: Vec<DottedRule>,
     /// Of each symbol below 256 its readers; empty if at most four dotted rules read.
-    pub by_letter: Vec<Vec<Spot>>,
+    pub by_letter: Vec<Vec<DottedRule>>,
     /// A range that has all symbols that are read.
     pub ends: Ends,
 }
 
 // Returns what a dotted rule asks for, if it calls a root with a block of its own.
-fn ask_of(flat: &Tables, spot: Spot) -> Option<Ask>
+fn ask_of(flat: &Tables, spot: DottedRule) -> Option<Ask>
     ensures spot { IfSome result (λ ask. ask.spot ≡ spot) }
     ensures call { IfSome result (λ ask. call_at flat.now spot ≡ Some (ask.root, ask.next)) }
     ensures none { IfNone result (Asks flat.now spot → ⊥) }
@@ -56,7 +56,7 @@ fn ask_of(flat: &Tables, spot: Spot) -> Option<Ask>
 }
 
 // Returns whether a dotted rule may read a letter.
-fn reads_any(flat: &Tables, spot: Spot) -> bool
+fn reads_any(flat: &Tables, spot: DottedRule) -> bool
     ensures { ReadsAny flat.now spot → IsTrue result }
 {
     match flat.nodes.get(spot.node) {
@@ -66,7 +66,7 @@ fn reads_any(flat: &Tables, spot: Spot) -> bool
 }
 
 // Returns whether a dotted rule reads that letter.
-fn reads_it(flat: &Tables, spot: Spot, value: u32) -> bool
+fn reads_it(flat: &Tables, spot: DottedRule, value: u32) -> bool
     ensures { Reads flat.now value spot → IsTrue result }
 {
     let item = Item {
@@ -78,7 +78,7 @@ fn reads_it(flat: &Tables, spot: Spot, value: u32) -> bool
 }
 
 // Returns what those ask for that call a root with a block of its own.
-fn asks_of(alloc: Global, flat: &Tables, from: &[Spot]) -> Result<Vec<Ask>, Memory>
+fn asks_of(alloc: Global, flat: &Tables, from: &[DottedRule]) -> Result<Vec<Ask>, Memory>
     ensures picks { IfOk result (λ list. Picks (Asks flat.now) from.now (spots_of list.items)) }
     ensures tell { IfOk result (λ list. AreAsks flat.now list.items) }
 {
@@ -92,7 +92,7 @@ fn asks_of(alloc: Global, flat: &Tables, from: &[Spot]) -> Result<Vec<Ask>, Memo
 }
 
 // Returns those that may read a letter.
-fn readers_of(alloc: Global, flat: &Tables, from: &[Spot]) -> Result<Vec<Spot>, Memory>
+fn readers_of(alloc: Global, flat: &Tables, from: &[DottedRule]) -> Result<Vec<DottedRule>, Memory>
     ensures { IfOk result (λ list. Picks (ReadsAny flat.now) from.now list.items) }
 {
     let mut list = Vec::new(alloc);
@@ -105,7 +105,7 @@ fn readers_of(alloc: Global, flat: &Tables, from: &[Spot]) -> Result<Vec<Spot>, 
 }
 
 // Returns the ends of a range that has the letters of other ends and those that a dotted rule reads.
-fn widened_by(flat: &Tables, spot: Spot, ends: Ends) -> Ends
+fn widened_by(flat: &Tables, spot: DottedRule, ends: Ends) -> Ends
     ensures wider { (result.least ≤ ends.least) × (ends.greatest ≤ result.greatest) }
     ensures held { (c : ℕ) → Reads flat.now c spot → (result.least ≤ c) × (c ≤ result.greatest) }
 {
@@ -116,7 +116,7 @@ fn widened_by(flat: &Tables, spot: Spot, ends: Ends) -> Ends
 }
 
 // Returns the ends of a range that has all letters that dotted rules read.
-fn ends_of(flat: &Tables, from: &[Spot]) -> Ends
+fn ends_of(flat: &Tables, from: &[DottedRule]) -> Ends
     ensures { AreEnds flat.now from.now result }
 {
     let mut ends = Ends {
@@ -133,9 +133,9 @@ fn ends_of(flat: &Tables, from: &[Spot]) -> Ends
 fn readers_of_letter(
     alloc: Global,
     flat: &Tables,
-    from: &[Spot],
+    from: &[DottedRule],
     value: u32,
-) -> Result<Vec<Spot>, Memory>
+) -> Result<Vec<DottedRule>, Memory>
     ensures { IfOk result (λ list. Picks (Reads flat.now value) from.now list.items) }
 {
     let mut list = Vec::new(alloc);
@@ -148,7 +148,11 @@ fn readers_of_letter(
 }
 
 // Returns for each letter below 256 those that read it, or no list if there are few of them.
-fn by_letter(alloc: Global, flat: &Tables, from: &[Spot]) -> Result<Vec<Vec<Spot>>, Memory>
+fn by_letter(
+    alloc: Global,
+    flat: &Tables,
+    from: &[DottedRule],
+) -> Result<Vec<Vec<DottedRule>>, Memory>
     ensures { IfOk result (λ lists. AreByLetter flat.now from.now lists.items) }
 {
     let mut lists = Vec::new(alloc);
@@ -163,7 +167,7 @@ fn by_letter(alloc: Global, flat: &Tables, from: &[Spot]) -> Result<Vec<Vec<Spot
 }
 
 // Returns the lists of a block.
-fn list_of(alloc: Global, flat: &Tables, from: &[Spot]) -> Result<SpotList, Memory>
+fn list_of(alloc: Global, flat: &Tables, from: &[DottedRule]) -> Result<SpotList, Memory>
     ensures { IfOk result (λ list. IsSpotList flat.now from.now (lists_in (Some list))) }
 {
     let asks = asks_of(alloc, flat, from)?;

@@ -4,7 +4,7 @@ ghost use Rattle.flatgrammar.specs.NodeSteps.{IfSomeSet};
 ghost use Rattle.flatgrammar.specs.TableViews.{call_of, done_of, null_of, takes_of, read_of, rooted, whole_root};
 ghost use Rattle.flatgrammar.specs.Blocks.{block_of, inner_of, lists_of, readers_of as the_readers_of};
 
-use crate::block::{Block, Spot};
+use crate::block::{Block, DottedRule};
 use crate::flat_item::Item;
 use crate::flat_node;
 use crate::flat_node::{Node, callee, may_read, node_deed, takes};
@@ -119,7 +119,7 @@ pub fn null(flat: &Tables, root: usize) -> bool
 }
 
 /// Returns the dotted rules of a root's closure.
-pub fn spots(flat: &Tables, head: usize) -> &[Spot]
+pub fn spots(flat: &Tables, head: usize) -> &[DottedRule]
     ensures { result.now ≡ (block_of flat.now head).spots }
 {
     match flat.blocks.get(head) {
@@ -140,7 +140,7 @@ pub fn asks(flat: &Tables, head: usize) -> &[Ask]
 }
 
 /// Returns of the dotted rules of a root's closure at least those that read a symbol.
-pub fn readers(flat: &Tables, head: usize, value: u32) -> &[Spot]
+pub fn readers(flat: &Tables, head: usize, value: u32) -> &[DottedRule]
     ensures { result.now ≡ the_readers_of flat.now head value }
 {
     let Some(list) = flat.lists.get(head) else {
@@ -166,7 +166,7 @@ pub fn calls(flat: &Tables, head: usize) -> &[usize]
 }
 
 /// Returns the dotted rules after the nullable calls of a root's closure.
-pub fn passes(flat: &Tables, head: usize) -> &[Spot]
+pub fn passes(flat: &Tables, head: usize) -> &[DottedRule]
     ensures { result.now ≡ (block_of flat.now head).passes }
 {
     match flat.blocks.get(head) {

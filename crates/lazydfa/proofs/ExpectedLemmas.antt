@@ -9,7 +9,7 @@ use Rattle.flatgrammar.specs.Holds.{Holds}
 use Rattle.flatgrammar.specs.NodeSteps.{flat_of}
 use Rattle.flatgrammar.specs.Places.{In}
 use Rattle.flatgrammar.specs.TableViews.{GiveRoots}
-use Rattle.flatgrammar.specs.declared.block.Spot.{Spot}
+use Rattle.flatgrammar.specs.declared.block.DottedRule.{DottedRule}
 use Rattle.flatgrammar.specs.declared.tables.Tables as code_flat
 use Rattle.letterclasses.specs.Stacks.{AreUncounted, IsPlain, IsReading, reading, Lifted}
 use Rattle.letterclasses.proofs.StacksLemmas.{accepted_holds, holds_accepted, reached_item, item_reached, top_held}
@@ -77,8 +77,8 @@ module _ (tables : code_flat.Tables) (roots : GiveRoots (flat_of tables) tables.
         (holds_accepted (flat_of tables) uncounted x (last_of tables) (tells_last tables roots) one.0 one.1 held)).0,
   )
 
-  module _ (spots : List Spot) (are : AreTopsOf memo.cache.conts.items.items at_stop.state.tops.items spots) where
-    spot_held : (s : Spot) → In s spots → (i : ℕ) × Holds (flat_of tables) x stop.at (at s.node s.step) i
+  module _ (spots : List DottedRule) (are : AreTopsOf memo.cache.conts.items.items at_stop.state.tops.items spots) where
+    spot_held : (s : DottedRule) → In s spots → (i : ℕ) × Holds (flat_of tables) x stop.at (at s.node s.step) i
     spot_held s stands =
         let t = are.sound s stands in
         let top : IsStackOf memo.cache.conts.items.items at_stop.state.tops.items (at s.node s.step ∷ t.2) =
@@ -89,7 +89,7 @@ module _ (tables : code_flat.Tables) (roots : GiveRoots (flat_of tables) tables.
         (reads_above (flat_of tables) (at s.node s.step) t.2 (t.2 ++ below) (plain_stop.all_read _ top))).1
         (record { top = at s.node s.step ∷ t.2; is = top; stack_is = refl }))
 
-    lifted_in : (s : Spot) (below : List Place)
+    lifted_in : (s : DottedRule) (below : List Place)
         → Lifted (IsStackOf memo.cache.conts.items.items at_stop.state.tops.items)
         (below_of memo.cache.conts.items.items memo.parts.items) (at s.node s.step ∷ below) → In s spots
     lifted_in s below l =

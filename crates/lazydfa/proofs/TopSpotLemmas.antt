@@ -8,7 +8,7 @@ use Rattle.std.specs.Prelude.{slice_get, Some, Contains}
 use Rattle.flatgrammar.specs.Blocks.{spot}
 use Rattle.flatgrammar.specs.Flat.{Place, at}
 use Rattle.flatgrammar.specs.Places.{In}
-use Rattle.flatgrammar.specs.declared.block.Spot.{Spot}
+use Rattle.flatgrammar.specs.declared.block.DottedRule.{DottedRule}
 use Rattle.flatgrammar.proofs.InLemmas.{in_left, at_end, before_end}
 use Rattle.lazydfa.specs.declared.conts.Cont.{Cont}
 use Rattle.lazydfa.specs.Conts.{stack_of, AreTopsOf}
@@ -17,19 +17,19 @@ use Rattle.lazydfa.proofs.IsClosureLemmas.{contains_at, stands_at}
 
 module _ (conts : List Cont) (ids : List ℕ) where
   -- of the first so many ids
-  pub record AreFirstTops (count : ℕ) (spots : List Spot) : Type 0 where
-    pub sound : (s : Spot) → In s spots → (id : ℕ) × Contains ids id × (below : List Place)
+  pub record AreFirstTops (count : ℕ) (spots : List DottedRule) : Type 0 where
+    pub sound : (s : DottedRule) → In s spots → (id : ℕ) × Contains ids id × (below : List Place)
         × (stack_of conts id ≡ at s.node s.step ∷ below)
-    pub whole : (s : Spot) (k id : ℕ) (below : List Place) → k < count → slice_get ids k ≡ Some id
+    pub whole : (s : DottedRule) (k id : ℕ) (below : List Place) → k < count → slice_get ids k ≡ Some id
         → stack_of conts id ≡ at s.node s.step ∷ below → In s spots
 
-  pub no_tops : (none : List Spot) → none ≡ [] → AreFirstTops 0 none
+  pub no_tops : (none : List DottedRule) → none ≡ [] → AreFirstTops 0 none
   no_tops none is = record {
     sound = λ s stands. absurd (not_in s (subst (λ v. In s v) is stands));
     whole = λ s k id below lt. absurd (omega (arith, lt));
   }
     where
-      not_in : (s : Spot) → In s [] → ⊥
+      not_in : (s : DottedRule) → In s [] → ⊥
       not_in s h = elim h [ ]
 
   same_at : (count k id other : ℕ) → count ≤ k → k < count + 1 → slice_get ids count ≡ Some id
@@ -38,14 +38,14 @@ module _ (conts : List Cont) (ids : List ℕ) where
       let here : k ≡ count = omega (arith, le, lt) in
       let both : Some id ≡ Some other = sym is ∙ subst (λ v. slice_get ids v ≡ Some other) here at_k in cc both
 
-  pub top_passed : (count id : ℕ) (spots : List Spot) → slice_get ids count ≡ Some id → id ≡ 0
+  pub top_passed : (count id : ℕ) (spots : List DottedRule) → slice_get ids count ≡ Some id → id ≡ 0
       → AreFirstTops count spots → AreFirstTops (count + 1) spots
   top_passed count id spots is none are = record {
     sound = are.sound;
     whole = λ s k other below lt at_k stack. by s k other below lt at_k stack (cases_lt k count);
   }
     where
-      by : (s : Spot) (k other : ℕ) (below : List Place) → k < count + 1 → slice_get ids k ≡ Some other
+      by : (s : DottedRule) (k other : ℕ) (below : List Place) → k < count + 1 → slice_get ids k ≡ Some other
           → stack_of conts other ≡ at s.node s.step ∷ below → (k < count) ⊎ (count ≤ k) → In s spots
       by s k other below lt at_k stack (inl less) = are.whole s k other below less at_k stack
       by s k other below lt at_k stack (inr le) =
@@ -53,7 +53,7 @@ module _ (conts : List Cont) (ids : List ℕ) where
           let empty : [] ≡ at s.node s.step ∷ below = sym (stack_none conts other (sym same ∙ none)) ∙ stack in
           absurd (cc empty)
 
-  pub top_added : (count id : ℕ) (spots new : List Spot) (one : Spot) (under : List Place)
+  pub top_added : (count id : ℕ) (spots new : List DottedRule) (one : DottedRule) (under : List Place)
       → slice_get ids count ≡ Some id → stack_of conts id ≡ at one.node one.step ∷ under → new ≡ spots ++ one ∷ []
       → AreFirstTops count spots → AreFirstTops (count + 1) new
   top_added count id spots new one under is top grown are = record {
@@ -62,18 +62,18 @@ module _ (conts : List Cont) (ids : List ℕ) where
         (by s k other below lt at_k stack (cases_lt k count));
   }
     where
-      from : (s : Spot) → In s spots ⊎ (s ≡ one) → (id : ℕ) × Contains ids id × (below : List Place)
+      from : (s : DottedRule) → In s spots ⊎ (s ≡ one) → (id : ℕ) × Contains ids id × (below : List Place)
           × (stack_of conts id ≡ at s.node s.step ∷ below)
       from s (inl h) = are.sound s h
       from s (inr same) = (
         id,
         contains_at ids count id is,
         under,
-        subst (λ (v : Spot). stack_of conts id ≡ at v.node v.step ∷ under)
+        subst (λ (v : DottedRule). stack_of conts id ≡ at v.node v.step ∷ under)
             (sym same) top,
       )
 
-      by : (s : Spot) (k other : ℕ) (below : List Place) → k < count + 1 → slice_get ids k ≡ Some other
+      by : (s : DottedRule) (k other : ℕ) (below : List Place) → k < count + 1 → slice_get ids k ≡ Some other
           → stack_of conts other ≡ at s.node s.step ∷ below → (k < count) ⊎ (count ≤ k) → In s (spots ++ one ∷ [])
       by s k other below lt at_k stack (inl less) = in_left (one ∷ []) (are.whole s k other below less at_k stack)
       by s k other below lt at_k stack (inr le) =
@@ -84,10 +84,10 @@ module _ (conts : List Cont) (ids : List ℕ) where
           let step : one.step ≡ s.step = cc both in
           subst (λ v. In v (spots ++ one ∷ [])) (one_spot one s node step) (at_end one spots)
         where
-          one_spot : (a b : Spot) → a.node ≡ b.node → a.step ≡ b.step → a ≡ b
+          one_spot : (a b : DottedRule) → a.node ≡ b.node → a.step ≡ b.step → a ≡ b
           one_spot a b node step = ap (λ v. spot v a.step) node ∙ ap (λ v. spot b.node v) step
 
-  pub tops_done : (count : ℕ) (spots : List Spot) → length ids ≤ count → AreFirstTops count spots
+  pub tops_done : (count : ℕ) (spots : List DottedRule) → length ids ≤ count → AreFirstTops count spots
       → AreTopsOf conts ids spots
   tops_done count spots le are = record {
     sound = are.sound;

@@ -7,7 +7,7 @@ use Rattle.flatgrammar.specs.Blocks.{begin_count, item_at, spot}
 use Rattle.flatgrammar.specs.NodeSteps.{IfSomeSet}
 use Rattle.flatgrammar.specs.Places.{In}
 use Rattle.flatgrammar.specs.TableViews.{call_of, done_of, read_of}
-use Rattle.flatgrammar.specs.declared.block.Spot.{Spot}
+use Rattle.flatgrammar.specs.declared.block.DottedRule.{DottedRule}
 use Rattle.flatgrammar.specs.declared.tables.Tables as code_flat
 use Rattle.lazydfa.specs.declared.conts.Cont.{Cont}
 
@@ -152,8 +152,8 @@ pub record IsTransition (tables : code_flat.Tables) (c : ℕ) (first : List Cont
       × EndsAlone tables stack)
 
 -- the dotted rules on top of the stacks of ids
-pub record AreTopsOf (conts : List Cont) (ids : List ℕ) (spots : List Spot) : Type 0 where
-  pub sound : (s : Spot) → In s spots → (id : ℕ) × Contains ids id × (below : List Place)
+pub record AreTopsOf (conts : List Cont) (ids : List ℕ) (spots : List DottedRule) : Type 0 where
+  pub sound : (s : DottedRule) → In s spots → (id : ℕ) × Contains ids id × (below : List Place)
       × (stack_of conts id ≡ at s.node s.step ∷ below)
-  pub whole : (s : Spot) (id : ℕ) (below : List Place) → Contains ids id
+  pub whole : (s : DottedRule) (id : ℕ) (below : List Place) → Contains ids id
       → stack_of conts id ≡ at s.node s.step ∷ below → In s spots

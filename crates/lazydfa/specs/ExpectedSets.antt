@@ -4,13 +4,13 @@ use Rattle.flatgrammar.specs.Flat.{Flat, Place, at, Set, Reads}
 use Rattle.flatgrammar.specs.FlatVerdicts.{IsLastSet}
 use Rattle.flatgrammar.specs.Holds.{Holds}
 use Rattle.flatgrammar.specs.Places.{In}
-use Rattle.flatgrammar.specs.declared.block.Spot.{Spot}
+use Rattle.flatgrammar.specs.declared.block.DottedRule.{DottedRule}
 use Rattle.lazydfa.specs.declared.expected.Expected.{Expected}
 
 -- dotted rules of the items of set n: all that read a symbol, and no others than of that set
-pub record AreReadersAt (flat : Flat) (x : List ℕ) (n : ℕ) (spots : List Spot) : Type 0 where
-  pub held : (s : Spot) → In s spots → (i : ℕ) × Holds flat x n (at s.node s.step) i
-  pub all : (s : Spot) (i : ℕ) (set : Set) (r : Place) → Holds flat x n (at s.node s.step) i
+pub record AreReadersAt (flat : Flat) (x : List ℕ) (n : ℕ) (spots : List DottedRule) : Type 0 where
+  pub held : (s : DottedRule) → In s spots → (i : ℕ) × Holds flat x n (at s.node s.step) i
+  pub all : (s : DottedRule) (i : ℕ) (set : Set) (r : Place) → Holds flat x n (at s.node s.step) i
       → Reads flat (at s.node s.step) set r → In s spots
 
 -- the last set with an item, its dotted rules that read, and whether it holds the whole's end with origin 0

@@ -8,8 +8,8 @@ use Rattle.lazydfa.specs.declared.cache.State.{State}
 use Rattle.lazydfa.specs.declared.memo.Memo.{Memo}
 use Rattle.lazydfa.specs.declared.memo.Unfold.{Unfold}
 use Rattle.lazydfa.specs.declared.glide.Track.{Track}
-use Rattle.lazydfa.specs.declared.run.Step.{Step}
-use Rattle.lazydfa.specs.declared.run.Step.TheVariants.{To, Dead, Over}
+use Rattle.lazydfa.specs.declared.run.RunStep.{RunStep}
+use Rattle.lazydfa.specs.declared.run.RunStep.TheVariants.{To, Dead, Over}
 use Rattle.lazydfa.specs.Conts.{last_of}
 use Rattle.lazydfa.specs.Cached.{IsCache, IsAt}
 use Rattle.letterclasses.specs.ClassBounds.{AreClasses}
@@ -83,7 +83,7 @@ IsEndOf samples memo row ended = (tables : code_flat.Tables) → IsMemo tables s
     → ended ≡ got.ended
 
 -- what the letter after the first j leads to from a state
-abbrev pub IsStepTaken : code_flat.Tables → Memo → ℕ → List ℕ → ℕ → Step → Type 0
+abbrev pub IsStepTaken : code_flat.Tables → Memo → ℕ → List ℕ → ℕ → RunStep → Type 0
 IsStepTaken tables memo s x j (To t) = RunsAt tables memo t x (j + 1)
     × IsReached (flat_of tables) (last_of tables) x (j + 1)
 IsStepTaken tables memo s x j Dead = RunsAt tables memo s x j

@@ -11,7 +11,7 @@ ghost use Rattle.lazydfa.specs.RunVerdicts.{IsOne};
 
 use crate::budget::{Budget, ROOM};
 use crate::cache::Cache;
-use crate::chains::Chains;
+use crate::chains::HashChains;
 use crate::close::Ids;
 use crate::conts::Conts;
 use crate::expected::{Expected, spots_of};
@@ -116,7 +116,7 @@ pub(crate) fn empty_memo(alloc: Global, nodes: usize, room: usize) -> Memo
         cache: Cache {
             conts: Conts {
                 items: Vec::new(alloc),
-                chains: Chains::new(alloc),
+                chains: HashChains::new(alloc),
             },
             ids: Ids {
                 items: Vec::new(alloc),
@@ -124,13 +124,13 @@ pub(crate) fn empty_memo(alloc: Global, nodes: usize, room: usize) -> Memo
                 most,
             },
             states: Vec::new(alloc),
-            chains: Chains::new(alloc),
+            chains: HashChains::new(alloc),
             cells: Vec::new(alloc),
             budget: Budget::of(nodes, room),
         },
         hops: Vec::new(alloc),
         unfolds: Vec::new(alloc),
-        chains: Chains::new(alloc),
+        chains: HashChains::new(alloc),
         parts: Vec::new(alloc),
     }
 }

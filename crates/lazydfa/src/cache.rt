@@ -8,10 +8,10 @@ ghost use Rattle.lazydfa.specs.Cached.{AreAddedUnknown, Grows};
 ghost use Rattle.lazydfa.specs.declared.cache.State.{State};
 
 use crate::budget::Budget;
-use crate::chains::Chains;
+use crate::chains::HashChains;
 use crate::close::{Ids, cont_at};
 use crate::conts::Conts;
-use crate::transition::Front;
+use crate::transition::Closure;
 use flatgrammar::{Item, Tables, reads};
 use ruletable::Memory;
 
@@ -52,7 +52,7 @@ pub(crate) struct Cache {
     /// The states, by number; no two are equal.
     pub(crate) states: Vec<State>,
     /// Hash chains that find an equal state.
-    pub(crate) chains: Chains,
+    pub(crate) chains: HashChains,
     /// The transitions, by state and class.
     pub(crate) cells: Vec<Cell>,
     /// How much more may be filled.
@@ -140,7 +140,7 @@ fn hash_of_tops(tops: &[usize]) -> usize {
 }
 
 /// Returns the number of an equal state, if it is found in its chain; the entry k + 1 is of state k.
-fn find(states: &[State], chains: &Chains, tops: &[usize], ended: bool) -> Option<usize>
+fn find(states: &[State], chains: &HashChains, tops: &[usize], ended: bool) -> Option<usize>
     ensures { IfSome result (IsStateOf states.now tops.now ended) }
 {
     let mut entry = chains.last(hash_of_tops(tops));
@@ -157,7 +157,7 @@ fn find(states: &[State], chains: &Chains, tops: &[usize], ended: bool) -> Optio
 }
 
 // Adds the last state to chains. Where there are fewer chains than states, more of them are made.
-fn chain_last(states: &[State], chains: &mut Chains) -> Result<(), Memory> {
+fn chain_last(states: &[State], chains: &mut HashChains) -> Result<(), Memory> {
     if chains.restart(states.len().saturating_mul(2).max(256))? {
         for state in states {
             chains.add(hash_of_tops(&state.tops))?;
@@ -181,7 +181,7 @@ fn add_cells(count: usize, cells: &mut Vec<Cell>) -> Result<(), Memory>
 }
 
 /// Returns the number of a state, which is added if it is not found. `Memory` if an allocation fails.
-pub(crate) fn state_of(cache: &mut Cache, classes: usize, front: Front) -> Result<usize, Memory>
+pub(crate) fn state_of(cache: &mut Cache, classes: usize, front: Closure) -> Result<usize, Memory>
     ensures conts { IfOk result (λ t. cache.new.conts ≡ cache.old.conts) }
     ensures is { IfOk result (λ t. IsInterned cache.old.states.items cache.new.states.items front.tops.items front.ended
         t) }

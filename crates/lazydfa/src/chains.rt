@@ -8,17 +8,17 @@ use std::alloc::Global;
 /// The entries themselves stand in a vector of the caller. A chain has the entries with one hash slot, each linked to
 /// the one before it. `heads` has a power of two of slots, or none before the first `restart`.
 #[derive(Drop)]
-pub(crate) struct Chains {
+pub(crate) struct HashChains {
     /// Of each entry the entry before it in its chain, or 0.
     links: Vec<usize>,
     /// Of each chain its last entry, or 0.
     heads: Vec<usize>,
 }
 
-impl Chains {
+impl HashChains {
     /// Returns no chain. It takes no memory.
-    pub(crate) fn new(alloc: Global) -> Chains {
-        Chains {
+    pub(crate) fn new(alloc: Global) -> HashChains {
+        HashChains {
             links: Vec::new(alloc),
             heads: Vec::new(alloc),
         }

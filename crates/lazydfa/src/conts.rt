@@ -4,7 +4,7 @@ ghost use Rattle.std.specs.Prelude.{Some};
 ghost use Rattle.flatgrammar.specs.Flat.{Place};
 ghost use Rattle.lazydfa.specs.Conts.{AreKept, AreOlder, IsIdOf, stack_of};
 
-use crate::chains::Chains;
+use crate::chains::HashChains;
 use ruletable::Memory;
 
 /// A continuation: a dotted rule to go on with, on top of the return stack `next`.
@@ -34,7 +34,7 @@ pub(crate) fn hash_of_cont(cont: Cont) -> usize {
 }
 
 /// Returns the id of an equal continuation, if it is found in its chain.
-fn find(conts: &[Cont], chains: &Chains, cont: Cont) -> Option<usize>
+fn find(conts: &[Cont], chains: &HashChains, cont: Cont) -> Option<usize>
     ensures { IfSome result (λ id. (k : ℕ) × (id ≡ k + 1) × (slice_get conts.now k ≡ Some cont)) }
 {
     let mut id = chains.last(hash_of_cont(cont));
@@ -56,11 +56,11 @@ pub(crate) struct Conts {
     /// The continuation of id `k + 1` is entry `k`.
     pub(crate) items: Vec<Cont>,
     /// Hash chains that find an equal continuation.
-    pub(crate) chains: Chains,
+    pub(crate) chains: HashChains,
 }
 
 // Adds the last continuation to chains. Where there are fewer chains than continuations, more of them are made.
-fn chain_last(conts: &[Cont], chains: &mut Chains) -> Result<(), Memory> {
+fn chain_last(conts: &[Cont], chains: &mut HashChains) -> Result<(), Memory> {
     if chains.restart(conts.len().saturating_mul(2).max(1024))? {
         for cont in conts {
             chains.add(hash_of_cont(*cont))?;

@@ -4,7 +4,7 @@ ghost use Rattle.lazydfa.specs.Conts.{AreOlder, AreTopsOf};
 
 use crate::close::cont_at;
 use crate::conts::Conts;
-use flatgrammar::Spot;
+use flatgrammar::DottedRule;
 use ruletable::Memory;
 use std::alloc::Global;
 
@@ -14,13 +14,17 @@ pub struct Expected {
     /// How many symbols that prefix has.
     pub after: usize,
     /// The dotted rules that read the symbols that can follow, each once or more.
-    pub spots: Vec<Spot>,
+    pub spots: Vec<DottedRule>,
     /// Whether the line may end there.
     pub ends: bool,
 }
 
 /// Returns the dotted rules on top of continuations. `Memory` if an allocation fails.
-pub(crate) fn spots_of(alloc: Global, conts: &Conts, tops: &[usize]) -> Result<Vec<Spot>, Memory>
+pub(crate) fn spots_of(
+    alloc: Global,
+    conts: &Conts,
+    tops: &[usize],
+) -> Result<Vec<DottedRule>, Memory>
     requires within { (id : ℕ) → Contains tops.now id → id ≤ length conts.now.items.items }
     requires older { AreOlder conts.now.items.items }
     ensures { IfOk result (λ spots. AreTopsOf conts.now.items.items tops.now spots.items) }
@@ -29,7 +33,7 @@ pub(crate) fn spots_of(alloc: Global, conts: &Conts, tops: &[usize]) -> Result<V
     for top in tops {
         if *top > 0 {
             let cont = cont_at(conts, *top);
-            spots.push(Spot {
+            spots.push(DottedRule {
                 node: cont.node,
                 step: cont.step,
             })?;

@@ -6,7 +6,7 @@ ghost use Rattle.lazydfa.specs.Cached.{IsCache, IsCell, Grows};
 
 use crate::cache::{Cache, Cell, any_reads, state_of};
 use crate::parts::split_off;
-use crate::transition::{Front, transition};
+use crate::transition::{Closure, transition};
 use flatgrammar::Tables;
 use ruletable::Memory;
 use std::alloc::Global;
@@ -99,7 +99,7 @@ fn lead(
         return Ok(Cell::Over);
     };
     if let Some(split) = split_off(alloc, tables, &mut cache.conts, &front)? {
-        let base = Front {
+        let base = Closure {
             tops: split.tops,
             ended: false,
         };

@@ -5,7 +5,7 @@ ghost use Rattle.lazydfa.specs.Memos.{IsKnown, IsMemo, IsUnfold};
 ghost use Rattle.lazydfa.specs.declared.cache.State.{State};
 
 use crate::cache::{Cache, forget, state_of};
-use crate::chains::Chains;
+use crate::chains::HashChains;
 use crate::fill::may_fill;
 use crate::parts::put_back;
 use flatgrammar::Tables;
@@ -40,7 +40,7 @@ pub(crate) struct Memo {
     /// The resumed states known so far.
     pub(crate) unfolds: Vec<Unfold>,
     /// Hash chains that find a resumed state.
-    pub(crate) chains: Chains,
+    pub(crate) chains: HashChains,
     /// The ids of the shared suffixes below the state of this line, the topmost last.
     pub(crate) parts: Vec<usize>,
 }
@@ -66,7 +66,7 @@ fn hash_of_pair(state: usize, part: usize) -> usize {
 
 // Returns the state of a state and a part, if it is found in its chain; the entry k + 1 is of unfold k.
 #[inline(always)]
-fn find(unfolds: &[Unfold], chains: &Chains, state: usize, part: usize) -> Option<usize>
+fn find(unfolds: &[Unfold], chains: &HashChains, state: usize, part: usize) -> Option<usize>
     ensures { IfSome result (IsKnown unfolds.now state part) }
 {
     let mut entry = chains.last(hash_of_pair(state, part));
@@ -84,7 +84,7 @@ fn find(unfolds: &[Unfold], chains: &Chains, state: usize, part: usize) -> Optio
 }
 
 // Adds the last unfold to chains. Where there are fewer chains than unfolds, more of them are made.
-fn chain_last(unfolds: &[Unfold], chains: &mut Chains) -> Result<(), Memory> {
+fn chain_last(unfolds: &[Unfold], chains: &mut HashChains) -> Result<(), Memory> {
     if chains.restart(unfolds.len().saturating_mul(2).max(64))? {
         for known in unfolds {
             chains.add(hash_of_pair(known.state, known.part))?;

@@ -7,7 +7,7 @@ ghost use Rattle.lazydfa.specs.StackParts.{IsSplitOff, PutsBack};
 use crate::close::{Ids, add, close, empty};
 use crate::conts::{Cont, Conts};
 use crate::spines::{Move, move_all};
-use crate::transition::{Front, readers, top_reads};
+use crate::transition::{Closure, readers, top_reads};
 use flatgrammar::Tables;
 use ruletable::Memory;
 use std::alloc::Global;
@@ -107,7 +107,7 @@ fn all_read(tables: &Tables, ids: &[usize], conts: &Conts) -> bool
 }
 
 // Returns whether a part may be split off a front.
-fn may_split(conts: &Conts, front: &Front, part: usize) -> bool
+fn may_split(conts: &Conts, front: &Closure, part: usize) -> bool
     ensures { IsTrue result → (front.now.ended ≡ false) × (0 < part) × (part ≤ length conts.now.items.items) }
 {
     !front.ended && 0 < part && part <= conts.items.len()
@@ -119,7 +119,7 @@ pub(crate) fn split_off(
     alloc: Global,
     tables: &Tables,
     conts: &mut Conts,
-    front: &Front,
+    front: &Closure,
 ) -> Result<Option<Split>, Memory>
     requires within { (id : ℕ) → Contains front.now.tops.items id → id ≤ length conts.old.items.items }
     requires older { AreOlder conts.old.items.items }
@@ -156,7 +156,7 @@ pub(crate) fn put_back(
     ids: &mut Ids,
     tops: &[usize],
     part: usize,
-) -> Result<Option<Front>, Memory>
+) -> Result<Option<Closure>, Memory>
     requires within { (id : ℕ) → Contains tops.now id → id ≤ length conts.old.items.items }
     requires part { part ≤ length conts.old.items.items }
     requires older { AreOlder conts.old.items.items }
@@ -175,5 +175,5 @@ pub(crate) fn put_back(
     if !move_all(conts, tops, way, &mut spine, &mut next)? {
         return Ok(None);
     }
-    Ok(Some(Front { tops: next, ended }))
+    Ok(Some(Closure { tops: next, ended }))
 }

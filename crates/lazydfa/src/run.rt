@@ -18,7 +18,7 @@ use crate::fill::{fill, look, may_fill, spot};
 use crate::glide::{Track, glide};
 use crate::hops::{end_of, note_hop};
 use crate::memo::{Memo, forget_all, unfolded};
-use crate::transition::{Front, readers};
+use crate::transition::{Closure, readers};
 use flatgrammar::{Tables, Verdict, whole_root};
 use letterclasses::class_of;
 use letters::Letter;
@@ -32,7 +32,7 @@ fn first_front(
     tables: &Tables,
     conts: &mut Conts,
     ids: &mut Ids,
-) -> Result<Option<Front>, Memory>
+) -> Result<Option<Closure>, Memory>
     requires older { AreOlder conts.old.items.items }
     ensures kept { IfOk result (λ told. AreKept conts.old.items.items conts.new.items.items) }
     ensures is { IfOk result (λ told. IfSome told (λ front. IsStart tables.now conts.new.items.items front.tops.items
@@ -47,7 +47,7 @@ fn first_front(
         return Ok(None);
     };
     let tops = readers(alloc, tables, conts, &ids.items)?;
-    Ok(Some(Front { tops, ended }))
+    Ok(Some(Closure { tops, ended }))
 }
 
 /// Makes the start state, where there is no state, and returns whether the budget allows it. `Memory` if an allocation
@@ -156,7 +156,7 @@ fn settle(
 
 /// A step of a run. `To`: the next state. `Dead`: the symbol cannot follow. `Over`: a bound is exceeded.
 #[derive(Clone, Copy)]
-pub(crate) enum Step {
+pub(crate) enum RunStep {
     To(usize),
     Dead,
     Over,
@@ -171,7 +171,7 @@ fn take_step(
     memo: &mut Memo,
     state: usize,
     class: usize,
-) -> Result<Step, Memory>
+) -> Result<RunStep, Memory>
     requires roots { GiveRoots (flat_of tables.now) tables.now.roots.items }
     requires memo { IsMemo tables.now samples.now memo.old }
     ensures memo { IfOk result (λ step. IsMemo tables.now samples.now memo.new) }
@@ -183,16 +183,16 @@ fn take_step(
         Cell::To(t) => {
             note_hop(&memo.cache, samples.len(), &mut memo.hops, state, class, t)?;
             match settle(alloc, tables, samples, memo, t)? {
-                Some(settled) => Ok(Step::To(settled)),
-                None => Ok(Step::Over),
+                Some(settled) => Ok(RunStep::To(settled)),
+                None => Ok(RunStep::Over),
             }
         }
         Cell::Push(t, part) => {
             memo.parts.push(part)?;
-            Ok(Step::To(t))
+            Ok(RunStep::To(t))
         }
-        Cell::Dead => Ok(Step::Dead),
-        Cell::Unknown | Cell::Over => Ok(Step::Over),
+        Cell::Dead => Ok(RunStep::Dead),
+        Cell::Unknown | Cell::Over => Ok(RunStep::Over),
     }
 }
 
@@ -272,7 +272,7 @@ fn go_on<L: Letter>(
     while track.at < line.len() {
         let class = class_of(low, samples, line[track.at].value());
         match take_step(alloc, tables, samples, memo, track.row / stride, class)? {
-            Step::To(t) => {
+            RunStep::To(t) => {
                 let Some(row) = spot(t, stride, 0) else {
                     return Ok(None);
                 };
@@ -282,10 +282,10 @@ fn go_on<L: Letter>(
                 };
                 track = glide(memo, low, samples, line, next);
             }
-            Step::Dead => {
+            RunStep::Dead => {
                 return Ok(Some(track));
             }
-            Step::Over => {
+            RunStep::Over => {
                 return Ok(None);
             }
         }

@@ -8,7 +8,7 @@ use crate::automaton::{are_served, empty_memo};
 use crate::cache::{Cache, forget, has_ended, state_of};
 use crate::fill::may_fill;
 use crate::run::begin;
-use crate::transition::{Front, transition};
+use crate::transition::{Closure, transition};
 use flatgrammar::{Flat, Tables};
 use ruletable::Memory;
 use std::alloc::Global;
@@ -50,13 +50,13 @@ impl Model for States {
 }
 
 // Returns a front with its ids in ascending order.
-fn in_order(front: Front) -> Front
+fn in_order(front: Closure) -> Closure
     ensures tops { IsPermutation front.tops.items result.tops.items }
     ensures ended { result.ended ≡ front.ended }
 {
     let mut tops = front.tops;
     tops.sort_unstable();
-    Front {
+    Closure {
         tops,
         ended: front.ended,
     }

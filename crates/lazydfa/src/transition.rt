@@ -12,7 +12,7 @@ use std::alloc::Global;
 
 /// A closure: the stacks that a transition leads to, closed under calls and returns.
 #[derive(Drop)]
-pub(crate) struct Front {
+pub(crate) struct Closure {
     /// The ids of the stacks whose top reads a symbol.
     pub(crate) tops: Vec<usize>,
     /// Whether the augmented start may end.
@@ -139,7 +139,7 @@ pub(crate) fn transition(
     value: u32,
     conts: &mut Conts,
     ids: &mut Ids,
-) -> Result<Option<Front>, Memory>
+) -> Result<Option<Closure>, Memory>
     requires within { (id : ℕ) → Contains tops.now id → id ≤ length conts.old.items.items }
     requires older { AreOlder conts.old.items.items }
     ensures kept { IfOk result (λ told. AreKept conts.old.items.items conts.new.items.items) }
@@ -152,5 +152,5 @@ pub(crate) fn transition(
         return Ok(None);
     };
     let tops = readers(alloc, tables, conts, &ids.items)?;
-    Ok(Some(Front { tops, ended }))
+    Ok(Some(Closure { tops, ended }))
 }

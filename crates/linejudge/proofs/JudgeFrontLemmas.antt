@@ -16,7 +16,7 @@ use Rattle.linejudge.specs.LineRefusals.{Refusals, ToldUpTo, is_told, none_after
 use Rattle.linejudge.specs.LineSteps.{AddsLines}
 use Rattle.linejudge.specs.declared.answers.Answer.{Answer}
 use Rattle.linejudge.specs.declared.line.LineForm.{LineForm}
-use Rattle.linejudge.specs.declared.reached.At.{At}
+use Rattle.linejudge.specs.declared.reached.LinePosition.{LinePosition}
 use Rattle.linejudge.proofs.KeptLineLemmas.{kept_is}
 use Rattle.linejudge.proofs.NextLineLemmas.{first_found}
 
@@ -41,11 +41,11 @@ found_stands form input start len n s front rest is here within (before, found) 
 
 module _ (Told : List ℕ → Answer → Type 0) (asked : Bool) (Refusal : List ℕ → ℕ → List ℕ → Type 0) (form : LineForm)
     (input : Input) where
-  pub goes_nowhere : (at : At) → AddsLines Told asked Refusal form input at at []
+  pub goes_nowhere : (at : LinePosition) → AddsLines Told asked Refusal form input at at []
   goes_nowhere at = record { lines = λ text l. rw append-nil l; refusals = λ lacks told r. r }
 
   -- a line of which nothing is explained
-  told_on : asked ≡ false → (lacks : Bool) (at : At) (told line : List ℕ) (n : ℕ) (said : Answer)
+  told_on : asked ≡ false → (lacks : Bool) (at : LinePosition) (told line : List ℕ) (n : ℕ) (said : Answer)
       → ToldUpTo Told asked Refusal form input lacks at told → GoesBy form input at line n → Told line said
       → ToldUpTo Told asked Refusal form input lacks (behind at n said) told
   told_on not false at told line n said r stands says =
@@ -54,7 +54,7 @@ module _ (Told : List ℕ → Answer → Type 0) (asked : Bool) (Refusal : List 
       (if_not_asked (is_told asked at.refused said) (Refusal line (at.count + 1)) (rw not refl)))
   told_on not true at told line n said r stands says = none_after at told line n said r stands says
 
-  pub goes_one_on : asked ≡ false → (old at : At) (added line : List ℕ) (n : ℕ) (said : Answer)
+  pub goes_one_on : asked ≡ false → (old at : LinePosition) (added line : List ℕ) (n : ℕ) (said : Answer)
       → AddsLines Told asked Refusal form input old at added → GoesBy form input at line n → Told line said
       → AddsLines Told asked Refusal form input old (behind at n said)
       (added ++ printed_line form (at.count + 1) line said)
@@ -66,7 +66,7 @@ module _ (Told : List ℕ → Answer → Type 0) (asked : Bool) (Refusal : List 
   }
 
   -- a batch of lines that was judged in bytes at the front of what is held
-  pub batch_goes : {flow : Flow} (before items front added : List ℕ) (at next : At) → length before ≡ at.place
+  pub batch_goes : {flow : Flow} (before items front added : List ℕ) (at next : LinePosition) → length before ≡ at.place
       → IsBeginning front items → Agrees (before ++ items) flow input →
       ((input : Input) (rest : List ℕ) → drop at.place input.bytes ≡ front ++ rest
       → AddsLines Told asked Refusal form input at next added) → AddsLines Told asked Refusal form input at next added

@@ -35,8 +35,8 @@ use Rattle.linejudge.specs.LineRefusals.{none_after, none_told, one_lacks, one_t
 use Rattle.linejudge.specs.LineSteps.{AddsBy, AddsLines, IsStep, IsToldEnding, StepText, of_end, of_line}
 use Rattle.linejudge.specs.declared.answers.Answer.{Answer}
 use Rattle.linejudge.specs.declared.line.LineForm.{LineForm}
-use Rattle.linejudge.specs.declared.line_loop.Step.TheVariants.{Answers, Stops}
-use Rattle.linejudge.specs.declared.reached.At.{At}
+use Rattle.linejudge.specs.declared.line_loop.LineStep.TheVariants.{Answers, Stops}
+use Rattle.linejudge.specs.declared.reached.LinePosition.{LinePosition}
 use Rattle.linejudge.specs.declared.reached.Explanations.{Explanations}
 use Rattle.linejudge.proofs.LinesLemmas.{lines_go_on, goes_further}
 
@@ -51,7 +51,8 @@ module _ (Told : List ℕ → Answer → Type 0) (asked : Bool) (Refusal : List 
       (TellsTo Told asked Refusal form input) (WhyTo asked input) (NeverLacks input) point last ending
 
   -- where it is not asked, no line is explained
-  untold_lines : asked ≡ false → (at : At) (told : List ℕ) → Refusals Told asked Refusal form input at told → told ≡ []
+  untold_lines : asked ≡ false → (at : LinePosition) (told : List ℕ) → Refusals Told asked Refusal form input at told
+      → told ≡ []
   untold_lines not at told none_told = refl
   untold_lines not at told (one_told before first line n said text lines stands says tells) =
       let nothing : first ≡ [] = untold_lines not before first lines in
@@ -60,13 +61,14 @@ module _ (Told : List ℕ → Answer → Type 0) (asked : Bool) (Refusal : List 
       rw (nothing, none) refl
 
   -- .. and no explanation is missing
-  nothing_lacks : asked ≡ false → (at : At) (told : List ℕ) → CutRefusals Told asked Refusal form input at told → ⊥
+  nothing_lacks : asked ≡ false → (at : LinePosition) (told : List ℕ)
+      → CutRefusals Told asked Refusal form input at told → ⊥
   nothing_lacks not at told (one_lacks before first line n said lines stands says is) =
       let none : is_told asked before.refused said ≡ false = rw not refl in absurd (cc)
   nothing_lacks not at told (none_after before all line n said lines stands says) =
       nothing_lacks not before all lines
 
-  none_told_by : asked ≡ false → (b : Bool) (at : At) (told : List ℕ)
+  none_told_by : asked ≡ false → (b : Bool) (at : LinePosition) (told : List ℕ)
       → ToldUpTo Told asked Refusal form input b at told → told ≡ []
   none_told_by not false at told first = untold_lines not at told first
   none_told_by not true at told first = absurd (nothing_lacks not at told first)
@@ -92,7 +94,7 @@ module _ (Told : List ℕ → Answer → Type 0) (asked : Bool) (Refusal : List 
   some_lines false lines = ([], refl)
 
   -- the explanations after one more line
-  told_more : (o b : Bool) (at : At) (line : List ℕ) (n : ℕ) (said : Answer) (old new : List ℕ)
+  told_more : (o b : Bool) (at : LinePosition) (line : List ℕ) (n : ℕ) (said : Answer) (old new : List ℕ)
       → ToldUpTo Told asked Refusal form input o at old → GoesBy form input at line n → Told line said
       → AddsBy Told asked Refusal o b at line said old new
       → ToldUpTo Told asked Refusal form input b (behind at n said) new
@@ -185,7 +187,7 @@ module _ (Told : List ℕ → Answer → Type 0) (asked : Bool) (Refusal : List 
   same_but_why reply (unexplained plain replies told tells lack) ample = absurd lack
   same_but_why reply (cut_short point out told all before tells replies front) ample = absurd (ample refl)
 
-  module _ (at : At) (old mid : Option (List ℕ)) (text : List ℕ) (told : Explanations)
+  module _ (at : LinePosition) (old mid : Option (List ℕ)) (text : List ℕ) (told : Explanations)
       (lines : Lines Told form input at text)
       (refusals : ToldUpTo Told asked Refusal form input told.lacks at told.text.items) (wrote : Appends old mid text)
     where
@@ -205,7 +207,7 @@ module _ (Told : List ℕ → Answer → Type 0) (asked : Bool) (Refusal : List 
       )
 
       -- a batch of lines
-      pub more_lines : (next : At) (new : Option (List ℕ)) (added : List ℕ)
+      pub more_lines : (next : LinePosition) (new : Option (List ℕ)) (added : List ℕ)
           → AddsLines Told asked Refusal form input at next added → Appends mid new added →
           (longer : List ℕ) × Lines Told form input next longer
           × ToldUpTo Told asked Refusal form input told.lacks next told.text.items × Appends old new longer
@@ -311,7 +313,7 @@ module _ (Told : List ℕ → Answer → Type 0) (asked : Bool) (Refusal : List 
       -- the output fails in the text of more lines
       module _ (decided : (line : List ℕ) → (said : Answer) × Told line said) (new : Option (List ℕ)) (taken : ℕ)
           (fault : WriteFault) (took : taken ≤ taken_at form.limit input at.place) where
-        fails_at : (next : At) (b : Bool) (added more : List ℕ) → at.place ≤ next.place
+        fails_at : (next : LinePosition) (b : Bool) (added more : List ℕ) → at.place ≤ next.place
             → Lines Told form input next (text ++ added)
             → ToldUpTo Told asked Refusal form input b next more → AppendsPart mid new added
             → Runs taken old new (Err fault)
@@ -384,7 +386,7 @@ module _ (Told : List ℕ → Answer → Type 0) (asked : Bool) (Refusal : List 
             → Runs taken old new (Err fault)
         fails_there more (added, texts, part) = fails_in added more texts part
 
-        pub fails_further : (next : At) (added : List ℕ) → at.place ≤ next.place
+        pub fails_further : (next : LinePosition) (added : List ℕ) → at.place ≤ next.place
             → AddsLines Told asked Refusal form input at next added → AppendsPart mid new added
             → Runs taken old new (Err fault)
         fails_further next added le goes part =

@@ -17,14 +17,14 @@ use Rattle.linejudge.specs.LineSteps.{Answered, IsStep, StepsBehind, of_end, of_
 use Rattle.linejudge.specs.declared.answers.Answer.{Answer}
 use Rattle.linejudge.specs.declared.line.Line.TheVariants as line
 use Rattle.linejudge.specs.declared.line.LineForm.{LineForm}
-use Rattle.linejudge.specs.declared.line_loop.Step.{Step}
-use Rattle.linejudge.specs.declared.line_loop.Step.TheVariants.{Stops}
-use Rattle.linejudge.specs.declared.reached.At.{At}
+use Rattle.linejudge.specs.declared.line_loop.LineStep.{LineStep}
+use Rattle.linejudge.specs.declared.line_loop.LineStep.TheVariants.{Stops}
+use Rattle.linejudge.specs.declared.reached.LinePosition.{LinePosition}
 use Rattle.linejudge.specs.declared.reached.Explanations.{Explanations}
 use Rattle.linejudge.proofs.KeptLineLemmas.{kept_is}
 
 module _ (Told : List ℕ → Answer → Type 0) (asked : Bool) (Refusal : List ℕ → ℕ → List ℕ → Type 0) (form : LineForm)
-    (input : Input) (at : At) (old new : Option (List ℕ)) (told more : Explanations) where
+    (input : Input) (at : LinePosition) (old new : Option (List ℕ)) (told more : Explanations) where
   abbrev rest : List ℕ
   rest = drop at.place input.bytes
 
@@ -32,7 +32,7 @@ module _ (Told : List ℕ → Answer → Type 0) (asked : Bool) (Refusal : List 
   IsAnswered line text = Answered Told asked Refusal form at line told more text
 
   -- a line that is answered
-  line_is : (line : List ℕ) (n : ℕ) (text : List ℕ) (answered : Result Answer Memory) (r : Result Step WriteFault)
+  line_is : (line : List ℕ) (n : ℕ) (text : List ℕ) (answered : Result Answer Memory) (r : Result LineStep WriteFault)
       → GoesBy form input at line n → IfOk answered (IsAnswered line text) → OnErr answered (more ≡ told)
       → StepsBehind n old new text answered r → IsStep Told asked Refusal form input at old new told more r
   line_is line n text (Ok said) (Ok step) stands is fails (writes, same) =
@@ -42,7 +42,7 @@ module _ (Told : List ℕ → Answer → Type 0) (asked : Bool) (Refusal : List 
   line_is line n text (Err lack) r stands is kept (keeps, same) = rw same (kept, inl (refl, keeps))
 
   -- a line and its end
-  pub whole_is : (n : ℕ) (held text : List ℕ) (answered : Result Answer Memory) (r : Result Step WriteFault)
+  pub whole_is : (n : ℕ) (held text : List ℕ) (answered : Result Answer Memory) (r : Result LineStep WriteFault)
       → is_over form at ≡ false → held ≡ take (kept_size form n) rest → IsNext form input at.place (line.Whole n)
       → IfOk answered (IsAnswered held text) → OnErr answered (more ≡ told)
       → StepsBehind (n + 1) old new text answered r → IsStep Told asked Refusal form input at old new told more r
@@ -54,7 +54,7 @@ module _ (Told : List ℕ → Answer → Type 0) (asked : Bool) (Refusal : List 
       line_is judged (n + 1) text answered r (record { goes = goes; stands = stands }) (rw all at answers) fails steps
 
   -- a last line without an end
-  pub last_is : (n : ℕ) (held text : List ℕ) (answered : Result Answer Memory) (r : Result Step WriteFault)
+  pub last_is : (n : ℕ) (held text : List ℕ) (answered : Result Answer Memory) (r : Result LineStep WriteFault)
       → is_over form at ≡ false → held ≡ take n rest → IsNext form input at.place (line.Last n)
       → IfOk answered (IsAnswered held text)
       → OnErr answered (more ≡ told) → StepsBehind n old new text answered r
@@ -66,13 +66,13 @@ module _ (Told : List ℕ → Answer → Type 0) (asked : Bool) (Refusal : List 
       line_is rest n text answered r (record { goes = goes; stands = stands }) (rw all at answers) fails steps
 
 module _ (Told : List ℕ → Answer → Type 0) (asked : Bool) (Refusal : List ℕ → ℕ → List ℕ → Type 0) (form : LineForm)
-    (input : Input) (at : At) (old new : Option (List ℕ)) (told : Explanations) where
+    (input : Input) (at : LinePosition) (old new : Option (List ℕ)) (told : Explanations) where
   -- no line
   pub long_is : is_over form at ≡ false → IsNext form input at.place line.Overlong
       → IsStep Told asked Refusal form input at old old told told (Ok (Stops (LongLine (at.count + 1) form.limit)))
   long_is goes next = (refl, inr ([], overlong goes next, Appends-same old))
 
-  pub end_is : (r : Result Step WriteFault) → LinesEnd form input at (printed_last form.printed at)
+  pub end_is : (r : Result LineStep WriteFault) → LinesEnd form input at (printed_last form.printed at)
       (Quiet (status_after at.refused))
       → Writes old new (printed_last form.printed at) r → IfOk r (λ s. s ≡ Stops (Quiet (status_after at.refused)))
       → IsStep Told asked Refusal form input at old new told told r

@@ -20,7 +20,7 @@ use Rattle.linejudge.specs.InputLines.{behind, overlong, finished, is_over, reje
 use Rattle.linejudge.specs.declared.answers.Answer.{Answer}
 use Rattle.linejudge.specs.declared.answers.Answer.TheVariants.{Yes, No, NoAfter}
 use Rattle.linejudge.specs.declared.line.LineForm.{LineForm}
-use Rattle.linejudge.specs.declared.reached.At.{At}
+use Rattle.linejudge.specs.declared.reached.LinePosition.{LinePosition}
 
 -- a line and its end stand in front, or there is no end
 split_line : (end : ℕ) (xs : List ℕ) → ((line after : List ℕ) × (xs ≡ line ++ end ∷ after) × HasNoEnd end line)
@@ -46,7 +46,7 @@ refused_by-one No = omega arith
 refused_by-one (NoAfter n) = omega arith
 
 -- at the end of the input a run ends so, whether it was over before or not
-pub ends_quietly : (form : LineForm) (input : Input) (at : At) (b : Bool) → is_over form at ≡ b
+pub ends_quietly : (form : LineForm) (input : Input) (at : LinePosition) (b : Bool) → is_over form at ≡ b
     → IsEndAt form input at.place → LinesEnd form input at (printed_last form.printed at)
     (Quiet (status_after at.refused))
 ends_quietly form input at true over is = rejected over
@@ -67,7 +67,7 @@ module _ (Told : List ℕ → Answer → Type 0) (form : LineForm) (input : Inpu
       let m : taken_at form.limit input s ≤ taken_at form.limit input t = le-min a (omega (arith, b, le)) in
       omega (arith, m, h)
 
-  pub goes_to_stop : (at : At) (text last : List ℕ) (stop : Stop) → Lines Told form input at text
+  pub goes_to_stop : (at : LinePosition) (text last : List ℕ) (stop : Stop) → Lines Told form input at text
       → LinesEnd form input at last stop → Goes at.place (text ++ last)
   goes_to_stop at text last stop lines ends = record {
     reply = record {
@@ -102,7 +102,8 @@ module _ (Told : List ℕ → Answer → Type 0) (form : LineForm) (input : Inpu
 
   module _ (decided : (line : List ℕ) → (said : Answer) × Told line said) where
     -- the input ends there
-    goes_at_end : (at : At) (text : List ℕ) → Lines Told form input at text → rest at.place ≡ [] → input.fault ≡ false
+    goes_at_end : (at : LinePosition) (text : List ℕ) → Lines Told form input at text → rest at.place ≡ []
+        → input.fault ≡ false
         → Goes at.place text
     goes_at_end at text lines empty fine =
         let last = printed_last form.printed at in
@@ -111,7 +112,7 @@ module _ (Told : List ℕ → Answer → Type 0) (form : LineForm) (input : Inpu
         (ends_quietly form input at (is_over form at) refl (empty, fine)))
 
     -- after the last line it does
-    goes_behind_last : (at : At) (text : List ℕ) → Lines Told form input at text → is_over form at ≡ false
+    goes_behind_last : (at : LinePosition) (text : List ℕ) → Lines Told form input at text → is_over form at ≡ false
         → HasNoEnd form.end (rest at.place) → 0 < length (rest at.place) → length (rest at.place) ≤ form.limit
         → input.fault ≡ false → Goes at.place text
     goes_behind_last at text lines goes free some le fine =
@@ -125,7 +126,7 @@ module _ (Told : List ℕ → Answer → Type 0) (form : LineForm) (input : Inpu
         (record { goes = goes; stands = without_end (free, some, le, fine) }) d.1)
         (drop_all (at.place + n) input.bytes (omega (arith, l))) fine)
 
-    goes_ended : (at : At) (text : List ℕ) → Lines Told form input at text → is_over form at ≡ false
+    goes_ended : (at : LinePosition) (text : List ℕ) → Lines Told form input at text → is_over form at ≡ false
         → HasNoEnd form.end (rest at.place) → length (rest at.place) ≤ form.limit → (fault : Bool)
         → input.fault ≡ fault →
         (bytes : List ℕ) → rest at.place ≡ bytes → Goes at.place text
@@ -135,7 +136,8 @@ module _ (Told : List ℕ → Answer → Type 0) (form : LineForm) (input : Inpu
     goes_ended at text lines goes free le false is (b ∷ bytes) same =
         goes_behind_last at text lines goes free (let l = ap length same in omega (arith, l)) le is
 
-    lines_go : (fuel : ℕ) (b : Bool) (at : At) (text : List ℕ) → Lines Told form input at text → is_over form at ≡ b
+    lines_go : (fuel : ℕ) (b : Bool) (at : LinePosition) (text : List ℕ) → Lines Told form input at text
+        → is_over form at ≡ b
         → length (rest at.place) < fuel → Goes at.place text
     lines_go zero b at text lines is room = absurd (omega (arith, room))
     lines_go (suc fuel) true at text lines over room =
@@ -181,12 +183,13 @@ module _ (Told : List ℕ → Answer → Type 0) (form : LineForm) (input : Inpu
       ]
     ]
 
-    pub lines_go_on : (at : At) (text : List ℕ) → Lines Told form input at text → Goes at.place text
+    pub lines_go_on : (at : LinePosition) (text : List ℕ) → Lines Told form input at text → Goes at.place text
     lines_go_on at text lines =
         lines_go (suc (length (rest at.place))) (is_over form at) at text lines refl (omega arith)
 
     -- after more lines no fewer bytes are taken
-    pub goes_further : (s : ℕ) (at : At) (text : List ℕ) → s ≤ at.place → Lines Told form input at text → Goes s text
+    pub goes_further : (s : ℕ) (at : LinePosition) (text : List ℕ) → s ≤ at.place → Lines Told form input at text
+        → Goes s text
     goes_further s at text le lines =
         let goes = lines_go_on at text lines in record {
           reply = goes.reply;

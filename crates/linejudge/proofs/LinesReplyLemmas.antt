@@ -22,7 +22,7 @@ use Rattle.linejudge.specs.InputLines.{GoesBy, finished, is_over, kept_line, rej
 use Rattle.linejudge.specs.LineRefusals.{LinesReply, Refusals, count_untold, is_told, none_told, one_told, stop_lines}
 use Rattle.linejudge.specs.declared.answers.Answer.{Answer}
 use Rattle.linejudge.specs.declared.line.LineForm.{LineForm}
-use Rattle.linejudge.specs.declared.reached.At.{At}
+use Rattle.linejudge.specs.declared.reached.LinePosition.{LinePosition}
 
 -- what stands before the first end is one
 one_front : (end : ℕ) (a b x y : List ℕ) → HasNoEnd end a → HasNoEnd end b → a ++ end ∷ x ≡ b ++ end ∷ y → a ≡ b
@@ -79,7 +79,7 @@ module _ (form : LineForm) (input : Input) where
   one_stands s a b n m (without_end last) (without_end other) = record { lines = refl; sizes = refl }
 
   -- no run ends where it goes on by a line
-  no_end : (at : At) (line last : List ℕ) (n : ℕ) (why : Stop) → is_over form at ≡ false
+  no_end : (at : LinePosition) (line last : List ℕ) (n : ℕ) (why : Stop) → is_over form at ≡ false
       → StandsAt form input at.place line n → LinesEnd form input at last why → ⊥
   no_end at line last n why on (with_end it is) (rejected over) = absurd (cc)
   no_end at line last n why on (with_end it is) (broken goes (free, short, fault)) =
@@ -103,7 +103,7 @@ module _ (form : LineForm) (input : Input) where
     lasts : last ≡ other
     stops : why ≡ end
 
-  one_end : (at : At) (last other : List ℕ) (why end : Stop) → LinesEnd form input at last why
+  one_end : (at : LinePosition) (last other : List ℕ) (why end : Stop) → LinesEnd form input at last why
       → LinesEnd form input at other end → OneEnd last other why end
   one_end at last other why end (broken g (free, short, fault)) (broken h (free', short', fault')) =
       record { lasts = refl; stops = refl }
@@ -131,16 +131,17 @@ module _ (form : LineForm) (input : Input) where
 
 module _ (Told : List ℕ → Answer → Type 0) (one_answer : (line : List ℕ) (a b : Answer) → Told line a → Told line b
     → a ≡ b) (form : LineForm) (input : Input) where
-  abbrev LinesTo : At → List ℕ → Type 0
+  abbrev LinesTo : LinePosition → List ℕ → Type 0
   LinesTo at text = Lines Told form input at text
 
   -- two places, and the answers up to them, are the same
-  record Same (at other : At) (text more : List ℕ) : Type 0 where
+  record Same (at other : LinePosition) (text more : List ℕ) : Type 0 where
     places : at ≡ other
     texts : text ≡ more
 
   -- both go on by a line
-  same_next : (at other : At) (text more line next : List ℕ) (n m : ℕ) (said told : Answer) → Same at other text more
+  same_next : (at other : LinePosition) (text more line next : List ℕ) (n m : ℕ) (said told : Answer)
+      → Same at other text more
       → StandsAt form input at.place line n → StandsAt form input other.place next m → Told line said → Told next told
       → Same (behind at n said) (behind other m told) (text ++ printed_line form (at.count + 1) line said)
       (more ++ printed_line form (other.count + 1) next told)
@@ -148,18 +149,19 @@ module _ (Told : List ℕ → Answer → Type 0) (one_answer : (line : List ℕ)
       let place = same.places in
       let words = same.texts in
       let one = one_stands form input at.place line next n m h
-      (subst (λ (v : At). StandsAt form input v.place next m) (sym place) k) in
+      (subst (λ (v : LinePosition). StandsAt form input v.place next m) (sym place) k) in
       let lines = one.lines in
       let sizes = one.sizes in
       let answers : said ≡ told = one_answer line said told s (subst (λ (l : List ℕ). Told l told) (sym lines) t) in
-      let numbers : at.count + 1 ≡ other.count + 1 = ap (λ (v : At). v.count + 1) place in
+      let numbers : at.count + 1 ≡ other.count + 1 = ap (λ (v : LinePosition). v.count + 1) place in
       let shown : printed_line form (at.count + 1) line said ≡ printed_line form (other.count + 1) next told =
       ap (λ k. printed_line form k line said) numbers ∙ ap (λ l. printed_line form (other.count + 1) l said) lines
       ∙ ap (printed_line form (other.count + 1) next) answers in
       record { places = cc; texts = cc }
 
   -- as many lines lead to one place
-  same_place : (at : At) (text : List ℕ) → LinesTo at text → (other : At) (more : List ℕ) → LinesTo other more
+  same_place : (at : LinePosition) (text : List ℕ) → LinesTo at text → (other : LinePosition) (more : List ℕ)
+      → LinesTo other more
       → at.count ≡ other.count → Same at other text more
   same_place at text none other more none e = record { places = refl; texts = refl }
   same_place at text none other more (one_more before front line n said u is says) e = absurd (omega (arith, e))
@@ -171,7 +173,7 @@ module _ (Told : List ℕ → Answer → Type 0) (one_answer : (line : List ℕ)
 
   -- after so many lines there is a further one
   record GoesOn (count : ℕ) : Type 0 where
-    at : At
+    at : LinePosition
     text : List ℕ
     lines : LinesTo at text
     here : at.count ≡ count
@@ -179,7 +181,7 @@ module _ (Told : List ℕ → Answer → Type 0) (one_answer : (line : List ℕ)
     size : ℕ
     is : GoesBy form input at line size
 
-  goes_on : (count : ℕ) (at : At) (text : List ℕ) → LinesTo at text → count < at.count → GoesOn count
+  goes_on : (count : ℕ) (at : LinePosition) (text : List ℕ) → LinesTo at text → count < at.count → GoesOn count
   goes_on count at text none lt = absurd (omega (arith, lt))
   goes_on count at text (one_more before front line n said u is says) lt = elim (cases_lt count before.count) [
     | inl less ↦ goes_on count before front u less
@@ -195,13 +197,13 @@ module _ (Told : List ℕ → Answer → Type 0) (one_answer : (line : List ℕ)
   ]
 
   -- no run ends after fewer lines than another run answers
-  no_earlier_end : (at other : At) (text more last : List ℕ) (why : Stop) → LinesTo at text
+  no_earlier_end : (at other : LinePosition) (text more last : List ℕ) (why : Stop) → LinesTo at text
       → LinesEnd form input at last why → LinesTo other more → at.count < other.count → ⊥
   no_earlier_end at other text more last why lines ends further lt =
       let g = goes_on at.count other more further lt in
       let same = same_place at text lines g.at g.text g.lines (sym g.here) in
       let by : GoesBy form input at g.line g.size =
-      subst (λ (v : At). GoesBy form input v g.line g.size) (sym same.places) g.is in
+      subst (λ (v : LinePosition). GoesBy form input v g.line g.size) (sym same.places) g.is in
       no_end form input at g.line last g.size why by.goes by.stands ends
 
   abbrev HasReply : Reply → Type 0
@@ -217,7 +219,7 @@ module _ (Told : List ℕ → Answer → Type 0) (one_answer : (line : List ℕ)
   ends_there a b r q same = record {
     same = same;
     ends = one_end form input r.point r.last q.last r.stop q.stop r.ends
-        (subst (λ (v : At). LinesEnd form input v q.last q.stop) (sym same.places) q.ends);
+        (subst (λ (v : LinePosition). LinesEnd form input v q.last q.stop) (sym same.places) q.ends);
   }
 
   -- one reply, but for what is explained
@@ -240,7 +242,8 @@ module _ (Told : List ℕ → Answer → Type 0) (one_answer : (line : List ℕ)
       ∙ sym q.out in
       let err : a.err ≡ b.err = r.err ∙ ap (λ w. message_of w) why ∙ sym q.err in
       let status : a.status ≡ b.status = r.status ∙ ap (λ w. code_of (status_of w)) why ∙ sym q.status in
-      let taken : a.taken ≡ b.taken = r.taken ∙ ap (λ (v : At). place_taken form.limit input v) place ∙ sym q.taken in
+      let taken : a.taken ≡ b.taken = r.taken ∙ ap (λ (v : LinePosition). place_taken form.limit input v) place
+      ∙ sym q.taken in
       let is : record { out = a.out; err = a.err; status = a.status; taken = a.taken }
       ≡ record { out = b.out; err = b.err; status = b.status; taken = b.taken } = cc in
       is
@@ -250,11 +253,12 @@ module _ (Told : List ℕ → Answer → Type 0) (one_answer : (line : List ℕ)
 
   module _ (asked : Bool) (Refusal : List ℕ → ℕ → List ℕ → Type 0) (one_refusal : (line : List ℕ) (number : ℕ)
       (a b : List ℕ) → Refusal line number a → Refusal line number b → a ≡ b) where
-    abbrev ToldTo : At → List ℕ → Type 0
+    abbrev ToldTo : LinePosition → List ℕ → Type 0
     ToldTo at text = Refusals Told asked Refusal form input at text
 
     -- both go on by a line, which one text explains
-    tells_next : (at other : At) (text more line next : List ℕ) (n m : ℕ) (said told : Answer) (why lines : List ℕ)
+    tells_next : (at other : LinePosition) (text more line next : List ℕ) (n m : ℕ) (said told : Answer)
+        (why lines : List ℕ)
         → Same at other text more → StandsAt form input at.place line n → StandsAt form input other.place next m
         → Told line said → Told next told
         → ExplainedIf (is_told asked at.refused said) (Refusal line (at.count + 1)) why
@@ -263,14 +267,14 @@ module _ (Told : List ℕ → Answer → Type 0) (one_answer : (line : List ℕ)
     tells_next at other text more line next n m said told why lines same h k s t w v =
         let step = same_next at other text more line next n m said told same h k s t in
         let one = one_stands form input at.place line next n m h
-        (subst (λ (u : At). StandsAt form input u.place next m) (sym same.places) k) in
+        (subst (λ (u : LinePosition). StandsAt form input u.place next m) (sym same.places) k) in
         let answers : said ≡ told = one_answer line said told s
         (subst (λ (l : List ℕ). Told l told) (sym one.lines) t) in
         let other_told = subst (λ (a : Answer). ExplainedIf (is_told asked at.refused a)
         (Refusal line (at.count + 1)) lines) (sym answers)
         (subst (λ (l : List ℕ). ExplainedIf (is_told asked at.refused told) (Refusal l (at.count + 1)) lines)
         (sym one.lines)
-        (subst (λ (u : At). ExplainedIf (is_told asked u.refused told) (Refusal next (u.count + 1)) lines)
+        (subst (λ (u : LinePosition). ExplainedIf (is_told asked u.refused told) (Refusal next (u.count + 1)) lines)
         (sym same.places) v)) in
         let texts : why ≡ lines = if-explained (is_told asked at.refused said) (Refusal line (at.count + 1))
         (one_refusal line (at.count + 1)) why lines w other_told in
@@ -278,7 +282,8 @@ module _ (Told : List ℕ → Answer → Type 0) (one_answer : (line : List ℕ)
         record { places = step.places; texts = cc }
 
     -- one text explains the lines to a position
-    same_told : (at : At) (text : List ℕ) → ToldTo at text → (other : At) (more : List ℕ) → ToldTo other more
+    same_told : (at : LinePosition) (text : List ℕ) → ToldTo at text → (other : LinePosition) (more : List ℕ)
+        → ToldTo other more
         → at.count ≡ other.count → Same at other text more
     same_told at text none_told other more none_told e = record { places = refl; texts = refl }
     same_told at text none_told other more (one_told before front line n said why u is says tells) e =
@@ -299,11 +304,12 @@ module _ (Told : List ℕ → Answer → Type 0) (one_answer : (line : List ℕ)
         let place = one.same.places in
         let stops = one.ends.stops in
         let told = same_told r.replies.point r.tells.first r.tells.refusals q.replies.point q.tells.first
-        q.tells.refusals (ap (λ (v : At). v.count) place) in
+        q.tells.refusals (ap (λ (v : LinePosition). v.count) place) in
         let first = told.texts in
         let before : r.before ≡ q.before = r.tells.is
         ∙ ap (λ t. t ++ more_refused (count_untold asked r.replies.point.refused)) first
-        ∙ ap (λ (v : At). q.tells.first ++ more_refused (count_untold asked v.refused)) place ∙ sym q.tells.is in
+        ∙ ap (λ (v : LinePosition). q.tells.first ++ more_refused (count_untold asked v.refused)) place
+        ∙ sym q.tells.is in
         let why : r.why ≡ q.why = if-explained asked (λ t. t ≡ stop_lines r.replies.stop) (λ x y h k. h ∙ sym k)
         r.why q.why r.explains
         (subst (λ (s : Stop). ExplainedIf asked (λ t. t ≡ stop_lines s) q.why) (sym stops) q.explains) in

@@ -16,7 +16,7 @@ use Rattle.linejudge.specs.declared.line.LineForm.{LineForm}
 use Rattle.linejudge.specs.declared.line.Line.TheVariants.{Whole, Last, Overlong, End, Broken}
 use Rattle.linejudge.specs.declared.printed.Printed.{Printed}
 use Rattle.linejudge.specs.declared.printed.Printed.TheVariants as printed
-use Rattle.linejudge.specs.declared.reached.At.{At}
+use Rattle.linejudge.specs.declared.reached.LinePosition.{LinePosition}
 
 -- none of these bytes is the one that ends a line
 abbrev pub HasNoEnd : ℕ → List ℕ → Type 0
@@ -83,11 +83,11 @@ abbrev pub status_after : ℕ → Status
 status_after refused = if refused == 0 then Done else NoMatch
 
 -- before the first line
-abbrev pub at_front : At
+abbrev pub at_front : LinePosition
 at_front = record { place = 0; count = 0; refused = 0 }
 
 -- after a line that takes n bytes
-abbrev pub behind : At → ℕ → Answer → At
+abbrev pub behind : LinePosition → ℕ → Answer → LinePosition
 behind at n said = record {
   place = at.place + n;
   count = at.count + 1;
@@ -95,15 +95,15 @@ behind at n said = record {
 }
 
 -- whether a run is over there: it stops after a rejected line
-abbrev pub is_over : LineForm → At → Bool
+abbrev pub is_over : LineForm → LinePosition → Bool
 is_over form at = nat_lt 0 at.refused && form.stops
 
 -- how many lines were derived, and how many rejected
-abbrev pub count_text : At → List ℕ
+abbrev pub count_text : LinePosition → List ℕ
 count_text at = decimal (at.count - at.refused) ++ codes " derived, " ++ decimal at.refused ++ codes " refused\n"
 
 -- what is printed at the end of the input
-abbrev pub printed_last : Printed → At → List ℕ
+abbrev pub printed_last : Printed → LinePosition → List ℕ
 printed_last printed.Answers at = []
 printed_last printed.Derived at = []
 printed_last printed.Refused at = []
@@ -114,7 +114,7 @@ printed_last printed.Nothing at = []
 abbrev pub taken_at : ℕ → Input → ℕ → ℕ
 taken_at limit input s = min (length input.bytes) (s + limit + 1)
 
-abbrev pub place_taken : ℕ → Input → At → ℕ
+abbrev pub place_taken : ℕ → Input → LinePosition → ℕ
 place_taken limit input at = taken_at limit input at.place
 
 module _ (form : LineForm) (input : Input) where
@@ -183,21 +183,21 @@ line_without held.End len = if len == 0 then End else Last len
 line_without held.Fault len = Broken
 
 -- the run goes on at a position, and this is judged of the line there, which takes so many bytes
-pub record GoesBy (form : LineForm) (input : Input) (at : At) (line : List ℕ) (n : ℕ) : Type 0 where
+pub record GoesBy (form : LineForm) (input : Input) (at : LinePosition) (line : List ℕ) (n : ℕ) : Type 0 where
   pub goes : is_over form at ≡ false
   pub stands : StandsAt form input at.place line n
 
 -- Told says which answer is that of a line.
 module _ (Told : List ℕ → Answer → Type 0) (form : LineForm) (input : Input) where
   -- the lines up to a place, and what is printed for them
-  pub data Lines : At → List ℕ → Type 0 where
+  pub data Lines : LinePosition → List ℕ → Type 0 where
     none : Lines at_front []
-    one_more : (at : At) (before line : List ℕ) (n : ℕ) (said : Answer) → Lines at before
+    one_more : (at : LinePosition) (before line : List ℕ) (n : ℕ) (said : Answer) → Lines at before
         → GoesBy form input at line n → Told line said
         → Lines (behind at n said) (before ++ printed_line form (at.count + 1) line said)
 
 -- how a run ends there, and what is printed then
-pub data LinesEnd (form : LineForm) (input : Input) (at : At) : List ℕ → Stop → Type 0 where
+pub data LinesEnd (form : LineForm) (input : Input) (at : LinePosition) : List ℕ → Stop → Type 0 where
   broken : is_over form at ≡ false → IsBrokenAt form input at.place → LinesEnd form input at [] stop.Broken
   overlong : is_over form at ≡ false → IsOverlongAt form input at.place
       → LinesEnd form input at [] (stop.LongLine (at.count + 1) form.limit)

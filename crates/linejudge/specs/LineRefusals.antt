@@ -12,7 +12,7 @@ use Rattle.toolrun.specs.declared.stop.Stop.TheVariants.{Unreadable}
 use Rattle.linejudge.specs.InputLines.{GoesBy, LinesEnd, Lines, at_front, behind, place_taken, says_yes}
 use Rattle.linejudge.specs.declared.answers.Answer.{Answer}
 use Rattle.linejudge.specs.declared.line.LineForm.{LineForm}
-use Rattle.linejudge.specs.declared.reached.At.{At}
+use Rattle.linejudge.specs.declared.reached.LinePosition.{LinePosition}
 
 -- Whether a line with that answer, after so many rejected ones, is explained, where that is asked: the first 16
 -- rejected lines are.
@@ -51,7 +51,7 @@ pub record SameButWhy (asked : Bool) (a b : Reply) : Type 0 where
 
 -- a position in a run, and whether an allocation failed in an explanation before it
 pub record RunPoint : Type 0 where
-  pub at : At
+  pub at : LinePosition
   pub lacks : Bool
 
 -- the lines up to a point, and what is printed for them, where Told says which answer is that of a line
@@ -79,28 +79,28 @@ NeverLacks input point stop = ⊥
 -- line has that number.
 module _ (Told : List ℕ → Answer → Type 0) (asked : Bool) (Refusal : List ℕ → ℕ → List ℕ → Type 0) where
   -- the explanation of a line with that answer at a position
-  abbrev pub TellsLine : At → List ℕ → Answer → List ℕ → Type 0
+  abbrev pub TellsLine : LinePosition → List ℕ → Answer → List ℕ → Type 0
   TellsLine at line said text = ExplainedIf (is_told asked at.refused said) (Refusal line (at.count + 1)) text
 
   module _ (form : LineForm) (input : Input) where
     -- the explanations of the lines up to a position
-    pub data Refusals : At → List ℕ → Type 0 where
+    pub data Refusals : LinePosition → List ℕ → Type 0 where
       none_told : Refusals at_front []
-      one_told : (at : At) (before line : List ℕ) (n : ℕ) (said : Answer) (text : List ℕ) → Refusals at before
+      one_told : (at : LinePosition) (before line : List ℕ) (n : ℕ) (said : Answer) (text : List ℕ) → Refusals at before
           → GoesBy form input at line n → Told line said → TellsLine at line said text
           → Refusals (behind at n said) (before ++ text)
 
     -- the explanations of the lines before one that would be explained, a line in place of its explanation, and nothing
     -- of the lines after it
-    pub data CutRefusals : At → List ℕ → Type 0 where
-      one_lacks : (at : At) (before line : List ℕ) (n : ℕ) (said : Answer) → Refusals at before
+    pub data CutRefusals : LinePosition → List ℕ → Type 0 where
+      one_lacks : (at : LinePosition) (before line : List ℕ) (n : ℕ) (said : Answer) → Refusals at before
           → GoesBy form input at line n → Told line said → is_told asked at.refused said ≡ true
           → CutRefusals (behind at n said) (before ++ unexplained_line (at.count + 1))
-      none_after : (at : At) (told line : List ℕ) (n : ℕ) (said : Answer) → CutRefusals at told
+      none_after : (at : LinePosition) (told line : List ℕ) (n : ℕ) (said : Answer) → CutRefusals at told
           → GoesBy form input at line n → Told line said → CutRefusals (behind at n said) told
 
     -- the explanations of the lines up to a position: all of them, or those before one that is missing
-    abbrev pub ToldUpTo : Bool → At → List ℕ → Type 0
+    abbrev pub ToldUpTo : Bool → LinePosition → List ℕ → Type 0
     ToldUpTo false at told = Refusals at told
     ToldUpTo true at told = CutRefusals at told
 
@@ -111,13 +111,13 @@ module _ (Told : List ℕ → Answer → Type 0) (asked : Bool) (Refusal : List 
       pub is : told ≡ first ++ more_refused (count_untold (asked && not point.lacks) point.at.refused)
 
     -- the explanations where none is missing
-    pub record Tells (at : At) (told : List ℕ) : Type 0 where
+    pub record Tells (at : LinePosition) (told : List ℕ) : Type 0 where
       pub first : List ℕ
       pub refusals : Refusals at first
       pub is : told ≡ first ++ more_refused (count_untold asked at.refused)
 
     -- what explains a stop there, where that is asked
-    abbrev pub WhyStopped : At → Stop → List ℕ → Type 0
+    abbrev pub WhyStopped : LinePosition → Stop → List ℕ → Type 0
     WhyStopped at stop why = ExplainedIf asked (λ text. text ≡ stop_lines stop) why
 
     -- the lines of the input in turn, the explanations of those that are rejected, and how the run ends; no allocation

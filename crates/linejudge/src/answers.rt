@@ -9,7 +9,7 @@ ghost use Rattle.linejudge.specs.declared.answers.Answer.{Answer};
 
 use crate::line::LineForm;
 use crate::printed::push_line;
-use crate::reached::{At, Explanations, MAX_TOLD, Reached};
+use crate::reached::{Explanations, LinePosition, MAX_TOLD, Reached};
 use feed::{Feed, Source};
 use ruletable::Memory;
 
@@ -112,7 +112,7 @@ fn tell_line<W, J: Judge<W>>(
     work: &mut W,
     line: &[u8],
     said: Answer,
-    at: At,
+    at: LinePosition,
     told: &mut Explanations,
 )
     requires served { length line.now ≤ J.served judge.now }
@@ -138,7 +138,7 @@ struct FoundLine<'a> {
     /// The bytes that are judged: without its end, or with it.
     bytes: &'a [u8],
     /// The position before it.
-    at: At,
+    at: LinePosition,
     /// The form of the input's lines.
     form: LineForm,
 }

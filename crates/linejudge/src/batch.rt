@@ -8,7 +8,7 @@ ghost use Rattle.linejudge.specs.LineSteps.{AddsLines};
 use crate::answers::Judge;
 use crate::line::LineForm;
 use crate::printed::{has_plain_answers, push_if_plain};
-use crate::reached::{At, BATCH};
+use crate::reached::{BATCH, LinePosition};
 use memchr::memchr;
 
 /// No line of an answer is longer: a number of 20 digits, a colon, `no`, a blank, a number and LF.
@@ -16,7 +16,7 @@ const MAX_ANSWER: usize = 45;
 
 /// Returns whether a run goes on at a position; with `is_plain` it does.
 #[inline(always)]
-fn goes_on(is_plain: bool, form: LineForm, at: At) -> bool
+fn goes_on(is_plain: bool, form: LineForm, at: LinePosition) -> bool
     requires { IsTrue is_plain → form.stops ≡ false }
     ensures { IsTrue result → is_over form at ≡ false }
 {
@@ -32,9 +32,9 @@ pub(crate) fn judge_front<W, J: Judge<W>>(
     work: &mut W,
     form: LineForm,
     front: &[u8],
-    at: At,
+    at: LinePosition,
     text: &mut Vec<u8>,
-) -> At
+) -> LinePosition
     requires served { kept_size form form.limit ≤ J.served judge.now }
     requires work { J.works_in judge.now work.old }
     requires within { at.place + length front.now ≤ input_limit }

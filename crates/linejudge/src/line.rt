@@ -7,7 +7,7 @@ ghost use Rattle.linejudge.specs.InputLines.{HasNoEnd, IsNext, IsShort, LiesWith
 ghost use Rattle.linejudge.specs.InputLines.{ReadsForLine, line_without, taken_at};
 
 use crate::printed::Printed;
-use crate::reached::At;
+use crate::reached::LinePosition;
 use feed::{Feed, Held, Source};
 
 /// How an input is cut into lines, and what is printed for them.
@@ -43,7 +43,7 @@ impl LineForm {
 
     /// Returns whether a run ends at a position, after a rejected line.
     #[inline(always)]
-    pub(crate) fn is_over(self, at: At) -> bool
+    pub(crate) fn is_over(self, at: LinePosition) -> bool
         ensures { result ≡ is_over self at }
     {
         0 < at.refused && self.stops

@@ -20,7 +20,7 @@ use crate::answers::{Answer, Judge, answer_held};
 use crate::batch::judge_front;
 use crate::line::{Line, LineForm, next_line};
 use crate::printed::write_end;
-use crate::reached::{At, Explanations, MAX_TOLD, Reached};
+use crate::reached::{Explanations, LinePosition, MAX_TOLD, Reached};
 use feed::{Feed, Source};
 use ruletable::{Memory, Sink, WriteFault, write_whole};
 use std::alloc::Global;
@@ -28,7 +28,7 @@ use toolrun::{Ending, Stop, ToldRefusals};
 
 /// The next step of a run: the answer to a line that takes so many bytes, or a stop.
 #[derive(Clone, Copy)]
-pub enum Step {
+pub enum LineStep {
     Answers { said: Answer, len: usize },
     Stops(Stop),
 }
@@ -40,29 +40,29 @@ fn step_of<O: Sink>(
     text: &[u8],
     len: usize,
     out: &mut O,
-) -> Result<Step, WriteFault>
+) -> Result<LineStep, WriteFault>
     requires { O.failed out.old ≡ false }
     ensures step { StepsBehind len (O.contents out.old) (O.contents out.new) text.now answered result }
     ensures flag { Flags (O.failed out.old) (O.failed out.new) result }
 {
     let Ok(said) = answered else {
-        return Ok(Step::Stops(Stop::NoMemory));
+        return Ok(LineStep::Stops(Stop::NoMemory));
     };
     match write_whole(out, text) {
-        Ok(()) => Ok(Step::Answers { said, len }),
+        Ok(()) => Ok(LineStep::Answers { said, len }),
         Err(fault) => Err(fault),
     }
 }
 
 /// Writes what is printed at the end of a run, and returns how it ends there.
-fn end_step<O: Sink>(form: LineForm, at: At, out: &mut O) -> Result<Step, WriteFault>
+fn end_step<O: Sink>(form: LineForm, at: LinePosition, out: &mut O) -> Result<LineStep, WriteFault>
     requires { O.failed out.old ≡ false }
     ensures bytes { Writes (O.contents out.old) (O.contents out.new) (printed_last form.printed at) result }
-    ensures step { IfOk result (λ step. step ≡ Step.Stops (Stop.Quiet (status_after at.refused))) }
+    ensures step { IfOk result (λ step. step ≡ LineStep.Stops (Stop.Quiet (status_after at.refused))) }
     ensures flag { Flags (O.failed out.old) (O.failed out.new) result }
 {
     match write_end(form.printed, at, out) {
-        Ok(()) => Ok(Step::Stops(Stop::Quiet(at.status()))),
+        Ok(()) => Ok(LineStep::Stops(Stop::Quiet(at.status()))),
         Err(fault) => Err(fault),
     }
 }
@@ -75,7 +75,7 @@ fn next_step<W, J: Judge<W>, R: Source, O: Sink>(
     feed: &mut Feed<'_, R>,
     reached: &mut Reached,
     out: &mut O,
-) -> Result<Step, WriteFault>
+) -> Result<LineStep, WriteFault>
     requires small { form.limit ≤ 16777216 }
     requires served { kept_size form form.limit ≤ J.served judge.now }
     requires work { J.works_in judge.now work.old }
@@ -116,10 +116,10 @@ fn next_step<W, J: Judge<W>, R: Source, O: Sink>(
         Line::Overlong => {
             let line = reached.at.count + 1;
             let limit = form.limit;
-            Ok(Step::Stops(Stop::LongLine { line, limit }))
+            Ok(LineStep::Stops(Stop::LongLine { line, limit }))
         }
         Line::End => end_step(form, reached.at, out),
-        Line::Broken => Ok(Step::Stops(Stop::Broken)),
+        Line::Broken => Ok(LineStep::Stops(Stop::Broken)),
     }
 }
 
@@ -217,11 +217,11 @@ fn answer_lines<W, J: Judge<W>, R: Source, O: Sink>(
             continue;
         }
         match next_step(judge, work, form, feed, &mut reached, out) {
-            Ok(Step::Answers { said, len }) => {
+            Ok(LineStep::Answers { said, len }) => {
                 feed.skip(len);
                 reached.at = reached.at.behind(len, said);
             }
-            Ok(Step::Stops(stop)) => {
+            Ok(LineStep::Stops(stop)) => {
                 // a run that stops has taken as much as the greatest line takes there
                 feed.fill();
                 return Ok(ending_at(judge.is_explained(), reached, stop));

@@ -7,7 +7,7 @@ ghost use Rattle.linejudge.specs.declared.answers.Answer.{Answer};
 
 use crate::answers::{Answer, is_yes};
 use crate::line::LineForm;
-use crate::reached::At;
+use crate::reached::LinePosition;
 use itoa::Buffer;
 use ruletable::{Memory, Sink, WriteFault, write_pieces};
 
@@ -149,7 +149,7 @@ pub(crate) fn push_line(
 }
 
 /// Writes how many lines before a position were derived, and how many rejected.
-fn write_count<O: Sink>(at: At, out: &mut O) -> Result<(), WriteFault>
+fn write_count<O: Sink>(at: LinePosition, out: &mut O) -> Result<(), WriteFault>
     requires { O.failed out.old ≡ false }
     ensures bytes { Writes (O.contents out.old) (O.contents out.new) (count_text at) result }
     ensures flag { Flags (O.failed out.old) (O.failed out.new) result }
@@ -168,7 +168,11 @@ fn write_count<O: Sink>(at: At, out: &mut O) -> Result<(), WriteFault>
 }
 
 /// Writes what is printed at the end of an input, after the lines before a position.
-pub(crate) fn write_end<O: Sink>(printed: Printed, at: At, out: &mut O) -> Result<(), WriteFault>
+pub(crate) fn write_end<O: Sink>(
+    printed: Printed,
+    at: LinePosition,
+    out: &mut O,
+) -> Result<(), WriteFault>
     requires { O.failed out.old ≡ false }
     ensures bytes { Writes (O.contents out.old) (O.contents out.new) (printed_last printed at) result }
     ensures flag { Flags (O.failed out.old) (O.failed out.new) result }

@@ -18,7 +18,7 @@ pub(crate) const BATCH: usize = 8192;
 
 /// A position between two lines of an input.
 #[derive(Clone, Copy)]
-pub struct At {
+pub struct LinePosition {
     /// How many bytes stand before it.
     pub place: usize,
     /// How many lines stand before it.
@@ -84,7 +84,7 @@ impl Explanations {
 #[derive(Drop)]
 pub struct Reached {
     /// The position after the last line.
-    pub at: At,
+    pub at: LinePosition,
     /// The explanations so far.
     pub told: Explanations,
     /// The copy of a line that lies in two pieces.
@@ -101,7 +101,7 @@ impl Reached {
             (made.told.lacks ≡ false) × (asked ≡ true → HasRoom made.told)) }
     {
         let (batch, room) = if asked { (0, ROOM) } else { (BATCH, 0) };
-        let at = At {
+        let at = LinePosition {
             place: 0,
             count: 0,
             refused: 0,
@@ -131,15 +131,15 @@ fn refused_by(said: Answer) -> usize
     }
 }
 
-impl At {
+impl LinePosition {
     /// Returns the position after a line that takes so many bytes.
-    pub(crate) fn behind(self, len: usize, said: Answer) -> At
+    pub(crate) fn behind(self, len: usize, said: Answer) -> LinePosition
         requires place { self.place + len < 2 ^ 64 }
         requires count { self.count + 1 < 2 ^ 64 }
         requires refused { self.refused + 1 < 2 ^ 64 }
         ensures { result ≡ the_place self len said }
     {
-        At {
+        LinePosition {
             place: self.place + len,
             count: self.count + 1,
             refused: self.refused + refused_by(said),

@@ -5,7 +5,7 @@ use Rattle.pegread.specs.Pattern.{Rule}
 use Rattle.pegnodes.specs.Nodes.{Shape}
 use Rattle.gramcheck.specs.Sound.{IsRanked}
 use Rattle.memo.specs.Entries.{Entry, found_at, AreDifferent}
-use Rattle.matchfailure.specs.declared.desk.frame.Frame.{Frame}
+use Rattle.matchfailure.specs.declared.desk.frame.FailureFrame.{FailureFrame}
 use Rattle.matchfailure.specs.State.{IsStack, no_frame, bottom, above, AreCells, last_position}
 use Rattle.pegmatch.specs.CellOutcomes.{HasCell}
 use Rattle.pegmatch.proofs.AsksLemmas.{visited_there}
@@ -29,16 +29,16 @@ module _ (rules : List Rule) (start : ℕ) (nodes : List Shape) (bodies ranks x 
       → q < Width
   cells_low cells c m q g = let l = cell_there cells c m q g in omega (arith, l.1)
 
-  abbrev Low : List Frame → Type 0
+  abbrev Low : List FailureFrame → Type 0
   Low [] = Unit {0}
   Low (f ∷ fs) = (f.place ≤ last_position x more) × Low fs
 
-  all_low : {cells : List Entry} {fs : List Frame} → IsStack rules start nodes bodies x more cells fs → Low fs
+  all_low : {cells : List Entry} {fs : List FailureFrame} → IsStack rules start nodes bodies x more cells fs → Low fs
   all_low no_frame = tt
   all_low (bottom o at is) = (o.low, tt)
   all_low (above o a s) = (o.low, all_low s)
 
-  not_same : (f g : Frame) → f.place ≤ last_position x more → g.place ≤ last_position x more
+  not_same : (f g : FailureFrame) → f.place ≤ last_position x more → g.place ≤ last_position x more
       → high rules start nodes bodies ranks x more sound f < high rules start nodes bodies ranks x more sound g →
       code Width f.node f.place ≡ code Width g.node g.place → ⊥
   not_same f g low lo less same =
@@ -47,9 +47,9 @@ module _ (rules : List Rule) (start : ℕ) (nodes : List Shape) (bodies ranks x 
       g = rw (pair.0, pair.1) refl in
       absurd (omega arith)
 
-  frame_not_among : (cells : List Entry) → AreCells rules start nodes bodies x more cells → (f : Frame)
+  frame_not_among : (cells : List Entry) → AreCells rules start nodes bodies x more cells → (f : FailureFrame)
       → f.place ≤ last_position x more → found_at cells f.node f.place ≡ None →
-      (fs : List Frame) → Low fs → AreAbove rules start nodes bodies ranks x more sound
+      (fs : List FailureFrame) → Low fs → AreAbove rules start nodes bodies ranks x more sound
       (high rules start nodes bodies ranks x more sound f) fs →
       In (code Width f.node f.place) (all_codes Width cells fs) → ⊥
   frame_not_among cells c f low none [] ls less h = not_among Width cells f.node f.place (cells_low cells c)
@@ -60,7 +60,7 @@ module _ (rules : List Rule) (start : ℕ) (nodes : List Shape) (bodies ranks x 
   ]
 
   all_differ : (cells : List Entry) → AreCells rules start nodes bodies x more cells → AreDifferent cells
-      → {fs : List Frame} → IsStack rules start nodes bodies x more cells fs → Differ (all_codes Width cells fs)
+      → {fs : List FailureFrame} → IsStack rules start nodes bodies x more cells fs → Differ (all_codes Width cells fs)
   all_differ cells c d no_frame = cells_differ Width cells (cells_low cells c) d
   all_differ cells c d (bottom {f = f} o at is) =
       (frame_not_among cells c f o.low o.none [] tt tt, cells_differ Width cells (cells_low cells c) d)
@@ -77,7 +77,7 @@ module _ (rules : List Rule) (start : ℕ) (nodes : List Shape) (bodies ranks x 
       let l = cell_there cells c of.node of.place of.has in
       rw of.is (code_below Width of.node of.place (length nodes) l.0 (omega (arith, l.1)))
 
-  all_below : (cells : List Entry) → AreCells rules start nodes bodies x more cells → {fs : List Frame}
+  all_below : (cells : List Entry) → AreCells rules start nodes bodies x more cells → {fs : List FailureFrame}
       → IsStack rules start nodes bodies x more cells fs → (a : ℕ) → In a (all_codes Width cells fs)
       → a < length nodes * Width
   all_below cells c no_frame a h = cells_below cells c a h
@@ -99,7 +99,7 @@ module _ (rules : List Rule) (start : ℕ) (nodes : List Shape) (bodies ranks x 
       ]
 
   -- cells and frames are no more than nodes at positions up to the last one
-  pub all_at_most : (cells : List Entry) (fs : List Frame) → AreCells rules start nodes bodies x more cells
+  pub all_at_most : (cells : List Entry) (fs : List FailureFrame) → AreCells rules start nodes bodies x more cells
       → AreDifferent cells → IsStack rules start nodes bodies x more cells fs →
       length cells + length fs ≤ length nodes * (last_position x more + 1)
   all_at_most cells fs c d s =

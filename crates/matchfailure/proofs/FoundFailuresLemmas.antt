@@ -8,7 +8,7 @@ use Rattle.matchfailure.specs.Farthest.{IsFarthest, NoneFails}
 use Rattle.matchfailure.specs.ToldUnit.{told_unit_of}
 use Rattle.matchfailure.specs.VisitLists.{AreWithin}
 use Rattle.matchfailure.specs.declared.farthest.failures.Farthest.{Farthest}
-use Rattle.matchfailure.specs.declared.farthest.told.Told.{Told}
+use Rattle.matchfailure.specs.declared.farthest.told.LastUnit.{LastUnit}
 use Rattle.matchfailure.specs.declared.farthest.visit.Visit.{Visit}
 use Rattle.pegnodes.specs.NodeLists.{AreNumbered}
 use Rattle.pegnodes.specs.Nodes.{Shape}
@@ -61,7 +61,7 @@ module _ (rules : List Rule) (start : ℕ) (nodes : List Shape) (bodies front se
 
   pub no-match-told : AreNumbered rules nodes bodies → (last : ℕ) (before latest : Option Farthest)
       → IsFoundBefore rules start nodes bodies seen last before
-      → IsFound rules start nodes bodies (drop last seen) latest → (told t : Told) (b l : Option ℕ) (lines : List ℕ)
+      → IsFound rules start nodes bodies (drop last seen) latest → (told t : LastUnit) (b l : Option ℕ) (lines : List ℕ)
       → t ≡ told_unit_of b l → b ≡ failing_byte (failure_found at.byte before)
       → l ≡ failing_byte (failure_found (at.byte + last) latest) → t ≡ told
       → (listed : List Visit) → AreReportedOf rules start nodes bodies

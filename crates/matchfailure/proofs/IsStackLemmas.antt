@@ -8,7 +8,7 @@ use Rattle.pegnodes.specs.Nodes.{Shape}
 use Rattle.gramcheck.specs.Sound.{IsRanked}
 use Rattle.memo.specs.declared.found.Found.{Found}
 use Rattle.memo.specs.Entries.{Entry, found_at}
-use Rattle.matchfailure.specs.declared.desk.frame.Frame.{Frame}
+use Rattle.matchfailure.specs.declared.desk.frame.FailureFrame.{FailureFrame}
 use Rattle.matchfailure.specs.declared.desk.turn.Turn.TheVariants.{Ask, Answer}
 use Rattle.matchfailure.specs.State.{IsPut, none_taken, none_failed, HasCome, IsUnderWay, IsOpen, IsStack, no_frame}
 use Rattle.matchfailure.specs.State.{bottom, last_position}
@@ -55,38 +55,39 @@ still_come old new kept node.Close p i q h = tt
 
 module _ (rules : List Rule) (start : ℕ) (nodes : List Shape) (bodies ranks x : List ℕ) (more : Bool)
     (sound : IsRanked rules start nodes bodies ranks) where
-  abbrev Stack : List Entry → List Frame → Type 0
+  abbrev Stack : List Entry → List FailureFrame → Type 0
   Stack cells frames = IsStack rules start nodes bodies x more cells frames
 
-  abbrev pub high : Frame → ℕ
+  abbrev pub high : FailureFrame → ℕ
   high f = height rules start nodes bodies ranks x sound f.node f.place
 
-  stack_visits : {cells : List Entry} {f : Frame} {fs : List Frame} → Stack cells (f ∷ fs)
+  stack_visits : {cells : List Entry} {f : FailureFrame} {fs : List FailureFrame} → Stack cells (f ∷ fs)
       → Visits rules nodes bodies x start f.node f.place
   stack_visits (bottom {f = f} o at is) = subst (λ v. Visits rules nodes bodies x start f.node v) (sym is) (first at)
   stack_visits (above o a s) = asked (stack_visits s) a
 
-  pub top_visits : (cells : List Entry) (f : Frame) (fs : List Frame) → Stack cells (f ∷ fs)
+  pub top_visits : (cells : List Entry) (f : FailureFrame) (fs : List FailureFrame) → Stack cells (f ∷ fs)
       → Visits rules nodes bodies x start f.node f.place
   top_visits cells f fs s = stack_visits s
 
   -- each frame's pair is higher
-  abbrev pub AreAbove : ℕ → List Frame → Type 0
+  abbrev pub AreAbove : ℕ → List FailureFrame → Type 0
   AreAbove b [] = Unit {0}
   AreAbove b (f ∷ fs) = (b < high f) × AreAbove b fs
 
-  above_more : (b c : ℕ) (fs : List Frame) → c ≤ b → AreAbove b fs → AreAbove c fs
+  above_more : (b c : ℕ) (fs : List FailureFrame) → c ≤ b → AreAbove b fs → AreAbove c fs
   above_more b c [] le h = tt
   above_more b c (f ∷ fs) le h = (omega (arith, h.0), above_more b c fs le h.1)
 
-  pub are_above : {cells : List Entry} {f : Frame} {fs : List Frame} → Stack cells (f ∷ fs) → AreAbove (high f) fs
+  pub are_above : {cells : List Entry} {f : FailureFrame} {fs : List FailureFrame} → Stack cells (f ∷ fs)
+      → AreAbove (high f) fs
   are_above (bottom o at is) = tt
   are_above (above {h = h} {f = f} {fs = fs} o a s) =
       let v = is_visited rules start nodes bodies ranks x sound (stack_visits s) in
       let less = height_falls rules start nodes bodies ranks x sound f.node f.place h.node h.place v.spelled v.high a in
       (less, above_more (high f) (high h) fs (omega arith) (are_above s))
 
-  no_frame_of : (n p : ℕ) (fs : List Frame) → AreAbove (height rules start nodes bodies ranks x sound n p) fs
+  no_frame_of : (n p : ℕ) (fs : List FailureFrame) → AreAbove (height rules start nodes bodies ranks x sound n p) fs
       → HasNoFrame fs n p
   no_frame_of n p [] less = tt
   no_frame_of n p (f ∷ fs) less = (
@@ -98,14 +99,14 @@ module _ (rules : List Rule) (start : ℕ) (nodes : List Shape) (bodies ranks x 
   )
 
   -- what is known of all frames
-  pub under_way : {cells : List Entry} {fs : List Frame} → Stack cells fs
+  pub under_way : {cells : List Entry} {fs : List FailureFrame} → Stack cells fs
       → AreUnderWay rules start nodes bodies x cells fs
   under_way no_frame = tt
   under_way (bottom o at is) = (stack_visits (bottom o at is), o.none, tt, tt)
   under_way (above {h = h} {f = f} {fs = fs} o a s) =
       (stack_visits (above o a s), o.none, no_frame_of h.node h.place (f ∷ fs) (are_above (above o a s)), under_way s)
 
-  still_open : (old new : List Entry) (n p : ℕ) (h : Found) → IsPut old new n p h → (f : Frame)
+  still_open : (old new : List Entry) (n p : ℕ) (h : Found) → IsPut old new n p h → (f : FailureFrame)
       → height rules start nodes bodies ranks x sound n p < high f →
       IsOpen rules start nodes bodies x more old f → IsOpen rules start nodes bodies x more new f
   still_open old new n p h put f less o = record {
@@ -119,7 +120,7 @@ module _ (rules : List Rule) (start : ℕ) (nodes : List Shape) (bodies ranks x 
     low = o.low;
   }
 
-  still_stack : (old new : List Entry) (n p : ℕ) (h : Found) → IsPut old new n p h → {fs : List Frame}
+  still_stack : (old new : List Entry) (n p : ℕ) (h : Found) → IsPut old new n p h → {fs : List FailureFrame}
       → AreAbove (height rules start nodes bodies ranks x sound n p) fs → Stack old fs → Stack new fs
   still_stack old new n p h put less no_frame = no_frame
   still_stack old new n p h put less (bottom {f = f} o at is) = bottom (still_open old new n p h put f less.0 o) at is
@@ -127,28 +128,28 @@ module _ (rules : List Rule) (start : ℕ) (nodes : List Shape) (bodies ranks x 
       above (still_open old new n p h put g less.0 o) a (still_stack old new n p h put less.1 s)
 
   -- the frames below one
-  stack_below : {cells : List Entry} {f : Frame} {fs : List Frame} → Stack cells (f ∷ fs) → Stack cells fs
+  stack_below : {cells : List Entry} {f : FailureFrame} {fs : List FailureFrame} → Stack cells (f ∷ fs) → Stack cells fs
   stack_below (bottom o at is) = no_frame
   stack_below (above o a s) = s
 
-  top_open : {cells : List Entry} {f : Frame} {fs : List Frame} → Stack cells (f ∷ fs)
+  top_open : {cells : List Entry} {f : FailureFrame} {fs : List FailureFrame} → Stack cells (f ∷ fs)
       → IsOpen rules start nodes bodies x more cells f
   top_open (bottom o at is) = o
   top_open (above o a s) = o
 
-  pub top_is_open : (cells : List Entry) (f : Frame) (fs : List Frame) → Stack cells (f ∷ fs)
+  pub top_is_open : (cells : List Entry) (f : FailureFrame) (fs : List FailureFrame) → Stack cells (f ∷ fs)
       → IsOpen rules start nodes bodies x more cells f
   top_is_open cells f fs s = top_open s
 
   -- the last frame has come further
-  pub come_on : {cells : List Entry} {f : Frame} {fs : List Frame} → Stack cells (f ∷ fs) → (i q : ℕ)
+  pub come_on : {cells : List Entry} {f : FailureFrame} {fs : List FailureFrame} → Stack cells (f ∷ fs) → (i q : ℕ)
       → IsUnderWay rules start nodes bodies x more cells f.node f.place i q →
       Stack cells (record { node = f.node; place = f.place; next = i; end = q } ∷ fs)
   come_on (bottom o at is) i q w = bottom (record { none = o.none; come = w; low = o.low }) at is
   come_on (above o a s) i q w = above (record { none = o.none; come = w; low = o.low }) a s
 
   -- a frame is pushed
-  pub stack_push : (cells : List Entry) (f : Frame) (fs : List Frame) (m q i r : ℕ) → Stack cells (f ∷ fs)
+  pub stack_push : (cells : List Entry) (f : FailureFrame) (fs : List FailureFrame) (m q i r : ℕ) → Stack cells (f ∷ fs)
       → IsTurn rules start nodes bodies x more cells f.node f.place (Ask m q i r) →
       Stack cells (record { node = m; place = q; next = 0; end = q }
       ∷ (record { node = f.node; place = f.place; next = i; end = r } ∷ fs))
@@ -156,7 +157,7 @@ module _ (rules : List Rule) (start : ℕ) (nodes : List Shape) (bodies ranks x 
       above (record { none = t.1; come = λ shape at. begun_has_come cells shape q; low = t.3 }) t.0 (come_on s i r t.2)
 
   -- the last frame is dropped, and has its cell
-  pub stack_pop : (old new : List Entry) (f : Frame) (fs : List Frame) (h : Found) → Stack old (f ∷ fs)
+  pub stack_pop : (old new : List Entry) (f : FailureFrame) (fs : List FailureFrame) (h : Found) → Stack old (f ∷ fs)
       → IsPut old new f.node f.place h → Stack new fs
   stack_pop old new f fs h s put = still_stack old new f.node f.place h put (are_above s) (stack_below s)
 
@@ -193,11 +194,12 @@ module _ (rules : List Rule) (start : ℕ) (nodes : List Shape) (bodies ranks x 
   }
 
   -- the first frame, once it is alone
-  pub alone_is_start : (cells : List Entry) (f : Frame) → Stack cells (f ∷ []) → (slice_get bodies start ≡ Some f.node)
+  pub alone_is_start : (cells : List Entry) (f : FailureFrame) → Stack cells (f ∷ [])
+      → (slice_get bodies start ≡ Some f.node)
       × (f.place ≡ 0)
   alone_is_start cells f s = by s
     where
-      by : {f : Frame} → Stack cells (f ∷ []) → (slice_get bodies start ≡ Some f.node) × (f.place ≡ 0)
+      by : {f : FailureFrame} → Stack cells (f ∷ []) → (slice_get bodies start ≡ Some f.node) × (f.place ≡ 0)
       by (bottom o at is) = (at, is)
 
   -- where the start rule has a cell, all that is visited has one

@@ -18,7 +18,7 @@ use Rattle.memo.specs.declared.found.Found.TheVariants.{Failed, Took}
 use Rattle.pegmatch.specs.declared.matcher.Unit.{Unit as UnitAnswer}
 use Rattle.pegmatch.specs.declared.matcher.Unit.TheVariants as unit
 use Rattle.memo.specs.Entries.{Entry, found_at, AreDifferent}
-use Rattle.matchfailure.specs.declared.desk.frame.Frame.{Frame}
+use Rattle.matchfailure.specs.declared.desk.frame.FailureFrame.{FailureFrame}
 use Rattle.matchfailure.specs.declared.desk.turn.Turn.TheVariants.{Ask, Answer}
 use Rattle.matchfailure.specs.Desk.{View, beginning, Fits, HasFrames, Drops, Ends, IsStep, unit_of}
 use Rattle.matchfailure.specs.State.{IsPut, IsUnderWay, IsStack, last_position}
@@ -41,7 +41,8 @@ positions_in_window : (x : List ℕ) (b : Bool) → last_position x b + 1 ≤ le
 positions_in_window x true = omega arith
 positions_in_window x false = omega arith
 
-pub some_frame : (fs : List Frame) → (fs ≡ [] → ⊥) → (u : Frame) × (us : List Frame) × (fs ≡ u ∷ us)
+pub some_frame : (fs : List FailureFrame) → (fs ≡ [] → ⊥)
+    → (u : FailureFrame) × (us : List FailureFrame) × (fs ≡ u ∷ us)
 some_frame [] h = absurd (h refl)
 some_frame (u ∷ us) h = (u, us, refl)
 
@@ -50,7 +51,7 @@ ok_of (Ok a) h p = p
 ok_of (Err e) h p = absurd (cc h)
 
 -- the last frame, as it was read
-pub read_top : (fs below : List Frame) (t u : Frame) → fs ≡ t ∷ below → u ≡ t → fs ≡ u ∷ below
+pub read_top : (fs below : List FailureFrame) (t u : FailureFrame) → fs ≡ t ∷ below → u ≡ t → fs ≡ u ∷ below
 read_top fs below t u is same = rw same is
 
 -- a node that gives the start rule's outcome
@@ -74,7 +75,7 @@ module _ (g : Grammar) (x : List ℕ) (more : Bool) (sound : IsSoundGrammar g) w
   Ns = shapes_of g.nodes
 
   -- what is known of the last frame
-  pub record IsTop (d : View) (t : Frame) : Type 0 where
+  pub record IsTop (d : View) (t : FailureFrame) : Type 0 where
     pub visits : Visits Rs Ns g.bodies x g.start t.node t.place
     pub spelled : SpellsSome Rs Ns t.node
     pub high : t.place ≤ length x
@@ -82,11 +83,11 @@ module _ (g : Grammar) (x : List ℕ) (more : Bool) (sound : IsSoundGrammar g) w
     pub come : IsUnderWay Rs g.start Ns g.bodies x more d.cells t.node t.place t.next t.end
     pub none : found_at d.cells t.node t.place ≡ None
 
-  is_stacked : (d : View) (t : Frame) (fs : List Frame) → Fits g x more d → d.frames ≡ t ∷ fs
+  is_stacked : (d : View) (t : FailureFrame) (fs : List FailureFrame) → Fits g x more d → d.frames ≡ t ∷ fs
       → IsStack Rs g.start Ns g.bodies x more d.cells (t ∷ fs)
   is_stacked d t fs f is = subst (λ v. IsStack Rs g.start Ns g.bodies x more d.cells v) is f.stack
 
-  pub is_top : (d : View) (t : Frame) (fs : List Frame) → Fits g x more d → d.frames ≡ t ∷ fs → IsTop d t
+  pub is_top : (d : View) (t : FailureFrame) (fs : List FailureFrame) → Fits g x more d → d.frames ≡ t ∷ fs → IsTop d t
   is_top d t fs f is =
       let s = is_stacked d t fs f is in
       let visits = top_visits Rs g.start Ns g.bodies g.ranks x more sound d.cells t fs s in
@@ -114,7 +115,7 @@ module _ (g : Grammar) (x : List ℕ) (more : Bool) (sound : IsSoundGrammar g) w
         few = rw (← size) (omega (arith, most, f.count));
       }
 
-  pub pushed_step : {old new : View} {t : Frame} {fs : List Frame} {m q i r : ℕ} → Fits g x more old
+  pub pushed_step : {old new : View} {t : FailureFrame} {fs : List FailureFrame} {m q i r : ℕ} → Fits g x more old
       → old.frames ≡ t ∷ fs →
       IsTurn Rs g.start Ns g.bodies x more old.cells t.node t.place (Ask m q i r) → new.cells ≡ old.cells →
       new.frames ≡ beginning m q ∷ (record { node = t.node; place = t.place; next = i; end = r } ∷ fs)
@@ -145,7 +146,8 @@ module _ (g : Grammar) (x : List ℕ) (more : Bool) (sound : IsSoundGrammar g) w
         }),
       )
 
-  module _ (old new : View) (t : Frame) (fs : List Frame) (h : Found) (f : Fits g x more old) (is : old.frames ≡ t ∷ fs)
+  module _ (old new : View) (t : FailureFrame) (fs : List FailureFrame) (h : Found) (f : Fits g x more old)
+      (is : old.frames ≡ t ∷ fs)
       (turn : IsTurn Rs g.start Ns g.bodies x more old.cells t.node t.place (Answer h))
       (put : IsPut old.cells new.cells t.node t.place h) (grown : length new.cells ≡ length old.cells + 1)
       (different : AreDifferent new.cells) (frames : new.frames ≡ fs) (begun : new.begun ≡ old.begun) where
@@ -172,7 +174,7 @@ module _ (g : Grammar) (x : List ℕ) (more : Bool) (sound : IsSoundGrammar g) w
           count = omega (arith, begun, f.count, lengths, before, grown);
         }
 
-    pub dropped_step : (u : Frame) (us : List Frame) → new.frames ≡ u ∷ us → IsStep g x more old new None
+    pub dropped_step : (u : FailureFrame) (us : List FailureFrame) → new.frames ≡ u ∷ us → IsStep g x more old new None
     dropped_step u us there = (still_fits, (u, us, there), inr (h, drops_top))
 
     pub ended_here : new.frames ≡ [] → Ends g x more old new h

@@ -12,7 +12,7 @@ use Rattle.memo.specs.declared.found.Found.TheVariants as found
 use Rattle.pegmatch.specs.declared.matcher.Unit.{Unit as UnitAnswer}
 use Rattle.pegmatch.specs.declared.matcher.Unit.TheVariants.{Took, Failed, Need}
 use Rattle.memo.specs.Entries.{Entry, AreDifferent}
-use Rattle.matchfailure.specs.declared.desk.frame.Frame.{Frame}
+use Rattle.matchfailure.specs.declared.desk.frame.FailureFrame.{FailureFrame}
 use Rattle.matchfailure.specs.State.{IsPut, IsStack, AreCells, AreUnderWay, last_position}
 use Rattle.pegmatch.specs.VisitedCells.{AreVisitedCells}
 use Rattle.pegmatch.specs.Visits.{NodeGives, Asks}
@@ -20,7 +20,7 @@ use Rattle.pegmatch.specs.Visits.{NodeGives, Asks}
 -- the cells, the frames with the last one first, and how many evaluations were begun
 pub record View : Type 0 where
   pub cells : List Entry
-  pub frames : List Frame
+  pub frames : List FailureFrame
   pub begun : ℕ
 
 abbrev pub empty : View
@@ -32,15 +32,15 @@ unit_of found.Failed begun = Failed begun
 unit_of (found.Took end) begun = Took end begun
 
 -- a frame's pair, as one that begins
-abbrev pub beginning : ℕ → ℕ → Frame
+abbrev pub beginning : ℕ → ℕ → FailureFrame
 beginning n p = record { node = n; place = p; next = 0; end = p }
 
 -- One frame more, and one evaluation more begun; the frame below may have come further.
 pub record Pushes (old new : View) : Type 0 where
-  pub frame : Frame
-  pub top : Frame
-  pub below : List Frame
-  pub come : Frame
+  pub frame : FailureFrame
+  pub top : FailureFrame
+  pub below : List FailureFrame
+  pub come : FailureFrame
   pub same : (come.node ≡ top.node) × (come.place ≡ top.place)
   pub was : old.frames ≡ top ∷ below
   pub is : new.frames ≡ frame ∷ (come ∷ below)
@@ -49,7 +49,7 @@ pub record Pushes (old new : View) : Type 0 where
 
 -- The last frame is gone, and its pair has a cell.
 pub record Drops (old new : View) (f : Found) : Type 0 where
-  pub top : Frame
+  pub top : FailureFrame
   pub was : old.frames ≡ top ∷ new.frames
   pub cells : IsPut old.cells new.cells top.node top.place f
   pub grown : length new.cells ≡ length old.cells + 1
@@ -78,8 +78,8 @@ module _ (g : Grammar) (x : List ℕ) (more : Bool) where
   -- the last frame's own comparison reaches the last byte of the window, and more bytes follow it
   pub record Reaches (d : View) : Type 0 where
     pub behind : more ≡ true
-    pub top : Frame
-    pub below : List Frame
+    pub top : FailureFrame
+    pub below : List FailureFrame
     pub is : d.frames ≡ top ∷ below
     pub own : (m q : ℕ) → Asks (rules_of g.rules) (shapes_of g.nodes) g.bodies x top.node top.place m q → ⊥
     pub outcome : Outcome
@@ -100,7 +100,7 @@ module _ (g : Grammar) (x : List ℕ) (more : Bool) where
 
   -- what a step does
   abbrev pub IsStep : View → View → Option UnitAnswer → Type 0
-  IsStep old new None = Fits new × ((f : Frame) × (fs : List Frame) × (new.frames ≡ f ∷ fs))
+  IsStep old new None = Fits new × ((f : FailureFrame) × (fs : List FailureFrame) × (new.frames ≡ f ∷ fs))
       × (Pushes old new ⊎ ((f : Found) × Drops old new f))
   IsStep old new (Some (Took end begun)) = Ends old new (found.Took end) × (begun ≡ new.begun)
   IsStep old new (Some (Failed begun)) = Ends old new found.Failed × (begun ≡ new.begun)

@@ -4,8 +4,8 @@ use Rattle.std.specs.Prelude.{◌≡◌, ℕ, zero, suc, ◌+◌, List, [], ◌+
 use Rattle.gramcheck.specs.Outcome.{Outcome, RuleGives}
 use Rattle.matchfailure.specs.Farthest.{IsFarthest, NoneFails}
 use Rattle.matchfailure.specs.ToldUnit.{told_unit_of}
-use Rattle.matchfailure.specs.declared.farthest.told.Told.{Told}
-use Rattle.matchfailure.specs.declared.farthest.told.Told.TheVariants.{Last, Before}
+use Rattle.matchfailure.specs.declared.farthest.told.LastUnit.{LastUnit}
+use Rattle.matchfailure.specs.declared.farthest.told.LastUnit.TheVariants.{Last, Before}
 use Rattle.matchfailure.specs.declared.farthest.visit.Visit.{Visit}
 use Rattle.pegnodes.specs.NodeLists.{AreNumbered}
 use Rattle.pegnodes.specs.Nodes.{Shape}
@@ -31,7 +31,7 @@ failing_byte None = None
 failing_byte (Some f) = Some (f.unit + f.place)
 
 -- the failure that is reported, of those of the unit before and of the last one
-abbrev pub failure_of : Told → Option UnitFailure → Option UnitFailure → Option UnitFailure
+abbrev pub failure_of : LastUnit → Option UnitFailure → Option UnitFailure → Option UnitFailure
 failure_of Last before last = last
 failure_of Before before last = before
 

@@ -7,7 +7,7 @@ use Rattle.pegnodes.specs.Nodes.{Close}
 use Rattle.memo.specs.declared.found.Found.{Found}
 use Rattle.memo.specs.declared.found.Found.TheVariants.{Failed, Took}
 use Rattle.memo.specs.Entries.{Entry, found_at}
-use Rattle.matchfailure.specs.declared.desk.frame.Frame.{Frame}
+use Rattle.matchfailure.specs.declared.desk.frame.FailureFrame.{FailureFrame}
 use Rattle.pegmatch.specs.CellOutcomes.{HasCell, IsFound}
 use Rattle.pegmatch.specs.Visits.{Asks, Visits}
 
@@ -53,12 +53,12 @@ module _ (cells : List Entry) where
   HasCome Close p i q = Unit {0}
 
 -- no frame is of that pair
-abbrev pub HasNoFrame : List Frame → ℕ → ℕ → Type 0
+abbrev pub HasNoFrame : List FailureFrame → ℕ → ℕ → Type 0
 HasNoFrame [] n p = Unit {0}
 HasNoFrame (f ∷ fs) n p = (f.node ≡ n → f.place ≡ p → ⊥) × HasNoFrame fs n p
 
 -- each frame's pair is visited, has no cell, and is no other frame's
-abbrev pub AreUnderWay : List Rule → ℕ → List Shape → List ℕ → List ℕ → List Entry → List Frame → Type 0
+abbrev pub AreUnderWay : List Rule → ℕ → List Shape → List ℕ → List ℕ → List Entry → List FailureFrame → Type 0
 AreUnderWay rules start nodes bodies x cells [] = Unit {0}
 AreUnderWay rules start nodes bodies x cells (f ∷ fs) =
     Visits rules nodes bodies x start f.node f.place × (found_at cells f.node f.place ≡ None)
@@ -72,16 +72,17 @@ module _ (rules : List Rule) (start : ℕ) (nodes : List Shape) (bodies x : List
     IsUnderWay n p i q = (shape : Shape) → slice_get nodes n ≡ Some shape → HasCome cells shape p i q
 
     -- the frame's pair has no cell and stands no later than the last position, and it has come so far
-    pub record IsOpen (f : Frame) : Type 0 where
+    pub record IsOpen (f : FailureFrame) : Type 0 where
       pub none : found_at cells f.node f.place ≡ None
       pub come : IsUnderWay f.node f.place f.next f.end
       pub low : f.place ≤ last_position x more
 
     -- Frames, the last first: the first is of the start rule's body at 0, and each asks for the next.
-    pub data IsStack : List Frame → Type 0 where
+    pub data IsStack : List FailureFrame → Type 0 where
       no_frame : IsStack []
-      bottom : {f : Frame} → IsOpen f → slice_get bodies start ≡ Some f.node → f.place ≡ 0 → IsStack (f ∷ [])
-      above : {h f : Frame} {fs : List Frame} → IsOpen h → Asks rules nodes bodies x f.node f.place h.node h.place →
+      bottom : {f : FailureFrame} → IsOpen f → slice_get bodies start ≡ Some f.node → f.place ≡ 0 → IsStack (f ∷ [])
+      above : {h f : FailureFrame} {fs : List FailureFrame} → IsOpen h
+          → Asks rules nodes bodies x f.node f.place h.node h.place →
           IsStack (f ∷ fs) → IsStack (h ∷ (f ∷ fs))
 
     -- Each cell is of a pair that is visited, no later than the last position, and holds its outcome. All pairs that it

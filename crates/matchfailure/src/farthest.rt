@@ -17,5 +17,5 @@ pub use laws::{
     failing_leaf_stops, farthest_is_within, farthest_or_none, one_farthest, same_on_longer,
     stops_fail,
 };
-pub use told::{Told, told_unit};
+pub use told::{LastUnit, told_unit};
 pub use visit::Visit;

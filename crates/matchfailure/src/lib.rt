@@ -9,6 +9,6 @@ mod farthest;
 pub use desk::Desk;
 pub use explain::{FailureSearch, TextPlace, explain_long_unit, fails_so_in_input, one_no_match};
 pub use farthest::{
-    Farthest, Told, UnitSearch, Visit, failing_leaf_stops, farthest_failure, farthest_is_within,
-    farthest_or_none, one_farthest, same_on_longer, stops_fail, told_unit,
+    Farthest, LastUnit, UnitSearch, Visit, failing_leaf_stops, farthest_failure,
+    farthest_is_within, farthest_or_none, one_farthest, same_on_longer, stops_fail, told_unit,
 };

@@ -8,19 +8,19 @@ use Rattle.memo.specs.SpotLinks.{Place}
 use Rattle.memo.specs.declared.entry.Entry.{Entry}
 use Rattle.memo.specs.declared.entry.Entry.TheVariants.{Member, Run, Steps}
 use Rattle.memo.specs.declared.entry.Extent.{Extent}
-use Rattle.memo.specs.declared.entry.Ending.{Ending}
-use Rattle.memo.specs.declared.entry.Ending.TheVariants.{Missed, Ended}
+use Rattle.memo.specs.declared.entry.EvaluationEnding.{EvaluationEnding}
+use Rattle.memo.specs.declared.entry.EvaluationEnding.TheVariants.{Missed, Ended}
 use Rattle.memo.specs.declared.key_log.Given.{Given}
 use Rattle.memo.specs.declared.key_log.Mark.{Mark}
 use Rattle.memo.specs.declared.key_log.Stored.{Stored}
 use Rattle.memo.specs.declared.spot.Spot.TheVariants.{Tail}
 
 -- what was found, by how it ended and where
-abbrev pub found_of : Ending → ℕ → Found
+abbrev pub found_of : EvaluationEnding → ℕ → Found
 found_of Missed e = Failed
 found_of Ended e = Took e
 
-abbrev pub given_of : Ending → ℕ → ℕ → Given
+abbrev pub given_of : EvaluationEnding → ℕ → ℕ → Given
 given_of o e events = record { found = found_of o e; events = events }
 
 abbrev pub node_of : Entry → ℕ

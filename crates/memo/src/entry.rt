@@ -16,7 +16,7 @@ use std::mem::size_of;
 
 /// How an evaluation ended.
 #[derive(Clone, Copy)]
-pub(crate) enum Ending {
+pub(crate) enum EvaluationEnding {
     /// It failed.
     Missed,
     /// It succeeded.
@@ -25,29 +25,29 @@ pub(crate) enum Ending {
 
 /// An outcome in 32 bits.
 #[derive(Clone, Copy)]
-pub(crate) struct Outcome {
+pub(crate) struct PackedOutcome {
     /// Whether the evaluation failed.
-    pub(crate) ending: Ending,
+    pub(crate) ending: EvaluationEnding,
     /// The position where a success ends; 0 for a failure.
     pub(crate) end: u32,
 }
 
-impl Outcome {
+impl PackedOutcome {
     /// Packs an outcome into 32 bits.
     ///
     /// # Errors
     /// `Memory` if it does not fit.
     #[inline(always)]
-    pub(crate) fn of(found: Found) -> Result<Outcome, Memory>
+    pub(crate) fn of(found: Found) -> Result<PackedOutcome, Memory>
         ensures { IfOk result (λ o. found_of o.ending o.end ≡ found) }
     {
         match found {
-            Found::Failed => Ok(Outcome {
-                ending: Ending::Missed,
+            Found::Failed => Ok(PackedOutcome {
+                ending: EvaluationEnding::Missed,
                 end: 0,
             }),
-            Found::Took(end) => Ok(Outcome {
-                ending: Ending::Ended,
+            Found::Took(end) => Ok(PackedOutcome {
+                ending: EvaluationEnding::Ended,
                 end: narrow(end)?,
             }),
         }
@@ -59,7 +59,7 @@ impl Outcome {
 pub(crate) enum Entry {
     /// The tail of a node from a member on, at a position.
     Member {
-        ending: Ending,
+        ending: EvaluationEnding,
         node: u32,
         index: u32,
         place: u32,
@@ -68,7 +68,7 @@ pub(crate) enum Entry {
     },
     /// A node at the positions from `from` to `to`, all with one outcome.
     Run {
-        ending: Ending,
+        ending: EvaluationEnding,
         node: u32,
         from: u32,
         to: u32,
@@ -112,7 +112,7 @@ impl Entry {
         match spot {
             Spot::Pair { node, place } => Entry::run(node, place, place, given),
             Spot::Tail { node, index, place } => {
-                let outcome = Outcome::of(given.found)?;
+                let outcome = PackedOutcome::of(given.found)?;
                 Ok(Entry::Member {
                     ending: outcome.ending,
                     node: narrow(node)?,
@@ -134,7 +134,7 @@ impl Entry {
         ensures pairs { IfOk result (λ e. pairs_of e ≡ run_of node from to given) }
         ensures node { IfOk result (λ e. node_of e ≡ node) }
     {
-        let outcome = Outcome::of(given.found)?;
+        let outcome = PackedOutcome::of(given.found)?;
         Ok(Entry::Run {
             ending: outcome.ending,
             node: narrow(node)?,
@@ -309,12 +309,12 @@ fn is_within(node: usize, place: usize, own: u32, from: u32, end: usize) -> bool
 
 // Returns what was found, with its events.
 #[inline(always)]
-fn given(ending: Ending, end: u32, events: u32) -> Given
+fn given(ending: EvaluationEnding, end: u32, events: u32) -> Given
     ensures { result ≡ given_of ending end events }
 {
     let found = match ending {
-        Ending::Missed => Found::Failed,
-        Ending::Ended => Found::Took(end as usize),
+        EvaluationEnding::Missed => Found::Failed,
+        EvaluationEnding::Ended => Found::Took(end as usize),
     };
     Given {
         found,

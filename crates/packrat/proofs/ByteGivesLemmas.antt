@@ -22,8 +22,8 @@ use Rattle.gramcheck.specs.Outcome.{choice}
 use Rattle.gramcheck.specs.Outcome.{GivesAll, all_done, one_fails, rest_fails, rest_takes, GivesFirst, all_failed}
 use Rattle.gramcheck.specs.Outcome.{first_takes, first_fails, begins_with, compared, looked_at}
 use Rattle.gramcheck.specs.Sound.{IsRanked}
-use Rattle.pegnodes.specs.declared.by_byte.Verdict.{Verdict}
-use Rattle.pegnodes.specs.declared.by_byte.Verdict.TheVariants.{Takes, Stays, Fails}
+use Rattle.pegnodes.specs.declared.by_byte.ByteVerdict.{ByteVerdict}
+use Rattle.pegnodes.specs.declared.by_byte.ByteVerdict.TheVariants.{Takes, Stays, Fails}
 use Rattle.pegnodes.proofs.HasShapeLemmas.{has_shape}
 use Rattle.pegmatch.specs.KeptEvents.{quiet_outcome, SpellsSome}
 use Rattle.pegmatch.specs.Visits.{NodeGives}
@@ -138,16 +138,16 @@ module _ (rules : List Rule) (start : ℕ) (nodes : List Shape) (bodies ranks x 
   not_has n m at s = let like = has_shape rules nodes s.1 (node.Not m) at in (like.0, like.2)
 
   module _ (marks : ℕ → Bool) (tails : ℕ → ℕ → Bool) (b p : ℕ) (here : slice_get x p ≡ Some b) where
-    abbrev G : ℕ → Verdict → Type 0
+    abbrev G : ℕ → ByteVerdict → Type 0
     G n v = GivesBy rules nodes bodies x n p v
 
     -- what the expressions from a member on give
-    record AllBy (ps : Patterns) (v : Verdict) : Type 0 where
+    record AllBy (ps : Patterns) (v : ByteVerdict) : Type 0 where
       pub looked : ℕ
       pub within : looked ≤ p + 1
       pub gives : GivesAll rules x ps p (quiet_outcome (found_by v p)) looked
 
-    record FirstBy (ps : Patterns) (v : Verdict) : Type 0 where
+    record FirstBy (ps : Patterns) (v : ByteVerdict) : Type 0 where
       pub looked : ℕ
       pub within : looked ≤ p + 1
       pub gives : GivesFirst rules x ps p (quiet_outcome (found_by v p)) looked
@@ -220,7 +220,8 @@ module _ (rules : List Rule) (start : ℕ) (nodes : List Shape) (bodies ranks x 
       };
     }
 
-    name_by : (n id m : ℕ) (v : Verdict) → Has n → At n (node.Name id) → slice_get bodies id ≡ Some m → G m v → G n v
+    name_by : (n id m : ℕ) (v : ByteVerdict) → Has n → At n (node.Name id) → slice_get bodies id ≡ Some m → G m v
+        → G n v
     name_by n id m v s at body g = record {
       looked = g.looked;
       within = g.within;
@@ -229,7 +230,7 @@ module _ (rules : List Rule) (start : ℕ) (nodes : List Shape) (bodies ranks x 
     }
 
     module _ (n m : ℕ) (s : Has n) where
-      opt_some : (v : Verdict) → Succeeds v → At n (node.Opt m) → G m v → G n v
+      opt_some : (v : ByteVerdict) → Succeeds v → At n (node.Opt m) → G m v → G n v
       opt_some Takes t at g = record {
         looked = g.looked;
         within = g.within;
@@ -249,7 +250,7 @@ module _ (rules : List Rule) (start : ℕ) (nodes : List Shape) (bodies ranks x 
         gives = opt_gives_none rules start nodes bodies ranks x sound n m s p g.looked at g.gives;
       }
 
-      and_some : (v : Verdict) → Succeeds v → At n (node.And m) → G m v → G n Stays
+      and_some : (v : ByteVerdict) → Succeeds v → At n (node.And m) → G m v → G n Stays
       and_some Takes t at g = record {
         looked = g.looked;
         within = g.within;
@@ -276,7 +277,7 @@ module _ (rules : List Rule) (start : ℕ) (nodes : List Shape) (bodies ranks x 
         gives = not_gives_takes rules start nodes bodies ranks x sound n m s p g.looked at g.gives;
       }
 
-      not_some : (v : Verdict) → Succeeds v → At n (node.Not m) → G m v → G n Fails
+      not_some : (v : ByteVerdict) → Succeeds v → At n (node.Not m) → G m v → G n Fails
       not_some Takes t at g = record {
         looked = g.looked;
         within = g.within;
@@ -303,7 +304,7 @@ module _ (rules : List Rule) (start : ℕ) (nodes : List Shape) (bodies ranks x 
         gives = plus_gives_fails rules start nodes bodies ranks x sound n m s k p g.looked at g.gives;
       }
 
-    seq_by : (n : ℕ) (ms : List ℕ) (v : Verdict) → Has n → At n (node.Seq ms)
+    seq_by : (n : ℕ) (ms : List ℕ) (v : ByteVerdict) → Has n → At n (node.Seq ms)
         → ((ps : Patterns) → SpellAll rules nodes ms ps → AllBy ps v) → G n v
     seq_by n ms v s at h =
         let like = has_shape rules nodes s.1 (node.Seq ms) at in
@@ -318,7 +319,7 @@ module _ (rules : List Rule) (start : ℕ) (nodes : List Shape) (bodies ranks x 
           };
         }
 
-    choice_by : (n : ℕ) (ms : List ℕ) (v : Verdict) → Has n → At n (node.Choice ms)
+    choice_by : (n : ℕ) (ms : List ℕ) (v : ByteVerdict) → Has n → At n (node.Choice ms)
         → ((ps : Patterns) → SpellAll rules nodes ms ps → FirstBy ps v) → G n v
     choice_by n ms v s at h =
         let like = has_shape rules nodes s.1 (node.Choice ms) at in
@@ -338,7 +339,7 @@ module _ (rules : List Rule) (start : ℕ) (nodes : List Shape) (bodies ranks x 
     all_by_none ps ss = subst (λ v. AllBy v Stays) (sym (spelled_none ss))
         (record { looked = 0; within = omega arith; gives = all_done })
 
-    all_by_stays : (e : Pattern) (rest : Patterns) (v : Verdict) (j : ℕ) → j ≤ p + 1
+    all_by_stays : (e : Pattern) (rest : Patterns) (v : ByteVerdict) (j : ℕ) → j ≤ p + 1
         → Gives rules x e p (outcome.Takes p []) j → AllBy rest v → AllBy (expr.more e rest) v
     all_by_stays e rest Takes j le d h =
         let lt = h.within in
@@ -354,7 +355,7 @@ module _ (rules : List Rule) (start : ℕ) (nodes : List Shape) (bodies ranks x 
         → AllBy (expr.more e expr.none) Takes
     all_by_takes e j le d = record { looked = max j 0; within = omega (arith, le); gives = rest_takes d all_done }
 
-    first_by_some : (e : Pattern) (rest : Patterns) (v : Verdict) (j : ℕ) → Succeeds v → j ≤ p + 1
+    first_by_some : (e : Pattern) (rest : Patterns) (v : ByteVerdict) (j : ℕ) → Succeeds v → j ≤ p + 1
         → Gives rules x e p (quiet_outcome (found_by v p)) j → FirstBy (expr.more e rest) v
     first_by_some e rest Takes j t le d = record { looked = j; within = le; gives = first_takes d }
     first_by_some e rest Stays j t le d = record { looked = j; within = le; gives = first_takes d }
@@ -365,13 +366,14 @@ module _ (rules : List Rule) (start : ℕ) (nodes : List Shape) (bodies ranks x 
         (record { looked = 0; within = omega arith; gives = all_failed })
 
     mutual
-      pub gives_by : {n c : ℕ} {v : Verdict} → ByByte nodes bodies marks tails b n v c → Has n → G n v
+      pub gives_by : {n c : ℕ} {v : ByteVerdict} → ByByte nodes bodies marks tails b n v c → Has n → G n v
       gives_by (by_shape at h) s = shape_gives at h s
 
-      below_gives : {n c : ℕ} {v : Verdict} → Below nodes bodies marks tails b n v c → Has n → G n v
+      below_gives : {n c : ℕ} {v : ByteVerdict} → Below nodes bodies marks tails b n v c → Has n → G n v
       below_gives (below t h) s = gives_by h s
 
-      shape_gives : {n c : ℕ} {sh : Shape} {v : Verdict} → At n sh → ByShape nodes bodies marks tails b n sh v c → Has n
+      shape_gives : {n c : ℕ} {sh : Shape} {v : ByteVerdict} → At n sh → ByShape nodes bodies marks tails b n sh v c
+          → Has n
           → G n v
       shape_gives {n = n} at by_any s = any_gives n at
       shape_gives {n = n} at (by_set_in {s = set} t) s = set_in_gives n set at t
@@ -398,7 +400,7 @@ module _ (rules : List Rule) (start : ℕ) (nodes : List Shape) (bodies ranks x 
       shape_gives {n = n} at (by_no_plus {m = m} {s = k} h) s =
           no_plus n m s k at (below_gives h (plus_has n m k at s))
 
-      members_give : {n i c : ℕ} {ms : List ℕ} {v : Verdict} → ByMembers nodes bodies marks tails b n ms i v c
+      members_give : {n i c : ℕ} {ms : List ℕ} {v : ByteVerdict} → ByMembers nodes bodies marks tails b n ms i v c
           → (ps : Patterns) → SpellAll rules nodes (drop i ms) ps → AllBy ps v
       members_give {i = i} {ms = ms} (members_end e) ps ss =
           all_by_none ps (subst (λ w. SpellAll rules nodes w ps) (drop_end ms i e) ss)
@@ -419,7 +421,8 @@ module _ (rules : List Rule) (start : ℕ) (nodes : List Shape) (bodies ranks x 
           subst (λ w. AllBy w Takes) (sym (d.2 ∙ ap (expr.more d.0) none))
           (all_by_takes d.0 g.looked g.within (as_own d.3 g.gives))
 
-      alternatives_give : {n i c : ℕ} {ms : List ℕ} {v : Verdict} → ByAlternatives nodes bodies marks tails b n ms i v c
+      alternatives_give : {n i c : ℕ} {ms : List ℕ} {v : ByteVerdict}
+          → ByAlternatives nodes bodies marks tails b n ms i v c
           → (ps : Patterns) → SpellAll rules nodes (drop i ms) ps → FirstBy ps v
       alternatives_give {i = i} {ms = ms} (alternatives_end e) ps ss =
           first_by_none ps (subst (λ w. SpellAll rules nodes w ps) (drop_end ms i e) ss)
@@ -441,13 +444,13 @@ module _ (rules : List Rule) (start : ℕ) (nodes : List Shape) (bodies ranks x 
           (first_by_some d.0 d.1 v g.looked some g.within (as_own d.3 g.gives))
 
 -- a failure that a byte decides has no events, as all that it decides
-quiet_by : (v : Verdict) (p : ℕ) → IsQuiet (found_by v p) []
+quiet_by : (v : ByteVerdict) (p : ℕ) → IsQuiet (found_by v p) []
 quiet_by Takes p = tt
 quiet_by Stays p = tt
 quiet_by Fails p = refl
 
 module _ (g : Grammar) (x : List ℕ) (more : Bool) (sound : IsSoundGrammar g) where
-  pub found_gives : (n p : ℕ) (v : Verdict) → (more ≡ true → p + 1 < length x)
+  pub found_gives : (n p : ℕ) (v : ByteVerdict) → (more ≡ true → p + 1 < length x)
       → GivesBy (rules_of g.rules) (shapes_of g.nodes) g.bodies x n p v → SpotGives g x more (Pair n p) (found_by v p)
   found_gives n p v last d = (
     [],

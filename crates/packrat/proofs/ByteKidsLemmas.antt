@@ -12,8 +12,8 @@ use Rattle.pegnodes.specs.ByByte.{ByAlternatives, alternatives_end, alternative_
 use Rattle.pegnodes.specs.Nodes as node
 use Rattle.pegnodes.specs.Nodes.{Shape}
 use Rattle.gramcheck.specs.Sound.{IsRanked}
-use Rattle.pegnodes.specs.declared.by_byte.Verdict.{Verdict}
-use Rattle.pegnodes.specs.declared.by_byte.Verdict.TheVariants.{Takes, Stays, Fails}
+use Rattle.pegnodes.specs.declared.by_byte.ByteVerdict.{ByteVerdict}
+use Rattle.pegnodes.specs.declared.by_byte.ByteVerdict.TheVariants.{Takes, Stays, Fails}
 use Rattle.pegmatch.specs.KeptEvents.{SpellsSome}
 use Rattle.pegmatch.specs.Visits.{NodeTakes, NodeFails}
 use Rattle.memo.specs.Parts.{IsIn}
@@ -90,10 +90,10 @@ module _ (rules : List Rule) (start : ℕ) (nodes : List Shape) (bodies ranks x 
   At n s = slice_get nodes n ≡ Some s
 
   module _ (b p : ℕ) (here : slice_get x p ≡ Some b) where
-    abbrev Below' : ℕ → Verdict → ℕ → Type 0
+    abbrev Below' : ℕ → ByteVerdict → ℕ → Type 0
     Below' m v c = Below nodes bodies marks tails b m v c
 
-    takes_by : (m : ℕ) (v : Verdict) → Succeeds v → GivesBy rules nodes bodies x m p v
+    takes_by : (m : ℕ) (v : ByteVerdict) → Succeeds v → GivesBy rules nodes bodies x m p v
         → (q : ℕ) × NodeTakes rules nodes bodies x m p q
     takes_by m Takes t g = (p + 1, record { events = []; looked = g.looked; gives = g.gives })
     takes_by m Stays t g = (p, record { events = []; looked = g.looked; gives = g.gives })
@@ -105,18 +105,18 @@ module _ (rules : List Rule) (start : ℕ) (nodes : List Shape) (bodies ranks x 
     fails_by : (m : ℕ) → GivesBy rules nodes bodies x m p Fails → NodeFails rules nodes bodies x m p
     fails_by m g = record { looked = g.looked; gives = g.gives }
 
-    below_by : {m c : ℕ} {v : Verdict} → Below' m v c → Has m → GivesBy rules nodes bodies x m p v
+    below_by : {m c : ℕ} {v : ByteVerdict} → Below' m v c → Has m → GivesBy rules nodes bodies x m p v
     below_by (below t h) s = gives_by rules start nodes bodies ranks x sound marks tails b p here h s
 
     -- after the last member no pair begins
-    no_members : {n i c : ℕ} {ms : List ℕ} {v : Verdict} → ByMembers nodes bodies marks tails b n ms i v c
+    no_members : {n i c : ℕ} {ms : List ℕ} {v : ByteVerdict} → ByMembers nodes bodies marks tails b n ms i v c
         → slice_get ms i ≡ None → c ≡ 0
     no_members (members_end e) none = refl
     no_members (member_stays at t h r) none = absurd (cc (at, none))
     no_members (member_fails at t h) none = absurd (cc (at, none))
     no_members (member_takes at last t h) none = absurd (cc (at, none))
 
-    no_alternatives : {n i c : ℕ} {ms : List ℕ} {v : Verdict}
+    no_alternatives : {n i c : ℕ} {ms : List ℕ} {v : ByteVerdict}
         → ByAlternatives nodes bodies marks tails b n ms i v c → slice_get ms i ≡ None → c ≡ 0
     no_alternatives (alternatives_end e) none = refl
     no_alternatives (alternative_fails at t h r) none = absurd (cc (at, none))
@@ -183,14 +183,14 @@ module _ (rules : List Rule) (start : ℕ) (nodes : List Shape) (bodies ranks x 
             itself_of (Pair n p) (Tail n zero p ∷ []) c (some m is) (quiet_one (Tail n zero p) c (rest m is))
 
     mutual
-      pub by_byte_itself : {n c : ℕ} {v : Verdict} → ByByte nodes bodies marks tails b n v c → Has n
+      pub by_byte_itself : {n c : ℕ} {v : ByteVerdict} → ByByte nodes bodies marks tails b n v c → Has n
           → Itself (Pair n p) c
       by_byte_itself (by_shape at h) s = shape_itself at h s
 
-      below_quiet : {n c : ℕ} {v : Verdict} → Below' n v c → Has n → Quiet (Pair n p) c
+      below_quiet : {n c : ℕ} {v : ByteVerdict} → Below' n v c → Has n → Quiet (Pair n p) c
       below_quiet {n = n} {c = c} (below t h) s = itself_quiet (Pair n p) c t (by_byte_itself h s)
 
-      shape_itself : {n c : ℕ} {sh : Shape} {v : Verdict} → At n sh → ByShape nodes bodies marks tails b n sh v c
+      shape_itself : {n c : ℕ} {sh : Shape} {v : ByteVerdict} → At n sh → ByShape nodes bodies marks tails b n sh v c
           → Has n → Itself (Pair n p) c
       shape_itself {n = n} at by_any s = itself_leaf n (node.Any, at, refl)
       shape_itself {n = n} at (by_set_in {s = set} t) s = itself_leaf n (node.Set set, at, refl)
@@ -234,7 +234,7 @@ module _ (rules : List Rule) (start : ℕ) (nodes : List Shape) (bodies ranks x 
           let there = plus_has rules start nodes bodies ranks x sound n m k at s in
           itself_one n m c (node.Plus m k, at, inl (fails_by m (below_by h there), refl)) (below_quiet h there)
 
-      members_quiet : {n i c : ℕ} {ms : List ℕ} {v : Verdict} → At n (node.Seq ms) → Has n
+      members_quiet : {n i c : ℕ} {ms : List ℕ} {v : ByteVerdict} → At n (node.Seq ms) → Has n
           → ByMembers nodes bodies marks tails b n ms i v c → (m : ℕ) → slice_get ms i ≡ Some m → Quiet (Tail n i p) c
       members_quiet at s (members_end e) m there = absurd (cc (e, there))
       members_quiet {n = n} {i = i} {ms = ms} at s (member_stays {m = k} {c = c} {d = d} is t h r) m there =
@@ -249,7 +249,7 @@ module _ (rules : List Rule) (start : ℕ) (nodes : List Shape) (bodies ranks x 
           let has = seq_has rules start nodes bodies ranks x sound n i k ms at s is in
           quiet_last n i k ms is t c (node.Seq ms, at, (k, is, inl (inr last, refl))) (below_quiet h has)
 
-      alternatives_quiet : {n i c : ℕ} {ms : List ℕ} {v : Verdict} → At n (node.Choice ms) → Has n
+      alternatives_quiet : {n i c : ℕ} {ms : List ℕ} {v : ByteVerdict} → At n (node.Choice ms) → Has n
           → ByAlternatives nodes bodies marks tails b n ms i v c → (m : ℕ) → slice_get ms i ≡ Some m
           → Quiet (Tail n i p) c
       alternatives_quiet at s (alternatives_end e) m there = absurd (cc (e, there))

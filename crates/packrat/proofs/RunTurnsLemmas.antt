@@ -8,8 +8,8 @@ use Rattle.pegnodes.specs.ByByte.{ByByte, by_shape, ByShape, by_no_turn, AreTurn
 use Rattle.pegnodes.specs.Nodes as node
 use Rattle.pegnodes.specs.Nodes.{Shape}
 use Rattle.gramcheck.specs.Sound.{IsRanked}
-use Rattle.pegnodes.specs.declared.by_byte.Verdict.{Verdict}
-use Rattle.pegnodes.specs.declared.by_byte.Verdict.TheVariants.{Takes, Stays, Fails}
+use Rattle.pegnodes.specs.declared.by_byte.ByteVerdict.{ByteVerdict}
+use Rattle.pegnodes.specs.declared.by_byte.ByteVerdict.TheVariants.{Takes, Stays, Fails}
 use Rattle.pegmatch.specs.KeptEvents.{SpellsSome}
 use Rattle.memo.specs.Parts.{IsIn, in_here, in_later}
 use Rattle.memo.specs.KeyLog.{spots_of, row_of, place_of}
@@ -127,7 +127,7 @@ module _ (rules : List Rule) (start : ℕ) (nodes : List Shape) (bodies ranks x 
       weight next_all p q
 
   -- a pair that its byte decides
-  pub decided_comes : (b n p c : ℕ) (v : Verdict) → ByByte nodes bodies marks tails b n v c → slice_get x p ≡ Some b
+  pub decided_comes : (b n p c : ℕ) (v : ByteVerdict) → ByByte nodes bodies marks tails b n v c → slice_get x p ≡ Some b
       → SpellsSome rules nodes n → (levels : List (Level Spot)) (stored begun : List Spot)
       → (marks n ≡ true → IsIn (Pair n p) stored → ⊥)
       → Comes (Asks (Pair n p) (record { levels = levels; stored = stored; begun = begun }))
@@ -210,12 +210,12 @@ module _ (rules : List Rule) (start : ℕ) (nodes : List Shape) (bodies ranks x 
           ];
         }
 
-    star_stays : (b c : ℕ) (v : Verdict) → ByByte nodes bodies marks tails b s v c → v ≡ Stays
+    star_stays : (b c : ℕ) (v : ByteVerdict) → ByByte nodes bodies marks tails b s v c → v ≡ Stays
     star_stays b c v (by_shape {s = sh} there h) =
         let same : sh ≡ node.Star k = cc (there, at) in
         by v (subst (λ w. ByShape nodes bodies marks tails b s w v c) same h)
       where
-        by : {c : ℕ} (v : Verdict) → ByShape nodes bodies marks tails b s (node.Star k) v c → v ≡ Stays
+        by : {c : ℕ} (v : ByteVerdict) → ByShape nodes bodies marks tails b s (node.Star k) v c → v ≡ Stays
         by v (by_no_turn h) = refl
 
     not_operand : (b c : ℕ) → ByByte nodes bodies marks tails b k Takes c → s ≡ k → ⊥

@@ -14,8 +14,8 @@ use Rattle.pegnodes.specs.KeyLists.{Marks, node_marks, tail_marks}
 use Rattle.pegnodes.specs.KeyMarks.{AreMarks}
 use Rattle.pegnodes.specs.Nodes as node
 use Rattle.pegnodes.specs.Nodes.{Shape, shapes_of}
-use Rattle.pegnodes.specs.declared.by_byte.Verdict.{Verdict}
-use Rattle.pegnodes.specs.declared.by_byte.Verdict.TheVariants.{Takes, Stays, Fails}
+use Rattle.pegnodes.specs.declared.by_byte.ByteVerdict.{ByteVerdict}
+use Rattle.pegnodes.specs.declared.by_byte.ByteVerdict.TheVariants.{Takes, Stays, Fails}
 use Rattle.pegmatch.specs.Answers.{WasEnough}
 use Rattle.memo.specs.KeyLog.{spots_of}
 use Rattle.memo.specs.Parts.{IsIn}
@@ -58,7 +58,7 @@ module _ {nodes : List Shape} {bodies : List ℕ} {marks : ℕ → Bool} {tails 
   fail_within (fail_more {i = i} {m = m} f there plain h) =
       let lt = slice_get_within ms i m there in omega (arith, lt)
 
-  alternatives_from : {i c d : ℕ} {v : Verdict} → FailFirst nodes bodies marks tails b n ms i c
+  alternatives_from : {i c d : ℕ} {v : ByteVerdict} → FailFirst nodes bodies marks tails b n ms i c
       → ByAlternatives nodes bodies marks tails b n ms i v d
       → ByAlternatives nodes bodies marks tails b n ms 0 v (c + d)
   alternatives_from {d = d} {v = v} fail_none r =
@@ -82,7 +82,7 @@ passed_within g x more marks (inl f) = fail_within f.fail
 passed_within g x more marks (inr z) = let none = z.0 in omega (arith, none)
 
 -- what a byte decides leaves no events
-quiet_by : (v : Verdict) (p : ℕ) → IsQuiet (found_by v p) []
+quiet_by : (v : ByteVerdict) (p : ℕ) → IsQuiet (found_by v p) []
 quiet_by Takes p = tt
 quiet_by Stays p = tt
 quiet_by Fails p = refl
@@ -100,12 +100,12 @@ module _ (g : Grammar) (x : List ℕ) (more : Bool) (marks : Marks) (some : WasE
   SS root s = SpotSteps (rules_of g.rules) (shapes_of g.nodes) g.bodies x (node_marks marks) (tail_marks marks)
       (start_at Spot root) s
 
-  abbrev Decides : ℕ → ℕ → Verdict → ℕ → Type 0
+  abbrev Decides : ℕ → ℕ → ByteVerdict → ℕ → Type 0
   Decides b n v d = ByByte (shapes_of g.nodes) g.bodies (node_marks marks) (tail_marks marks) b n v d
 
   module _ (p b : ℕ) (here : slice_get x p ≡ Some b) (last : more ≡ true → p + 1 < length x) where
     -- the loop goes from a pair that the byte decides to its end
-    pub stands_decided : (root : Spot) (n d : ℕ) (v : Verdict) (ls : List Frame) (st new : List Stored)
+    pub stands_decided : (root : Spot) (n d : ℕ) (v : ByteVerdict) (ls : List Frame) (st new : List Stored)
         (links : List Link) (count : ℕ) → S root (Ask (Pair n p)) ls st links count
         → (node_marks marks n ≡ true → IsIn (Pair n p) (spots_of st) → ⊥) → Decides b n v d
         → IsClosed g x more marks links (Pair n p) (record { found = found_by v p; events = 0 }) st new

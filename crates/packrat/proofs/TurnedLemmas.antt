@@ -15,7 +15,7 @@ use Rattle.gramcheck.specs.Outcome as outcome
 use Rattle.gramcheck.specs.Outcome.{Event}
 use Rattle.pegnodes.specs.RunTables.{IsTable, IsRun}
 use Rattle.pegnodes.specs.declared.by_byte.Decided.{Decided}
-use Rattle.pegnodes.specs.declared.by_byte.Verdict.TheVariants.{Takes, Fails}
+use Rattle.pegnodes.specs.declared.by_byte.ByteVerdict.TheVariants.{Takes, Fails}
 use Rattle.pegnodes.specs.declared.run_table.Run.{Run}
 use Rattle.pegmatch.specs.KeptEvents.{SpellsSome}
 use Rattle.memo.specs.KeyLog.{spots_of, row_of, place_of, run_of, steps_of, spread, rising}

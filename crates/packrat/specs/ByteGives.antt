@@ -4,8 +4,8 @@ use Rattle.pegread.specs.Pattern.{Rule}
 use Rattle.pegnodes.specs.Nodes.{Shape}
 use Rattle.gramcheck.specs.Outcome.{Event}
 use Rattle.gramcheck.specs.Outcome as outcome
-use Rattle.pegnodes.specs.declared.by_byte.Verdict.{Verdict}
-use Rattle.pegnodes.specs.declared.by_byte.Verdict.TheVariants.{Takes, Stays, Fails}
+use Rattle.pegnodes.specs.declared.by_byte.ByteVerdict.{ByteVerdict}
+use Rattle.pegnodes.specs.declared.by_byte.ByteVerdict.TheVariants.{Takes, Stays, Fails}
 use Rattle.memo.specs.declared.found.Found.{Found}
 use Rattle.memo.specs.declared.found.Found.TheVariants.{Failed, Took}
 use Rattle.pegmatch.specs.KeptEvents.{quiet_outcome}
@@ -20,14 +20,14 @@ use Rattle.packrat.specs.Spots.{Kids, is_key}
 use Rattle.packrat.specs.View.{weight}
 
 -- what is found at place p
-abbrev pub found_by : Verdict → ℕ → Found
+abbrev pub found_by : ByteVerdict → ℕ → Found
 found_by Takes p = Took (p + 1)
 found_by Stays p = Took p
 found_by Fails p = Failed
 
 module _ (rules : List Rule) (nodes : List Shape) (bodies x : List ℕ) where
   -- The node gives this at position p, without events, and looks at no byte after that one.
-  pub record GivesBy (n p : ℕ) (v : Verdict) : Type 0 where
+  pub record GivesBy (n p : ℕ) (v : ByteVerdict) : Type 0 where
     pub looked : ℕ
     pub within : looked ≤ p + 1
     pub gives : NodeGives rules nodes bodies x n p (quiet_outcome (found_by v p)) looked

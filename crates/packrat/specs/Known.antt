@@ -5,8 +5,8 @@ use Rattle.pegnodes.specs.ByByte.{ByByte}
 use Rattle.pegnodes.specs.KeyLists.{Marks, node_marks, tail_marks}
 use Rattle.pegnodes.specs.Nodes.{Plus, shapes_of}
 use Rattle.pegnodes.specs.declared.by_byte.Decided.{Decided}
-use Rattle.pegnodes.specs.declared.by_byte.Verdict.{Verdict}
-use Rattle.pegnodes.specs.declared.by_byte.Verdict.TheVariants.{Takes}
+use Rattle.pegnodes.specs.declared.by_byte.ByteVerdict.{ByteVerdict}
+use Rattle.pegnodes.specs.declared.by_byte.ByteVerdict.TheVariants.{Takes}
 use Rattle.memo.specs.declared.spot.Spot.{Spot}
 use Rattle.memo.specs.declared.spot.Spot.TheVariants.{Pair, Tail}
 use Rattle.packrat.specs.ByteGives.{found_by}
@@ -32,7 +32,7 @@ module _ (g : Grammar) (x : List ℕ) (more : Bool) (marks : Marks) where
     pub byte : ℕ
     pub here : slice_get x p ≡ Some byte
     pub last : more ≡ true → p + 1 < length x
-    pub verdict : Verdict
+    pub verdict : ByteVerdict
     pub decides : ByByte (shapes_of g.nodes) g.bodies (node_marks marks) (tail_marks marks) byte n verdict known.pairs
     pub found : known.found ≡ found_by verdict p
 

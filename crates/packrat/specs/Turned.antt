@@ -6,7 +6,7 @@ use Rattle.gramcheck.specs.Grammar.{Grammar, HasKeys}
 use Rattle.pegnodes.specs.KeyLists.{Marks, node_marks, tail_marks}
 use Rattle.pegnodes.specs.Nodes.{Star, shapes_of}
 use Rattle.pegnodes.specs.declared.by_byte.Decided.{Decided}
-use Rattle.pegnodes.specs.declared.by_byte.Verdict.TheVariants.{Fails}
+use Rattle.pegnodes.specs.declared.by_byte.ByteVerdict.TheVariants.{Fails}
 use Rattle.pegmatch.specs.KeptEvents.{SpellsSome}
 use Rattle.memo.specs.declared.spot.Spot.{Spot}
 use Rattle.memo.specs.declared.spot.Spot.TheVariants.{Pair}

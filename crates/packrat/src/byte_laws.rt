@@ -7,7 +7,7 @@ ghost use Rattle.pegnodes.specs.ByByte.{ByByte};
 ghost use Rattle.gramcheck.specs.Grammar.{Grammar, IsSoundGrammar};
 ghost use Rattle.pegnodes.specs.Nodes.{Shape, shapes_of};
 ghost use Rattle.gramcheck.specs.Sound.{IsRanked};
-ghost use Rattle.pegnodes.specs.declared.by_byte.Verdict.{Verdict};
+ghost use Rattle.pegnodes.specs.declared.by_byte.ByteVerdict.{ByteVerdict};
 ghost use Rattle.pegmatch.specs.KeptEvents.{SpellsSome};
 ghost use Rattle.memo.specs.KeyLog.{spots_of, row_of, place_of};
 ghost use Rattle.memo.specs.Parts.{IsIn};
@@ -25,21 +25,24 @@ ghost use Rattle.packrat.specs.SpotGives.{SpotGives};
 pub fn one_byte_decides()
     ensures gives { (rules : List Rule) (start : ℕ) (nodes : List Shape) (bodies ranks x : List ℕ) →
         IsRanked rules start nodes bodies ranks → (marks : ℕ → Bool) (tails : ℕ → ℕ → Bool) (b n p c : ℕ)
-        (v : Verdict) → ByByte nodes bodies marks tails b n v c → slice_get x p ≡ Some b → SpellsSome rules nodes n →
+        (v : ByteVerdict) → ByByte nodes bodies marks tails b n v c → slice_get x p ≡ Some b
+        → SpellsSome rules nodes n →
         GivesBy rules nodes bodies x n p v }
     ensures found { (g : Grammar) (x : List ℕ) (more : Bool) → IsSoundGrammar g →
-        (marks : ℕ → Bool) (tails : ℕ → ℕ → Bool) (b n p c : ℕ) (v : Verdict) →
+        (marks : ℕ → Bool) (tails : ℕ → ℕ → Bool) (b n p c : ℕ) (v : ByteVerdict) →
         ByByte (shapes_of g.nodes) g.bodies marks tails b n v c → slice_get x p ≡ Some b →
         SpellsSome (rules_of g.rules) (shapes_of g.nodes) n → (more ≡ true → p + 1 < length x) →
         SpotGives g x more (Pair n p) (found_by v p) }
     ensures stores { (rules : List Rule) (start : ℕ) (nodes : List Shape) (bodies ranks x : List ℕ) →
         IsRanked rules start nodes bodies ranks → (marks : ℕ → Bool) (tails : ℕ → ℕ → Bool) (b n p c : ℕ)
-        (v : Verdict) → ByByte nodes bodies marks tails b n v c → slice_get x p ≡ Some b → SpellsSome rules nodes n →
+        (v : ByteVerdict) → ByByte nodes bodies marks tails b n v c → slice_get x p ≡ Some b
+        → SpellsSome rules nodes n →
         StoresItself rules nodes bodies x marks tails (Pair n p) c }
     ensures steps { (rules : List Rule) (start : ℕ) (nodes : List Shape) (bodies ranks x : List ℕ) →
         IsRanked rules start nodes bodies ranks → (root : ℕ) → slice_get bodies start ≡ Some root →
         (marks : ℕ → Bool) (tails : ℕ → ℕ → Bool) → AreMarks start nodes bodies marks tails → (b n p c : ℕ)
-        (v : Verdict) → ByByte nodes bodies marks tails b n v c → slice_get x p ≡ Some b → SpellsSome rules nodes n →
+        (v : ByteVerdict) → ByByte nodes bodies marks tails b n v c → slice_get x p ≡ Some b
+        → SpellsSome rules nodes n →
         (levels : List (Level Spot)) (stored begun : List Spot) → (marks n ≡ true → IsIn (Pair n p) stored → ⊥) →
         ComesWith rules nodes bodies x marks tails
         (Asks (Pair n p) (record { levels = levels; stored = stored; begun = begun }))

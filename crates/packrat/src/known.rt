@@ -9,7 +9,7 @@ ghost use Rattle.packrat.specs.Known.{IsDecidedAt, IsKnownAt, IsTakenAt};
 use crate::turns::sure_end;
 use gramcheck::SoundPeg;
 use memo::Found;
-use pegnodes::{Decided, Verdict};
+use pegnodes::{ByteVerdict, Decided};
 
 /// The outcome of a node, which leaves no events, and how many pairs begin with it.
 #[derive(Clone, Copy)]
@@ -35,14 +35,14 @@ pub(crate) struct Taken {
 
 // Returns the outcome at a position that a verdict says.
 #[inline(always)]
-fn found_at(verdict: Verdict, place: usize) -> Found
+fn found_at(verdict: ByteVerdict, place: usize) -> Found
     requires { place + 1 < 2 ^ 64 }
     ensures { result ≡ found_by verdict place }
 {
     match verdict {
-        Verdict::Takes => Found::Took(place + 1),
-        Verdict::Stays => Found::Took(place),
-        Verdict::Fails => Found::Failed,
+        ByteVerdict::Takes => Found::Took(place + 1),
+        ByteVerdict::Stays => Found::Took(place),
+        ByteVerdict::Fails => Found::Failed,
     }
 }
 
@@ -104,8 +104,8 @@ pub(crate) fn taken_at(
 {
     let decided = decided_at(peg, window, more, star, place)?;
     match decided.verdict {
-        Verdict::Takes => Some(decided.count),
-        Verdict::Stays => None,
-        Verdict::Fails => None,
+        ByteVerdict::Takes => Some(decided.count),
+        ByteVerdict::Stays => None,
+        ByteVerdict::Fails => None,
     }
 }

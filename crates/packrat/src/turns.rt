@@ -17,7 +17,7 @@ ghost use Rattle.packrat.specs.declared.events.link.Link.{Link};
 use crate::frames::{Frame, Frames, Wait};
 use gramcheck::SoundPeg;
 use memo::{Given, KeyLog, Spot};
-use pegnodes::{RunTable, Verdict};
+use pegnodes::{ByteVerdict, RunTable};
 use ruletable::Memory;
 
 /// Iterations of a repetition, one byte each, that the bytes alone decide. The machine takes them all in one step.
@@ -59,9 +59,9 @@ fn closing(table: &RunTable, window: &[u8], at: usize, to: usize) -> Option<u128
     }
     let decided = table.decided(window[at])?;
     match decided.verdict {
-        Verdict::Fails => Some(1 + u128::from(decided.count)),
-        Verdict::Stays => None,
-        Verdict::Takes => None,
+        ByteVerdict::Fails => Some(1 + u128::from(decided.count)),
+        ByteVerdict::Stays => None,
+        ByteVerdict::Takes => None,
     }
 }
 

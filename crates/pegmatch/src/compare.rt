@@ -4,7 +4,7 @@ ghost use Rattle.gramcheck.specs.Outcome.{begins_with, compared, looked_at};
 
 /// How a literal compares with the front of a text.
 #[derive(Clone, Copy)]
-pub(crate) struct Comparison {
+pub(crate) struct LiteralComparison {
     /// Whether the text begins with the literal.
     pub(crate) begins: bool,
     /// How many bytes were compared.
@@ -13,7 +13,7 @@ pub(crate) struct Comparison {
 
 /// Compares up to the first mismatch, and that byte too; the text's end is no byte.
 #[tactic(auto, using(crate::proofs::CompareLemmas::equal_byte, crate::proofs::CompareLemmas::other_byte, crate::proofs::CompareLemmas::text_ends, crate::proofs::CompareLemmas::literal_ends))]
-pub(crate) fn compare(text: &[u8], literal: &[u8]) -> Comparison
+pub(crate) fn compare(text: &[u8], literal: &[u8]) -> LiteralComparison
     ensures begins { result.begins ≡ begins_with text.now literal.now }
     ensures compared { result.compared ≡ compared text.now literal.now }
     ensures within { result.compared ≤ length text.now }
@@ -21,19 +21,19 @@ pub(crate) fn compare(text: &[u8], literal: &[u8]) -> Comparison
 {
     for (i, b) in literal.iter().enumerate() {
         if i >= text.len() {
-            return Comparison {
+            return LiteralComparison {
                 begins: false,
                 compared: i,
             };
         }
         if text[i] != *b {
-            return Comparison {
+            return LiteralComparison {
                 begins: false,
                 compared: i + 1,
             };
         }
     }
-    Comparison {
+    LiteralComparison {
         begins: true,
         compared: literal.len(),
     }

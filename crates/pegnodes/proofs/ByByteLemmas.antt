@@ -7,52 +7,52 @@ use Rattle.pegnodes.specs.ByByte.{by_no_bytes, by_one_byte, by_other_byte, by_na
 use Rattle.pegnodes.specs.ByByte.{by_opt_some, by_opt_none, by_and, by_and_fails, by_not, by_not_fails, by_no_turn}
 use Rattle.pegnodes.specs.ByByte.{by_no_plus, ByMembers, members_end, member_stays, member_fails, member_takes}
 use Rattle.pegnodes.specs.ByByte.{ByAlternatives, alternatives_end, alternative_fails, alternative_succeeds}
-use Rattle.pegnodes.specs.declared.by_byte.Verdict.{Verdict}
-use Rattle.pegnodes.specs.declared.by_byte.Verdict.TheVariants.{Takes, Stays, Fails}
+use Rattle.pegnodes.specs.declared.by_byte.ByteVerdict.{ByteVerdict}
+use Rattle.pegnodes.specs.declared.by_byte.ByteVerdict.TheVariants.{Takes, Stays, Fails}
 
-pub succeeds_not_fails : (v : Verdict) → Succeeds v → v ≡ Fails → ⊥
+pub succeeds_not_fails : (v : ByteVerdict) → Succeeds v → v ≡ Fails → ⊥
 succeeds_not_fails Takes h is = cc is
 succeeds_not_fails Stays h is = cc is
 succeeds_not_fails Fails h is = h
 
 -- the same verdict and the same number
-pub record Agree (v w : Verdict) (c d : ℕ) : Type 0 where
+pub record Agree (v w : ByteVerdict) (c d : ℕ) : Type 0 where
   pub same : v ≡ w
   pub count : c ≡ d
 
-agree_more : {v w : Verdict} {c d : ℕ} → Agree v w c d → Agree v w (1 + c) (1 + d)
+agree_more : {v w : ByteVerdict} {c d : ℕ} → Agree v w c d → Agree v w (1 + c) (1 + d)
 agree_more a = let is = a.count in record { same = a.same; count = omega (arith, is) }
 
-agree_as : {v w t u : Verdict} {c d : ℕ} → t ≡ u → Agree v w c d → Agree t u (1 + c) (1 + d)
+agree_as : {v w t u : ByteVerdict} {c d : ℕ} → t ≡ u → Agree v w c d → Agree t u (1 + c) (1 + d)
 agree_as same a = let is = a.count in record { same = same; count = omega (arith, is) }
 
 module _ (nodes : List Shape) (bodies : List ℕ) (marks : ℕ → Bool) (tails : ℕ → ℕ → Bool) (b : ℕ) where
-  abbrev B : ℕ → Verdict → ℕ → Type 0
+  abbrev B : ℕ → ByteVerdict → ℕ → Type 0
   B m v c = Below nodes bodies marks tails b m v c
 
-  abbrev S : ℕ → Shape → Verdict → ℕ → Type 0
+  abbrev S : ℕ → Shape → ByteVerdict → ℕ → Type 0
   S n s v c = ByShape nodes bodies marks tails b n s v c
 
-  abbrev M : ℕ → List ℕ → ℕ → Verdict → ℕ → Type 0
+  abbrev M : ℕ → List ℕ → ℕ → ByteVerdict → ℕ → Type 0
   M n ms i v c = ByMembers nodes bodies marks tails b n ms i v c
 
-  abbrev A : ℕ → List ℕ → ℕ → Verdict → ℕ → Type 0
+  abbrev A : ℕ → List ℕ → ℕ → ByteVerdict → ℕ → Type 0
   A n ms i v c = ByAlternatives nodes bodies marks tails b n ms i v c
 
-  same_node : {m k c : ℕ} {v : Verdict} → k ≡ m → B k v c → B m v c
+  same_node : {m k c : ℕ} {v : ByteVerdict} → k ≡ m → B k v c → B m v c
   same_node {c = c} {v = v} is h = subst (λ j. B j v c) is h
 
   mutual
-    pub verdicts_agree : {n c d : ℕ} {v w : Verdict} → ByByte nodes bodies marks tails b n v c
+    pub verdicts_agree : {n c d : ℕ} {v w : ByteVerdict} → ByByte nodes bodies marks tails b n v c
         → ByByte nodes bodies marks tails b n w d → Agree v w c d
     verdicts_agree {n = n} {d = d} {w = w} (by_shape {s = s} at h) (by_shape {s = t} there k) =
         let same : t ≡ s = cc (at, there) in
         shapes_agree h (subst (λ u. S n u w d) same k)
 
-    below_agrees : {n c d : ℕ} {v w : Verdict} → B n v c → B n w d → Agree v w c d
+    below_agrees : {n c d : ℕ} {v w : ByteVerdict} → B n v c → B n w d → Agree v w c d
     below_agrees (below t h) (below u k) = verdicts_agree h k
 
-    shapes_agree : {n c d : ℕ} {s : Shape} {v w : Verdict} → S n s v c → S n s w d → Agree v w c d
+    shapes_agree : {n c d : ℕ} {s : Shape} {v w : ByteVerdict} → S n s v c → S n s w d → Agree v w c d
     shapes_agree by_any by_any = record { same = refl; count = refl }
     shapes_agree (by_set_in t) (by_set_in u) = record { same = refl; count = refl }
     shapes_agree (by_set_in t) (by_set_out u) = absurd (cc (t, u))
@@ -86,7 +86,7 @@ module _ (nodes : List Shape) (bodies : List ℕ) (marks : ℕ → Bool) (tails 
     shapes_agree (by_no_turn h) (by_no_turn k) = agree_as refl (below_agrees h k)
     shapes_agree (by_no_plus h) (by_no_plus k) = agree_as refl (below_agrees h k)
 
-    members_agree : {n i c d : ℕ} {ms : List ℕ} {v w : Verdict} → M n ms i v c → M n ms i w d → Agree v w c d
+    members_agree : {n i c d : ℕ} {ms : List ℕ} {v w : ByteVerdict} → M n ms i v c → M n ms i w d → Agree v w c d
     members_agree (members_end e) (members_end f) = record { same = refl; count = refl }
     members_agree (members_end e) (member_stays f u k l) = absurd (cc (e, f))
     members_agree (members_end e) (member_fails f u k) = absurd (cc (e, f))
@@ -115,7 +115,7 @@ module _ (nodes : List Shape) (bodies : List ℕ) (marks : ℕ → Bool) (tails 
         absurd (let is = (below_agrees h (same_node (cc (e, f)) k)).same in cc is)
     members_agree (member_takes e z t h) (member_takes f g u k) = below_agrees h (same_node (cc (e, f)) k)
 
-    alternatives_agree : {n i c d : ℕ} {ms : List ℕ} {v w : Verdict} → A n ms i v c → A n ms i w d → Agree v w c d
+    alternatives_agree : {n i c d : ℕ} {ms : List ℕ} {v w : ByteVerdict} → A n ms i v c → A n ms i w d → Agree v w c d
     alternatives_agree (alternatives_end e) (alternatives_end f) = record { same = refl; count = refl }
     alternatives_agree (alternatives_end e) (alternative_fails f u k l) = absurd (cc (e, f))
     alternatives_agree (alternatives_end e) (alternative_succeeds f u s k) = absurd (cc (e, f))

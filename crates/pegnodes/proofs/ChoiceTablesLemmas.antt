@@ -9,7 +9,7 @@ use Rattle.pegnodes.specs.ChoiceTables.{FailFirst, fail_more}
 use Rattle.pegnodes.specs.Decides.{mark_in, tail_in}
 use Rattle.pegnodes.specs.Nodes.{Choice, shapes_of}
 use Rattle.pegnodes.specs.declared.by_byte.MarkedNodes.{MarkedNodes}
-use Rattle.pegnodes.specs.declared.by_byte.Verdict.TheVariants.{Fails}
+use Rattle.pegnodes.specs.declared.by_byte.ByteVerdict.TheVariants.{Fails}
 use Rattle.pegnodes.specs.declared.choice_table.Skip.{Skip}
 use Rattle.pegnodes.proofs.ByteTablesLemmas.{get_pushed}
 use Rattle.pegnodes.proofs.KeyNeedsLemmas.{tails_at}

@@ -17,8 +17,8 @@ use Rattle.pegnodes.specs.Decides.{DecidesAlternatives}
 use Rattle.pegnodes.specs.KeyLists.{tails_of}
 use Rattle.pegnodes.specs.declared.by_byte.Decided.{Decided}
 use Rattle.pegnodes.specs.declared.by_byte.MarkedNodes.{MarkedNodes}
-use Rattle.pegnodes.specs.declared.by_byte.Verdict.{Verdict}
-use Rattle.pegnodes.specs.declared.by_byte.Verdict.TheVariants.{Takes, Stays, Fails}
+use Rattle.pegnodes.specs.declared.by_byte.ByteVerdict.{ByteVerdict}
+use Rattle.pegnodes.specs.declared.by_byte.ByteVerdict.TheVariants.{Takes, Stays, Fails}
 use Rattle.pegnodes.proofs.KeyNeedsLemmas.{tails_at}
 
 -- a literal of one byte or none, or that begins with another byte
@@ -39,7 +39,8 @@ first_alone g b n c (a ∷ []) is same one = by_one_byte (cc (is, same))
 first_alone g b n c (a ∷ (e ∷ cs)) is same one = absurd (omega (arith, one))
 
 -- a verdict and a sum, for a shape
-pub shape_of_sum : (g : MarkedNodes) (b n c : ℕ) (s : Shape) (v : Verdict) (d : Decided) → d.verdict ≡ v → d.count ≡ c
+pub shape_of_sum : (g : MarkedNodes) (b n c : ℕ) (s : Shape) (v : ByteVerdict) (d : Decided) → d.verdict ≡ v
+    → d.count ≡ c
     → ByShape (shapes_of g.nodes.now) g.bodies.now (mark_in g) (tail_in g) b n s v c
     → DecidesShape g b n s d
 shape_of_sum g b n c s v d same sum h =
@@ -48,19 +49,20 @@ shape_of_sum g b n c s v d same sum h =
     (subst (λ e. ByShape (shapes_of g.nodes.now) g.bodies.now (mark_in g) (tail_in g) b n s v e)
     (sym sum) h)
 
-pub below_of : (g : MarkedNodes) (b m : ℕ) (v : Verdict) (d : Decided) → d.verdict ≡ v → DecidesBelow g b m d
+pub below_of : (g : MarkedNodes) (b m : ℕ) (v : ByteVerdict) (d : Decided) → d.verdict ≡ v → DecidesBelow g b m d
     → Below (shapes_of g.nodes.now) g.bodies.now (mark_in g) (tail_in g) b m v d.count
 below_of g b m v d same h =
     subst (λ w. Below (shapes_of g.nodes.now) g.bodies.now (mark_in g) (tail_in g) b m w d.count)
     same h
 
 -- the verdict of a node with an operand, from the operand's
-abbrev pub Lifts : (ℕ → Shape) → Verdict → Verdict → Type 0
+abbrev pub Lifts : (ℕ → Shape) → ByteVerdict → ByteVerdict → Type 0
 Lifts shape v w = (g : MarkedNodes) (b n m c : ℕ)
     → Below (shapes_of g.nodes.now) g.bodies.now (mark_in g) (tail_in g) b m v c
     → ByShape (shapes_of g.nodes.now) g.bodies.now (mark_in g) (tail_in g) b n (shape m) w (1 + c)
 
-pub verdict_lifted : (shape : ℕ → Shape) (o : Decided) (v w u : Verdict) (r : Option Decided) → o.verdict ≡ v → u ≡ w
+pub verdict_lifted : (shape : ℕ → Shape) (o : Decided) (v w u : ByteVerdict) (r : Option Decided) → o.verdict ≡ v
+    → u ≡ w
     → Lifts shape v w → IfSome r (λ d. (d.verdict ≡ u) × (d.count ≡ 1 + o.count))
     → IfSome r (λ d. (g : MarkedNodes) (b n m : ℕ) → DecidesBelow g b m o → DecidesShape g b n (shape m) d)
 verdict_lifted shape o v w u None is same lifts h = tt
@@ -137,21 +139,21 @@ choice_decides g b n ms o d h sum =
     shape_of_sum g b n (1 + o.count) (Choice ms) o.verdict d sum.0 sum.1 (by_alternatives h)
 
 module _ (g : MarkedNodes) (b n : ℕ) (ms : List ℕ) (i : ℕ) where
-  abbrev M : ℕ → Verdict → ℕ → Type 0
+  abbrev M : ℕ → ByteVerdict → ℕ → Type 0
   M j v c = ByMembers (shapes_of g.nodes.now) g.bodies.now (mark_in g) (tail_in g) b n ms j v c
 
-  abbrev A : ℕ → Verdict → ℕ → Type 0
+  abbrev A : ℕ → ByteVerdict → ℕ → Type 0
   A j v c = ByAlternatives (shapes_of g.nodes.now) g.bodies.now (mark_in g) (tail_in g) b n ms j v c
 
-  members_as : (j k c d : ℕ) (v w : Verdict) → j ≡ k → v ≡ w → c ≡ d → M j v c → M k w d
+  members_as : (j k c d : ℕ) (v w : ByteVerdict) → j ≡ k → v ≡ w → c ≡ d → M j v c → M k w d
   members_as j k c d v w place same sum h =
       subst (λ e. M k w e) sum (subst (λ u. M k u c) same (subst (λ e. M e v c) place h))
 
-  alternatives_as : (j k c d : ℕ) (v w : Verdict) → j ≡ k → v ≡ w → c ≡ d → A j v c → A k w d
+  alternatives_as : (j k c d : ℕ) (v w : ByteVerdict) → j ≡ k → v ≡ w → c ≡ d → A j v c → A k w d
   alternatives_as j k c d v w place same sum h =
       subst (λ e. A k w e) sum (subst (λ u. A k u c) same (subst (λ e. A e v c) place h))
 
-  module _ (count : ℕ) (all : (v : Verdict) (d : ℕ) → M i v d → M 0 v (count + d)) where
+  module _ (count : ℕ) (all : (v : ByteVerdict) (d : ℕ) → M i v d → M 0 v (count + d)) where
     pub members_done : length ms ≤ i → DecidesMembers g b n ms (record { verdict = Stays; count = count })
     members_done le = members_as 0 0 (count + 0) count Stays Stays refl refl (omega arith)
         (all Stays 0 (members_end (slice_get_past ms i le)))
@@ -162,7 +164,7 @@ module _ (g : MarkedNodes) (b n : ℕ) (ms : List ℕ) (i : ℕ) where
       seq_has_no_key : tail_in g n i ≡ false
       seq_has_no_key = sym (tails_at (shapes_of g.nodes.now) g.keys.now g.behind.now n i (Seq ms) at) ∙ t
 
-      pub members_more : m.verdict ≡ Stays → (v : Verdict) (e : ℕ) → M (i + 1) v e → M 0 v (d.count + e)
+      pub members_more : m.verdict ≡ Stays → (v : ByteVerdict) (e : ℕ) → M (i + 1) v e → M 0 v (d.count + e)
       members_more is v e r =
           let whole = sum.1 in
           members_as 0 0 (count + (m.count + e)) (d.count + e) v v refl refl (omega (arith, whole))
@@ -185,7 +187,7 @@ module _ (g : MarkedNodes) (b n : ℕ) (ms : List ℕ) (i : ℕ) where
           seq_has_no_key
           (below_of g b (get_or ms i 0) Takes m is h)))
 
-  module _ (count : ℕ) (all : (v : Verdict) (d : ℕ) → A i v d → A 0 v (count + d)) where
+  module _ (count : ℕ) (all : (v : ByteVerdict) (d : ℕ) → A i v d → A 0 v (count + d)) where
     pub alternatives_done : length ms ≤ i → DecidesAlternatives g b n ms (record { verdict = Fails; count = count })
     alternatives_done le = alternatives_as 0 0 (count + 0) count Fails Fails refl refl (omega arith)
         (all Fails 0 (alternatives_end (slice_get_past ms i le)))
@@ -195,7 +197,7 @@ module _ (g : MarkedNodes) (b n : ℕ) (ms : List ℕ) (i : ℕ) where
       choice_has_no_key : tail_in g n i ≡ false
       choice_has_no_key = sym (tails_at (shapes_of g.nodes.now) g.keys.now g.behind.now n i (Choice ms) at)
 
-      pub alternatives_more : m.verdict ≡ Fails → (v : Verdict) (e : ℕ) → A (i + 1) v e → A 0 v (d.count + e)
+      pub alternatives_more : m.verdict ≡ Fails → (v : ByteVerdict) (e : ℕ) → A (i + 1) v e → A 0 v (d.count + e)
       alternatives_more is v e r =
           let whole = sum.1 in
           alternatives_as 0 0 (count + (m.count + e)) (d.count + e) v v refl refl (omega (arith, whole))
@@ -208,8 +210,8 @@ module _ (g : MarkedNodes) (b n : ℕ) (ms : List ℕ) (i : ℕ) where
           alternatives_as 0 0 (count + m.count) d.count m.verdict d.verdict refl (sym sum.0) (sym sum.1)
           (all m.verdict m.count (alternative_succeeds (slice_get-get_or ms i 0 lt) choice_has_no_key is h))
 
-pub takes_succeeds : (v : Verdict) → v ≡ Takes → Succeeds v
+pub takes_succeeds : (v : ByteVerdict) → v ≡ Takes → Succeeds v
 takes_succeeds v is = subst Succeeds (sym is) tt
 
-pub stays_succeeds : (v : Verdict) → v ≡ Stays → Succeeds v
+pub stays_succeeds : (v : ByteVerdict) → v ≡ Stays → Succeeds v
 stays_succeeds v is = subst Succeeds (sym is) tt

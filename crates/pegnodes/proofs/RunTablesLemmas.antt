@@ -11,13 +11,13 @@ use Rattle.pegnodes.specs.ByByte.{ByByte, AreTurns, turns_none, turns_more}
 use Rattle.pegnodes.specs.Nodes.{Shape}
 use Rattle.pegnodes.specs.RunTables.{pairs_by, turn_pairs, TurnsTo, IsRun, IsRunTo}
 use Rattle.pegnodes.specs.declared.by_byte.Decided.{Decided}
-use Rattle.pegnodes.specs.declared.by_byte.Verdict.{Verdict}
-use Rattle.pegnodes.specs.declared.by_byte.Verdict.TheVariants.{Takes, Stays, Fails}
+use Rattle.pegnodes.specs.declared.by_byte.ByteVerdict.{ByteVerdict}
+use Rattle.pegnodes.specs.declared.by_byte.ByteVerdict.TheVariants.{Takes, Stays, Fails}
 use Rattle.pegnodes.specs.declared.run_table.Run.{Run}
-use Rattle.pegnodes.specs.declared.run_table.Stop.{Stop}
+use Rattle.pegnodes.specs.declared.run_table.StopByte.{StopByte}
 
 module _ (nodes : List Shape) (bodies : List ℕ) (marks : ℕ → Bool) (tails : ℕ → ℕ → Bool) (b k : ℕ) where
-  abbrev By : Verdict → ℕ → Type 0
+  abbrev By : ByteVerdict → ℕ → Type 0
   By v c = ByByte nodes bodies marks tails b k v c
 
   -- the number of a byte that is taken
@@ -26,7 +26,7 @@ module _ (nodes : List Shape) (bodies : List ℕ) (marks : ℕ → Bool) (tails 
     pub by : By Takes count
     pub is : m ≡ 1 + count
 
-  verdict_takes : (v : Verdict) (c m : ℕ) → By v c → pairs_by v c ≡ m → (m ≡ 0 → ⊥) → IsTaken m
+  verdict_takes : (v : ByteVerdict) (c m : ℕ) → By v c → pairs_by v c ≡ m → (m ≡ 0 → ⊥) → IsTaken m
   verdict_takes Takes c m h is some = record { count = c; by = h; is = omega (arith, is) }
   verdict_takes Stays c m h is some = absurd (some (sym is))
   verdict_takes Fails c m h is some = absurd (some (sym is))
@@ -84,7 +84,7 @@ module _ (entries : List (Option Decided)) (x : List ℕ) (from : ℕ) where
   pub same_byte_at : (to b : ℕ) → slice_get x to ≡ Some b → get_or x to 0 ≡ b
   same_byte_at to b is = get_or_from_slice_get x to b 0 is
 
-  module _ (s : Stop) (end : ℕ) (run : Run) (within : end ≤ length x) (bytes : (i : ℕ) → get_or x i 0 < 256)
+  module _ (s : StopByte) (end : ℕ) (run : Run) (within : end ≤ length x) (bytes : (i : ℕ) → get_or x i 0 < 256)
       (to : IsRunTo s x from end run)
       (none : turn_pairs (slice_get entries s.byte) ≡ 0) (some : 0 < s.pairs)
       (others : (b : ℕ) → b < 256 → (b ≡ s.byte → ⊥) → turn_pairs (slice_get entries b) ≡ s.pairs) where
@@ -113,7 +113,7 @@ module _ (entries : List (Option Decided)) (x : List ℕ) (from : ℕ) where
         }
 
 -- the search for the byte
-module _ (s : Stop) (x : List ℕ) (from to end pairs : ℕ) (low : from ≤ to) (within : to ≤ length x)
+module _ (s : StopByte) (x : List ℕ) (from to end pairs : ℕ) (low : from ≤ to) (within : to ≤ length x)
     (is : pairs ≡ (end - from) * s.pairs) where
   abbrev Hay : List ℕ
   Hay = take (to - from) (drop from x)

@@ -2,10 +2,10 @@
 use Rattle.std.specs.Prelude.{◌≡◌, ℕ, zero, suc, ◌+◌, Bool, true, false, List, [], ◌∷◌, slice_get}
 use Rattle.std.specs.Prelude.{Some, None}
 use Rattle.pegnodes.specs.Nodes.{Shape, Any, Bytes, Set, Name, Seq, Choice, Star, Plus, Opt, And, Not}
-use Rattle.pegnodes.specs.declared.by_byte.Verdict.{Verdict}
-use Rattle.pegnodes.specs.declared.by_byte.Verdict.TheVariants.{Takes, Stays, Fails}
+use Rattle.pegnodes.specs.declared.by_byte.ByteVerdict.{ByteVerdict}
+use Rattle.pegnodes.specs.declared.by_byte.ByteVerdict.TheVariants.{Takes, Stays, Fails}
 
-abbrev pub Succeeds : Verdict → Type 0
+abbrev pub Succeeds : ByteVerdict → Type 0
 Succeeds Takes = Unit {0}
 Succeeds Stays = Unit {0}
 Succeeds Fails = ⊥
@@ -15,39 +15,39 @@ module _ (nodes : List Shape) (bodies : List ℕ) (marks : ℕ → Bool) (tails 
   mutual
     -- Byte b alone decides that node n takes it, succeeds without it, or fails. That evaluates so many pairs of a node
     -- and the place, and none of them but n's is a key.
-    pub data ByByte : ℕ → Verdict → ℕ → Type 0 where
-      by_shape : {n c : ℕ} {v : Verdict} {s : Shape} → slice_get nodes n ≡ Some s → ByShape n s v c → ByByte n v c
+    pub data ByByte : ℕ → ByteVerdict → ℕ → Type 0 where
+      by_shape : {n c : ℕ} {v : ByteVerdict} {s : Shape} → slice_get nodes n ≡ Some s → ByShape n s v c → ByByte n v c
 
     -- likewise node m below, which is no key itself
-    pub data Below : ℕ → Verdict → ℕ → Type 0 where
-      below : {m c : ℕ} {v : Verdict} → marks m ≡ false → ByByte m v c → Below m v c
+    pub data Below : ℕ → ByteVerdict → ℕ → Type 0 where
+      below : {m c : ℕ} {v : ByteVerdict} → marks m ≡ false → ByByte m v c → Below m v c
 
     -- likewise node n of this shape
-    pub data ByShape : ℕ → Shape → Verdict → ℕ → Type 0 where
+    pub data ByShape : ℕ → Shape → ByteVerdict → ℕ → Type 0 where
       by_any : {n : ℕ} → ByShape n Any Takes 1
       by_set_in : {n : ℕ} {s : ℕ → Bool} → s b ≡ true → ByShape n (Set s) Takes 1
       by_set_out : {n : ℕ} {s : ℕ → Bool} → s b ≡ false → ByShape n (Set s) Fails 1
       by_no_bytes : {n : ℕ} → ByShape n (Bytes []) Stays 1
       by_one_byte : {n c : ℕ} → c ≡ b → ByShape n (Bytes (c ∷ [])) Takes 1
       by_other_byte : {n c : ℕ} {cs : List ℕ} → (c ≡ b → ⊥) → ByShape n (Bytes (c ∷ cs)) Fails 1
-      by_name : {n id m c : ℕ} {v : Verdict} → slice_get bodies id ≡ Some m → Below m v c
+      by_name : {n id m c : ℕ} {v : ByteVerdict} → slice_get bodies id ≡ Some m → Below m v c
           → ByShape n (Name id) v (1 + c)
-      by_members : {n c : ℕ} {ms : List ℕ} {v : Verdict} → ByMembers n ms 0 v c → ByShape n (Seq ms) v (1 + c)
-      by_alternatives : {n c : ℕ} {ms : List ℕ} {v : Verdict} → ByAlternatives n ms 0 v c
+      by_members : {n c : ℕ} {ms : List ℕ} {v : ByteVerdict} → ByMembers n ms 0 v c → ByShape n (Seq ms) v (1 + c)
+      by_alternatives : {n c : ℕ} {ms : List ℕ} {v : ByteVerdict} → ByAlternatives n ms 0 v c
           → ByShape n (Choice ms) v (1 + c)
-      by_opt_some : {n m c : ℕ} {v : Verdict} → Succeeds v → Below m v c → ByShape n (Opt m) v (1 + c)
+      by_opt_some : {n m c : ℕ} {v : ByteVerdict} → Succeeds v → Below m v c → ByShape n (Opt m) v (1 + c)
       by_opt_none : {n m c : ℕ} → Below m Fails c → ByShape n (Opt m) Stays (1 + c)
-      by_and : {n m c : ℕ} {v : Verdict} → Succeeds v → Below m v c → ByShape n (And m) Stays (1 + c)
+      by_and : {n m c : ℕ} {v : ByteVerdict} → Succeeds v → Below m v c → ByShape n (And m) Stays (1 + c)
       by_and_fails : {n m c : ℕ} → Below m Fails c → ByShape n (And m) Fails (1 + c)
       by_not : {n m c : ℕ} → Below m Fails c → ByShape n (Not m) Stays (1 + c)
-      by_not_fails : {n m c : ℕ} {v : Verdict} → Succeeds v → Below m v c → ByShape n (Not m) Fails (1 + c)
+      by_not_fails : {n m c : ℕ} {v : ByteVerdict} → Succeeds v → Below m v c → ByShape n (Not m) Fails (1 + c)
       by_no_turn : {n m c : ℕ} → Below m Fails c → ByShape n (Star m) Stays (1 + c)
       by_no_plus : {n m s c : ℕ} → Below m Fails c → ByShape n (Plus m s) Fails (1 + c)
 
     -- Of the members of a sequence from the i-th on, one that fails ends it, and only the last one takes the byte.
-    pub data ByMembers : ℕ → List ℕ → ℕ → Verdict → ℕ → Type 0 where
+    pub data ByMembers : ℕ → List ℕ → ℕ → ByteVerdict → ℕ → Type 0 where
       members_end : {n i : ℕ} {ms : List ℕ} → slice_get ms i ≡ None → ByMembers n ms i Stays 0
-      member_stays : {n i m c d : ℕ} {ms : List ℕ} {v : Verdict}
+      member_stays : {n i m c d : ℕ} {ms : List ℕ} {v : ByteVerdict}
           → slice_get ms i ≡ Some m → tails n i ≡ false → Below m Stays c
           → ByMembers n ms (suc i) v d → ByMembers n ms i v (c + d)
       member_fails : {n i m c : ℕ} {ms : List ℕ} → slice_get ms i ≡ Some m → tails n i ≡ false → Below m Fails c
@@ -57,12 +57,12 @@ module _ (nodes : List Shape) (bodies : List ℕ) (marks : ℕ → Bool) (tails 
           → Below m Takes c → ByMembers n ms i Takes c
 
     -- Of the alternatives of a choice from the i-th on, the first one that succeeds decides.
-    pub data ByAlternatives : ℕ → List ℕ → ℕ → Verdict → ℕ → Type 0 where
+    pub data ByAlternatives : ℕ → List ℕ → ℕ → ByteVerdict → ℕ → Type 0 where
       alternatives_end : {n i : ℕ} {ms : List ℕ} → slice_get ms i ≡ None → ByAlternatives n ms i Fails 0
-      alternative_fails : {n i m c d : ℕ} {ms : List ℕ} {v : Verdict}
+      alternative_fails : {n i m c d : ℕ} {ms : List ℕ} {v : ByteVerdict}
           → slice_get ms i ≡ Some m → tails n i ≡ false → Below m Fails c
           → ByAlternatives n ms (suc i) v d → ByAlternatives n ms i v (c + d)
-      alternative_succeeds : {n i m c : ℕ} {ms : List ℕ} {v : Verdict}
+      alternative_succeeds : {n i m c : ℕ} {ms : List ℕ} {v : ByteVerdict}
           → slice_get ms i ≡ Some m → tails n i ≡ false → Succeeds v
           → Below m v c → ByAlternatives n ms i v c
 

@@ -2,7 +2,7 @@
 use Rattle.std.specs.Prelude.{◌≡◌, ℕ, suc, ◌+◌, Bool, false, List, slice_get, Some}
 use Rattle.pegnodes.specs.ByByte.{Below}
 use Rattle.pegnodes.specs.Nodes.{Shape}
-use Rattle.pegnodes.specs.declared.by_byte.Verdict.TheVariants.{Fails}
+use Rattle.pegnodes.specs.declared.by_byte.ByteVerdict.TheVariants.{Fails}
 use Rattle.pegnodes.specs.declared.choice_table.Skip.{Skip}
 
 module _ (nodes : List Shape) (bodies : List ℕ) (marks : ℕ → Bool) (tails : ℕ → ℕ → Bool) (b : ℕ) where

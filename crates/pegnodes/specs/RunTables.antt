@@ -3,10 +3,10 @@ use Rattle.std.specs.Prelude.{◌≡◌, ℕ, ◌+◌, ◌-◌, ◌*◌, ◌<◌
 use Rattle.pegnodes.specs.ByByte.{ByByte, AreTurns}
 use Rattle.pegnodes.specs.Nodes.{Shape}
 use Rattle.pegnodes.specs.declared.by_byte.Decided.{Decided}
-use Rattle.pegnodes.specs.declared.by_byte.Verdict.{Verdict}
-use Rattle.pegnodes.specs.declared.by_byte.Verdict.TheVariants.{Takes, Stays, Fails}
+use Rattle.pegnodes.specs.declared.by_byte.ByteVerdict.{ByteVerdict}
+use Rattle.pegnodes.specs.declared.by_byte.ByteVerdict.TheVariants.{Takes, Stays, Fails}
 use Rattle.pegnodes.specs.declared.run_table.Run.{Run}
-use Rattle.pegnodes.specs.declared.run_table.Stop.{Stop}
+use Rattle.pegnodes.specs.declared.run_table.StopByte.{StopByte}
 
 -- the entry of a byte, if it has one, is what the byte decides of node n
 abbrev pub IsTable : List Shape → List ℕ → (ℕ → Bool) → (ℕ → ℕ → Bool) → ℕ → List (Option Decided) → Type 0
@@ -14,7 +14,7 @@ IsTable nodes bodies marks tails n entries = (b : ℕ) (d : Decided) → slice_g
     → ByByte nodes bodies marks tails b n d.verdict d.count
 
 -- how many pairs a turn of a repetition over such a byte is, or 0 if the byte is not taken
-abbrev pub pairs_by : Verdict → ℕ → ℕ
+abbrev pub pairs_by : ByteVerdict → ℕ → ℕ
 pairs_by Takes count = count + 1
 pairs_by Stays count = 0
 pairs_by Fails count = 0
@@ -29,8 +29,8 @@ abbrev pub OthersTake : List (Option Decided) → ℕ → ℕ → Type 0
 OthersTake entries byte pairs = (b : ℕ) → b < 256 → (b ≡ byte → ⊥) → turn_pairs (slice_get entries b) ≡ pairs
 
 -- there is one byte alone that is not taken
-abbrev pub IsStop : List (Option Decided) → Option Stop → Type 0
-IsStop entries stop = (s : Stop) → stop ≡ Some s → (turn_pairs (slice_get entries s.byte) ≡ 0) × (0 < s.pairs)
+abbrev pub IsStop : List (Option Decided) → Option StopByte → Type 0
+IsStop entries stop = (s : StopByte) → stop ≡ Some s → (turn_pairs (slice_get entries s.byte) ≡ 0) × (0 < s.pairs)
     × OthersTake entries s.byte s.pairs
 
 module _ (entries : List (Option Decided)) (x : List ℕ) (from : ℕ) where
@@ -48,7 +48,7 @@ module _ (entries : List (Option Decided)) (x : List ℕ) (from : ℕ) where
     pub ends : run.end < to → (b : ℕ) → slice_get x run.end ≡ Some b → turn_pairs (slice_get entries b) ≡ 0
 
 -- The run goes on to this byte, or to place `to`; each byte before is so many pairs.
-pub record IsRunTo (stop : Stop) (x : List ℕ) (from to : ℕ) (run : Run) : Type 0 where
+pub record IsRunTo (stop : StopByte) (x : List ℕ) (from to : ℕ) (run : Run) : Type 0 where
   pub low : from ≤ run.end
   pub high : run.end ≤ to
   pub before : (i : ℕ) → from ≤ i → i < run.end → slice_get x i ≡ Some stop.byte → ⊥

@@ -5,7 +5,7 @@ ghost use Rattle.pegnodes.specs.Decides.{Decides, DecidesBelow, DecidesShape, De
 ghost use Rattle.pegnodes.specs.Nodes.{Shape, Bytes, Set, Name, Seq, Choice, Star, Plus, Opt, And, Not};
 ghost use Rattle.pegnodes.specs.Nodes.{shape_of, shapes_of};
 ghost use Rattle.pegnodes.specs.declared.by_byte.MarkedNodes.{MarkedNodes};
-ghost use Rattle.pegnodes.specs.declared.by_byte.Verdict.{Verdict};
+ghost use Rattle.pegnodes.specs.declared.by_byte.ByteVerdict.{ByteVerdict};
 
 use crate::keys::{is_key_of_members, mark_or};
 use crate::node::Node;
@@ -13,7 +13,7 @@ use ruletable::ByteSet;
 
 /// Says what a node does at a position, where the byte there alone decides it.
 #[derive(Clone, Copy)]
-pub enum Verdict {
+pub enum ByteVerdict {
     /// Takes the byte.
     Takes,
     /// Succeeds and takes nothing.
@@ -26,7 +26,7 @@ pub enum Verdict {
 #[derive(Clone, Copy)]
 pub struct Decided {
     /// The outcome.
-    pub verdict: Verdict,
+    pub verdict: ByteVerdict,
     /// How many pairs of a node and a position its evaluation visits.
     pub count: u16,
 }
@@ -67,7 +67,7 @@ fn body_at(bodies: &[usize], id: usize) -> Option<usize>
 }
 
 // Returns a verdict with the sum of two numbers, if that is not too great.
-pub(crate) fn summed(verdict: Verdict, count: u16, more: u16) -> Option<Decided>
+pub(crate) fn summed(verdict: ByteVerdict, count: u16, more: u16) -> Option<Decided>
     ensures { IfSome result (λ d. (d.verdict ≡ verdict) × (d.count ≡ count + more)) }
 {
     let count = count.checked_add(more)?;
@@ -82,9 +82,9 @@ fn by_set(set: &ByteSet, b: u8) -> Decided
     ensures { (g : MarkedNodes) (n : ℕ) → DecidesShape g b n (Set (λ c. get_or set.now c false)) result }
 {
     let verdict = if set.has(b) {
-        Verdict::Takes
+        ByteVerdict::Takes
     } else {
-        Verdict::Fails
+        ByteVerdict::Fails
     };
     Decided { verdict, count: 1 }
 }
@@ -94,12 +94,12 @@ fn by_bytes(bytes: &[u8], b: u8) -> Option<Decided>
     ensures { IfSome result (λ d. (g : MarkedNodes) (n : ℕ) → DecidesShape g b n (Bytes bytes.now) d) }
 {
     let verdict = match bytes.first() {
-        None => Verdict::Stays,
+        None => ByteVerdict::Stays,
         Some(first) => {
             if *first != b {
-                Verdict::Fails
+                ByteVerdict::Fails
             } else if bytes.len() == 1 {
-                Verdict::Takes
+                ByteVerdict::Takes
             } else {
                 return None;
             }
@@ -114,9 +114,9 @@ fn over_opt(operand: Decided) -> Option<Decided>
         DecidesShape g b n (Opt m) d) }
 {
     let verdict = match operand.verdict {
-        Verdict::Takes => Verdict::Takes,
-        Verdict::Stays => Verdict::Stays,
-        Verdict::Fails => Verdict::Stays,
+        ByteVerdict::Takes => ByteVerdict::Takes,
+        ByteVerdict::Stays => ByteVerdict::Stays,
+        ByteVerdict::Fails => ByteVerdict::Stays,
     };
     summed(verdict, 1, operand.count)
 }
@@ -127,9 +127,9 @@ fn over_and(operand: Decided) -> Option<Decided>
         DecidesShape g b n (And m) d) }
 {
     let verdict = match operand.verdict {
-        Verdict::Takes => Verdict::Stays,
-        Verdict::Stays => Verdict::Stays,
-        Verdict::Fails => Verdict::Fails,
+        ByteVerdict::Takes => ByteVerdict::Stays,
+        ByteVerdict::Stays => ByteVerdict::Stays,
+        ByteVerdict::Fails => ByteVerdict::Fails,
     };
     summed(verdict, 1, operand.count)
 }
@@ -140,9 +140,9 @@ fn over_not(operand: Decided) -> Option<Decided>
         DecidesShape g b n (Not m) d) }
 {
     let verdict = match operand.verdict {
-        Verdict::Takes => Verdict::Fails,
-        Verdict::Stays => Verdict::Fails,
-        Verdict::Fails => Verdict::Stays,
+        ByteVerdict::Takes => ByteVerdict::Fails,
+        ByteVerdict::Stays => ByteVerdict::Fails,
+        ByteVerdict::Fails => ByteVerdict::Stays,
     };
     summed(verdict, 1, operand.count)
 }
@@ -153,8 +153,8 @@ fn over_star(operand: Decided) -> Option<Decided>
         DecidesShape g b n (Star m) d) }
 {
     match operand.verdict {
-        Verdict::Fails => summed(Verdict::Stays, 1, operand.count),
-        Verdict::Takes | Verdict::Stays => None,
+        ByteVerdict::Fails => summed(ByteVerdict::Stays, 1, operand.count),
+        ByteVerdict::Takes | ByteVerdict::Stays => None,
     }
 }
 
@@ -164,8 +164,8 @@ fn over_plus(operand: Decided) -> Option<Decided>
         DecidesShape g b n (Plus m s) d) }
 {
     match operand.verdict {
-        Verdict::Fails => summed(Verdict::Fails, 1, operand.count),
-        Verdict::Takes | Verdict::Stays => None,
+        ByteVerdict::Fails => summed(ByteVerdict::Fails, 1, operand.count),
+        ByteVerdict::Takes | ByteVerdict::Stays => None,
     }
 }
 
@@ -200,9 +200,9 @@ fn by_members(
         let member = below(grammar, members[i], b, levels)?;
         let sum = summed(member.verdict, count, member.count)?;
         match member.verdict {
-            Verdict::Stays => count = sum.count,
-            Verdict::Fails => return Some(sum),
-            Verdict::Takes => {
+            ByteVerdict::Stays => count = sum.count,
+            ByteVerdict::Fails => return Some(sum),
+            ByteVerdict::Takes => {
                 if i + 1 < members.len() {
                     return None;
                 }
@@ -210,7 +210,7 @@ fn by_members(
             }
         }
     }
-    let verdict = Verdict::Stays;
+    let verdict = ByteVerdict::Stays;
     Some(Decided { verdict, count })
 }
 
@@ -231,12 +231,12 @@ fn by_alternatives(
         let alternative = below(grammar, alternatives[i], b, levels)?;
         let sum = summed(alternative.verdict, count, alternative.count)?;
         match alternative.verdict {
-            Verdict::Fails => count = sum.count,
-            Verdict::Takes => return Some(sum),
-            Verdict::Stays => return Some(sum),
+            ByteVerdict::Fails => count = sum.count,
+            ByteVerdict::Takes => return Some(sum),
+            ByteVerdict::Stays => return Some(sum),
         }
     }
-    let verdict = Verdict::Fails;
+    let verdict = ByteVerdict::Fails;
     Some(Decided { verdict, count })
 }
 
@@ -257,7 +257,7 @@ fn by_node(grammar: &MarkedNodes<'_>, n: usize, b: u8, levels: usize) -> Option<
 {
     match node_at(grammar.nodes, n)? {
         Node::Any => Some(Decided {
-            verdict: Verdict::Takes,
+            verdict: ByteVerdict::Takes,
             count: 1,
         }),
         Node::Set(set) => Some(by_set(set, b)),
@@ -292,6 +292,6 @@ pub fn decide(grammar: &MarkedNodes<'_>, n: usize, b: u8) -> Option<Decided>
 /// States that a byte decides one verdict of a node, with one number of pairs.
 pub fn one_verdict()
     ensures { (nodes : List Shape) (bodies : List ℕ) (marks : ℕ → Bool) (tails : ℕ → ℕ → Bool) (b n c d : ℕ)
-        (v w : Verdict) → ByByte nodes bodies marks tails b n v c → ByByte nodes bodies marks tails b n w d →
+        (v w : ByteVerdict) → ByByte nodes bodies marks tails b n v c → ByByte nodes bodies marks tails b n w d →
         (v ≡ w) × (c ≡ d) }
 {}

@@ -4,10 +4,10 @@ ghost use Rattle.pegnodes.specs.ByByte.{Below};
 ghost use Rattle.pegnodes.specs.ChoiceTables.{FailFirst, IsChoiceTable};
 ghost use Rattle.pegnodes.specs.Decides.{mark_in, tail_in};
 ghost use Rattle.pegnodes.specs.Nodes.{Choice, shapes_of};
-ghost use Rattle.pegnodes.specs.declared.by_byte.Verdict.TheVariants.{Fails};
+ghost use Rattle.pegnodes.specs.declared.by_byte.ByteVerdict.TheVariants.{Fails};
 ghost use Rattle.pegnodes.specs.declared.choice_table.Skip.{Skip as Skipped};
 
-use crate::by_byte::{MarkedNodes, Verdict, decide, summed};
+use crate::by_byte::{ByteVerdict, MarkedNodes, decide, summed};
 use crate::keys::mark_or;
 use ruletable::Memory;
 use std::alloc::Global;
@@ -40,12 +40,12 @@ fn failing(grammar: &MarkedNodes<'_>, m: usize, b: u8, before: u16) -> Option<u1
     }
     let decided = decide(grammar, m, b)?;
     match decided.verdict {
-        Verdict::Fails => {
-            let sum = summed(Verdict::Fails, before, decided.count)?;
+        ByteVerdict::Fails => {
+            let sum = summed(ByteVerdict::Fails, before, decided.count)?;
             Some(sum.count)
         }
-        Verdict::Stays => None,
-        Verdict::Takes => None,
+        ByteVerdict::Stays => None,
+        ByteVerdict::Takes => None,
     }
 }
 

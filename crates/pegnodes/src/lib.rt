@@ -15,11 +15,11 @@ mod template;
 mod widths;
 
 pub use bodies::body_of;
-pub use by_byte::{Decided, MarkedNodes, Verdict, decide, one_verdict};
+pub use by_byte::{ByteVerdict, Decided, MarkedNodes, decide, one_verdict};
 pub use byte_tables::{ByteTables, find_tables};
 pub use choice_table::{ChoiceTable, Skip};
 pub use cut::{Cut, cut_grammar};
 pub use keys::{Keys, find_keys, is_key_from, mark_or};
 pub use node::Node;
-pub use run_table::{Run, RunTable, Stop};
+pub use run_table::{Run, RunTable, StopByte};
 pub use template::{Put, Slot, Template, Templates, cut_templates};

@@ -5,14 +5,14 @@ ghost use Rattle.pegnodes.specs.Nodes.{shapes_of};
 ghost use Rattle.pegnodes.specs.RunTables.{IsTable, turn_pairs, OthersTake, IsStop, IsRun, IsRunTo};
 ghost use Rattle.pegnodes.specs.declared.by_byte.Decided.{Decided};
 
-use crate::by_byte::{Decided, MarkedNodes, Verdict, decide};
+use crate::by_byte::{ByteVerdict, Decided, MarkedNodes, decide};
 use memchr::memchr;
 use ruletable::Memory;
 use std::alloc::Global;
 
 /// The only byte that a node is not known to take. A run of such a node ends at that byte, which `memchr` finds.
 #[derive(Clone, Copy)]
-pub struct Stop {
+pub struct StopByte {
     /// The byte.
     pub byte: u8,
     /// How many pairs an iteration over each other byte begins.
@@ -34,7 +34,7 @@ pub struct RunTable {
     /// Of each of the 256 bytes the outcome, if the byte decides it.
     pub entries: Vec<Option<Decided>>,
     /// The only byte that the node is not known to take, if there is just one.
-    pub stop: Option<Stop>,
+    pub stop: Option<StopByte>,
     pub ghost whole: { length entries.items ≡ 256 },
     pub ghost stops: { IsStop entries.items stop },
 }
@@ -46,9 +46,9 @@ fn pairs_of(entry: Option<Decided>) -> u64
 {
     match entry {
         Some(decided) => match decided.verdict {
-            Verdict::Takes => u64::from(decided.count) + 1,
-            Verdict::Stays => 0,
-            Verdict::Fails => 0,
+            ByteVerdict::Takes => u64::from(decided.count) + 1,
+            ByteVerdict::Stays => 0,
+            ByteVerdict::Fails => 0,
         },
         None => 0,
     }
@@ -81,7 +81,7 @@ fn others_take(entries: &[Option<Decided>], byte: u8, pairs: u64) -> bool
 }
 
 // Returns the byte that alone is not taken, if there is one and a turn over each other byte is as many pairs.
-fn find_stop(entries: &[Option<Decided>]) -> Option<Stop>
+fn find_stop(entries: &[Option<Decided>]) -> Option<StopByte>
     requires { length entries.now ≡ 256 }
     ensures { IsStop entries.now result }
 {
@@ -91,7 +91,7 @@ fn find_stop(entries: &[Option<Decided>]) -> Option<Stop>
     if pairs == 0 || !others_take(entries, byte, pairs) {
         return None;
     }
-    Some(Stop { byte, pairs })
+    Some(StopByte { byte, pairs })
 }
 
 // Returns of each byte what it decides of a node.
@@ -112,7 +112,7 @@ fn entries_of(
 }
 
 // Returns how far bytes are taken, where one byte alone is not taken.
-fn run_to(stop: Stop, window: &[u8], from: usize, to: usize) -> Run
+fn run_to(stop: StopByte, window: &[u8], from: usize, to: usize) -> Run
     requires from { from ≤ to }
     requires to { to ≤ length window.now }
     ensures { IsRunTo stop window.now from to result }

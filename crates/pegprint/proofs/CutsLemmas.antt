@@ -21,7 +21,7 @@ use Rattle.pegread.proofs.FirstByteLemmas.{first-ident, first-sign}
 use Rattle.pegread.proofs.SliceLemmas.{NoMore, names-longest, names-before, body-before, white-shorter}
 use Rattle.pegprint.proofs.SameWordsLemmas.{SameWord, same_word, same_name, SameWords, same_none, same_more}
 use Rattle.std.specs.List.{flat_map}
-use Rattle.pegprint.specs.declared.place.Place.TheVariants.{Alternative, Member, OfPrefix, OfAmp, OfSuffix}
+use Rattle.pegprint.specs.declared.place.Context.TheVariants.{Alternative, Member, OfPrefix, OfAmp, OfSuffix}
 use Rattle.pegprint.specs.Brackets.{wraps, around}
 use Rattle.pegprint.specs.Canon.{text_of, joined, more_joined, grammar_text}
 use Rattle.pegread.specs.Escapes.{escaped, class_text}

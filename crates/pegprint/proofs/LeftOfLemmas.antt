@@ -8,7 +8,7 @@ use Rattle.ruletable.specs.Rules as table
 use Rattle.ruletable.proofs.LeavesLemmas as left
 use Rattle.ruletable.proofs.LeavesLemmas.{Leaves, leaves-all, from-item, marked-left, same-left}
 use Rattle.pegread.specs.declared.expr.Expr.{Expr}
-use Rattle.pegprint.specs.declared.place.Place.{Place}
+use Rattle.pegprint.specs.declared.place.Context.{Context}
 use Rattle.pegprint.specs.Brackets.{around, wraps}
 use Rattle.pegprint.specs.Canon.{text_of, joined, more_joined, definition_text, grammar_text}
 use Rattle.pegread.specs.Pattern.{Patterns}
@@ -28,10 +28,10 @@ pub map-end : {A : Type 0} (f : A → List ℕ) (xs : List A) (i : ℕ) → leng
 map-end f xs i h = ap (λ ys. flat_map f ys) (drop_all i xs h)
 
 -- what is left of members or alternatives, from one on
-abbrev pub left_of : Place → List ℕ → ℕ → Patterns → List ℕ
+abbrev pub left_of : Context → List ℕ → ℕ → Patterns → List ℕ
 left_of p mark i es = cond (i == 0) (joined p mark es) (more_joined p mark es)
 
-pub item-left : (p : Place) (mark : List ℕ) (es : List Expr) (i : ℕ) (e : Expr) → e ≡ get_or es i e → i < length es →
+pub item-left : (p : Context) (mark : List ℕ) (es : List Expr) (i : ℕ) (e : Expr) → e ≡ get_or es i e → i < length es →
     left_of p mark i (patterns_of (drop i es)) ≡ cond (i == 0) [] mark
     ++ (around (wraps p (pattern_of e)) (text_of (pattern_of e))
     ++ left_of p mark (i + 1) (patterns_of (drop (i + 1) es)))
@@ -41,7 +41,7 @@ item-left p mark es i e same h =
     ∙ marked-left i mark (around (wraps p (pattern_of e)) (text_of (pattern_of e))) (joined p mark rest)
     (more_joined p mark rest)
 
-pub end-left : (p : Place) (mark : List ℕ) (es : List Expr) (i : ℕ) → length es ≤ i
+pub end-left : (p : Context) (mark : List ℕ) (es : List Expr) (i : ℕ) → length es ≤ i
     → left_of p mark i (patterns_of (drop i es)) ≡ []
 end-left p mark es i h = ap (λ (ys : List Expr). left_of p mark i (patterns_of ys)) (drop_all i es h)
     ∙ same-left (i == 0) []

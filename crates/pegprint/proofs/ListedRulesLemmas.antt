@@ -2,7 +2,7 @@
 -- Serves: is_read_back
 use Rattle.std.proofs.Common.{Bool, true, false, List, [], ◌∷◌, ◌≡◌, refl, sym, subst}
 use Rattle.ruletable.specs.declared.span.Span.{Span}
-use Rattle.pegprint.specs.declared.place.Place.TheVariants.{Alternative, Member, OfPrefix, OfAmp, OfSuffix}
+use Rattle.pegprint.specs.declared.place.Context.TheVariants.{Alternative, Member, OfPrefix, OfAmp, OfSuffix}
 use Rattle.pegprint.specs.Brackets.{wraps, is_act}
 use Rattle.pegread.proofs.GrammarViabilityLemmas.{nowhere}
 use Rattle.pegread.specs.Pattern.{Pattern, Any, Bytes, Set, Name, Seq, Choice, Star, Plus, Opt, And, Not, Act, Open}

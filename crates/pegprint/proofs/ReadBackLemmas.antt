@@ -2,8 +2,8 @@
 -- Serves: is_read_back, print_peg
 use Rattle.std.proofs.Common.{◌≡◌, ℕ, suc, ◌+◌, ◌≤◌, max, Bool, true, false, List, [], ◌∷◌, sym, subst, arith}
 use Rattle.std.proofs.Common.{length, ap, ◌∙◌}
-use Rattle.pegprint.specs.declared.place.Place.{Place}
-use Rattle.pegprint.specs.declared.place.Place.TheVariants.{Alternative, Member, OfPrefix, OfAmp, OfSuffix}
+use Rattle.pegprint.specs.declared.place.Context.{Context}
+use Rattle.pegprint.specs.declared.place.Context.TheVariants.{Alternative, Member, OfPrefix, OfAmp, OfSuffix}
 use Rattle.pegprint.specs.Brackets.{wraps, is_act}
 use Rattle.pegread.specs.Limits.{IsShallow}
 use Rattle.pegread.specs.Pattern.{Pattern, Any, Bytes, Set, Name, Seq, Choice, Opt, And, Not, Act, Open, Close}
@@ -78,11 +78,11 @@ abbrev mutual
   nest (Seq es) = nest_all Member es
   nest (Choice es) = nest_all Alternative es
 
-  nest_all : Place → Patterns → ℕ
+  nest_all : Context → Patterns → ℕ
   nest_all p none = 0
   nest_all p (more x es) = max (lift (wraps p x) (nest x)) (nest_all p es)
 
-abbrev nest_at : Place → Pattern → ℕ
+abbrev nest_at : Context → Pattern → ℕ
 nest_at p x = lift (wraps p x) (nest x)
 
 -- words before whatever follows

@@ -1,8 +1,8 @@
 -- Where the canonical text puts parentheses round a pattern.
 use Prim.Native.Char.{code}
 use Rattle.std.specs.Prelude.{ℕ, ◌||◌, nat_lt, Bool, true, false, List, [], ◌∷◌, ◌++◌}
-use Rattle.pegprint.specs.declared.place.Place.{Place}
-use Rattle.pegprint.specs.declared.place.Place.TheVariants.{Alternative, Member, OfPrefix, OfAmp, OfSuffix}
+use Rattle.pegprint.specs.declared.place.Context.{Context}
+use Rattle.pegprint.specs.declared.place.Context.TheVariants.{Alternative, Member, OfPrefix, OfAmp, OfSuffix}
 use Rattle.pegread.specs.Pattern.{Pattern, Seq, Choice, Star, Plus, Opt, And, Not, Act}
 
 -- how tightly a pattern holds together
@@ -17,7 +17,7 @@ rank (Opt e) = 3
 rank _ = 4
 
 -- how tightly it must hold together to stand there without parentheses
-abbrev pub least : Place → ℕ
+abbrev pub least : Context → ℕ
 least Alternative = 1
 least Member = 2
 least OfPrefix = 3
@@ -37,7 +37,7 @@ leads_with_act (Opt e) = is_act e
 leads_with_act e = is_act e
 
 -- whether parentheses stand round the pattern there
-abbrev pub wraps : Place → Pattern → Bool
+abbrev pub wraps : Context → Pattern → Bool
 wraps OfAmp e = nat_lt (rank e) (least OfAmp) || leads_with_act e
 wraps p e = nat_lt (rank e) (least p)
 

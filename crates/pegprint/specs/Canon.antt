@@ -2,8 +2,8 @@
 use Prim.Native.Char.{code}
 use Rattle.std.specs.Prelude.{ℕ, codes, List, [], ◌∷◌, ◌++◌}
 use Rattle.std.specs.List.{flat_map}
-use Rattle.pegprint.specs.declared.place.Place.{Place}
-use Rattle.pegprint.specs.declared.place.Place.TheVariants.{Alternative, Member, OfPrefix, OfAmp, OfSuffix}
+use Rattle.pegprint.specs.declared.place.Context.{Context}
+use Rattle.pegprint.specs.declared.place.Context.TheVariants.{Alternative, Member, OfPrefix, OfAmp, OfSuffix}
 use Rattle.pegprint.specs.Brackets.{wraps, around}
 use Rattle.pegread.specs.Escapes.{escaped, class_text}
 use Rattle.pegread.specs.Pattern.{Pattern, Any, Bytes, Set, Name, Seq, Choice, Star, Plus, Opt, And, Not, Act, Open}
@@ -28,12 +28,12 @@ abbrev mutual
   text_of Close = codes ">"
 
   -- members or alternatives, with a mark between each two
-  pub joined : Place → List ℕ → Patterns → List ℕ
+  pub joined : Context → List ℕ → Patterns → List ℕ
   joined p mark none = []
   joined p mark (more e es) = around (wraps p e) (text_of e) ++ more_joined p mark es
 
   -- with one before each
-  pub more_joined : Place → List ℕ → Patterns → List ℕ
+  pub more_joined : Context → List ℕ → Patterns → List ℕ
   more_joined p mark none = []
   more_joined p mark (more e es) = mark ++ (around (wraps p e) (text_of e) ++ more_joined p mark es)
 

@@ -7,7 +7,7 @@ use pegread::Expr;
 
 /// Where an expression stands within another.
 #[derive(Clone, Copy)]
-pub(crate) enum Place {
+pub(crate) enum Context {
     Alternative,
     Member,
     OfPrefix,
@@ -29,14 +29,14 @@ fn rank(e: &Expr) -> u8
 }
 
 // How tightly it must hold together to stand there without parentheses.
-fn least(place: Place) -> u8
+fn least(place: Context) -> u8
     ensures { result ≡ brackets.least place }
 {
     match place {
-        Place::Alternative => 1,
-        Place::Member => 2,
-        Place::OfPrefix | Place::OfAmp => 3,
-        Place::OfSuffix => 4,
+        Context::Alternative => 1,
+        Context::Member => 2,
+        Context::OfPrefix | Context::OfAmp => 3,
+        Context::OfSuffix => 4,
     }
 }
 
@@ -57,11 +57,11 @@ fn leads_with_act(e: &Expr) -> bool
 }
 
 // Whether parentheses stand round the expression there.
-pub(crate) fn is_wrapped(e: &Expr, place: Place) -> bool
+pub(crate) fn is_wrapped(e: &Expr, place: Context) -> bool
     ensures { result ≡ brackets.wraps place (pattern_of e.now) }
 {
     match place {
-        Place::OfAmp => rank(e) < least(place) || leads_with_act(e),
+        Context::OfAmp => rank(e) < least(place) || leads_with_act(e),
         _ => rank(e) < least(place),
     }
 }

@@ -8,14 +8,14 @@ ghost use Rattle.pegprint.specs.CanonMembers.{member_text};
 ghost use Rattle.pegprint.specs.ReadBack.{IsRead, ReadsAs, ReadsFormed, ReadBack, SpansUnseen, PrintsItself};
 ghost use Rattle.pegread.specs.PegViews.{pattern_of, patterns_of, rules_of};
 
-use crate::place::{Place, is_wrapped};
+use crate::place::{Context, is_wrapped};
 use crate::print_bytes::{print_action, print_literal, print_set};
 use pegread::{Expr, Peg};
 use ruletable::{Sink, WriteFault, write_pieces, write_whole};
 
 // An expression within another, in parentheses where it needs them.
 #[cycle(printing)]
-fn print_at<W: Sink>(e: &Expr, place: Place, w: &mut W) -> Result<(), WriteFault>
+fn print_at<W: Sink>(e: &Expr, place: Context, w: &mut W) -> Result<(), WriteFault>
     requires { W.failed w.old ≡ false }
     ensures bytes { Writes (W.contents w.old) (W.contents w.new)
         (around (wraps place (pattern_of e.now)) (canon.text_of (pattern_of e.now))) result }
@@ -42,7 +42,7 @@ pub fn print_member<W: Sink>(e: &Expr, w: &mut W) -> Result<(), WriteFault>
         (member_text (pattern_of e.now)) result }
     ensures flag { Flags (W.failed w.old) (W.failed w.new) result }
 {
-    print_at(e, Place::Member, w)
+    print_at(e, Context::Member, w)
 }
 
 // An operand and its suffix.
@@ -50,11 +50,11 @@ pub fn print_member<W: Sink>(e: &Expr, w: &mut W) -> Result<(), WriteFault>
 fn print_suffixed<W: Sink>(operand: &Expr, mark: &[u8], w: &mut W) -> Result<(), WriteFault>
     requires { W.failed w.old ≡ false }
     ensures bytes { Writes (W.contents w.old) (W.contents w.new)
-        (around (wraps Place.OfSuffix (pattern_of operand.now)) (canon.text_of (pattern_of operand.now)) ++ mark.now)
+        (around (wraps Context.OfSuffix (pattern_of operand.now)) (canon.text_of (pattern_of operand.now)) ++ mark.now)
         result }
     ensures flag { Flags (W.failed w.old) (W.failed w.new) result }
 {
-    match print_at(operand, Place::OfSuffix, w) {
+    match print_at(operand, Context::OfSuffix, w) {
         Ok(()) => write_whole(w, mark),
         Err(fault) => Err(fault),
     }
@@ -65,7 +65,7 @@ fn print_suffixed<W: Sink>(operand: &Expr, mark: &[u8], w: &mut W) -> Result<(),
 fn print_prefixed<W: Sink>(
     mark: &[u8],
     operand: &Expr,
-    place: Place,
+    place: Context,
     w: &mut W,
 ) -> Result<(), WriteFault>
     requires { W.failed w.old ≡ false }
@@ -94,13 +94,13 @@ pub fn print_expr<W: Sink>(e: &Expr, w: &mut W) -> Result<(), WriteFault>
         Expr::Bytes(bytes) => print_literal(bytes, w),
         Expr::Set(members) => print_set(members, w),
         Expr::Name(name) => write_whole(w, name),
-        Expr::Seq(members) => print_all(members, Place::Member, b" ", w),
-        Expr::Choice(alternatives) => print_all(alternatives, Place::Alternative, b" / ", w),
+        Expr::Seq(members) => print_all(members, Context::Member, b" ", w),
+        Expr::Choice(alternatives) => print_all(alternatives, Context::Alternative, b" / ", w),
         Expr::Star(operand) => print_suffixed(operand, b"*", w),
         Expr::Plus(operand) => print_suffixed(operand, b"+", w),
         Expr::Opt(operand) => print_suffixed(operand, b"?", w),
-        Expr::And(operand) => print_prefixed(b"&", operand, Place::OfAmp, w),
-        Expr::Not(operand) => print_prefixed(b"!", operand, Place::OfPrefix, w),
+        Expr::And(operand) => print_prefixed(b"&", operand, Context::OfAmp, w),
+        Expr::Not(operand) => print_prefixed(b"!", operand, Context::OfPrefix, w),
         Expr::Act(template) => print_action(template, w),
         Expr::Open => write_whole(w, b"<"),
         Expr::Close => write_whole(w, b">"),
@@ -109,7 +109,7 @@ pub fn print_expr<W: Sink>(e: &Expr, w: &mut W) -> Result<(), WriteFault>
 
 // Members or alternatives, with a mark between each two.
 #[cycle(printing)]
-fn print_all<W: Sink>(es: &[Expr], place: Place, mark: &[u8], w: &mut W) -> Result<(), WriteFault>
+fn print_all<W: Sink>(es: &[Expr], place: Context, mark: &[u8], w: &mut W) -> Result<(), WriteFault>
     requires { W.failed w.old ≡ false }
     ensures bytes { Writes (W.contents w.old) (W.contents w.new) (canon.joined place mark.now (patterns_of es.now))
         result }

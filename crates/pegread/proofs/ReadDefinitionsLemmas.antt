@@ -13,8 +13,8 @@ use Rattle.std.specs.Option.{option_map}
 use Rattle.lexer.specs.declared.limits.TheConstants.{MAX_GRAMMAR, MAX_OPEN}
 use Rattle.pegread.specs.declared.kind.Kind.{Kind}
 use Rattle.pegread.specs.declared.kind.Kind.TheVariants.{Literal, Class, Amp, Action, End}
-use Rattle.pegread.specs.declared.reader.Stop.{Stop}
-use Rattle.pegread.specs.declared.reader.Stop.TheVariants as stops
+use Rattle.pegread.specs.declared.reader.ReaderStop.{ReaderStop}
+use Rattle.pegread.specs.declared.reader.ReaderStop.TheVariants as stops
 use Rattle.pegread.specs.declared.reader.Reader.{Reader}
 use Rattle.pegread.specs.Steps.{Steps, Takes}
 use Rattle.pegread.specs.Literals.{IsLiteral}
@@ -237,7 +237,7 @@ module _ (literal : (total : ℕ) (t r z : List ℕ) (p : Span) → Next total t
   cut-of total t r x n = cut-kind total t r x.slice.now x.kind x.span n
 
 -- the machine's step for the one word of a token is the token's
-pub taken-word : {A : Type 0} (c : Config) (t : Tok) (w : Word) (a : Result A Stop) (r : Reader) → Says t w
+pub taken-word : {A : Type 0} (c : Config) (t : Tok) (w : Word) (a : Result A ReaderStop) (r : Reader) → Says t w
     → Steps (step c w) a r → Takes c t a r
 taken-word c t w (Ok u) r says s = (w, says, s)
 taken-word c t w (Err stops.Hopeless) r says s = λ v h. ap (step c) (one-word t v w h says) ∙ s

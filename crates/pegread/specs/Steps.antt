@@ -2,8 +2,8 @@
 use Rattle.std.specs.Prelude.{◌≡◌, List, map, reverse, get_or, false, Option, Some, None, Result, Ok, Err}
 use Rattle.pegread.specs.declared.words.Word.{Word as CodeWord}
 use Rattle.pegread.specs.declared.words.Word.TheVariants as code
-use Rattle.pegread.specs.declared.reader.Stop.{Stop}
-use Rattle.pegread.specs.declared.reader.Stop.TheVariants as stops
+use Rattle.pegread.specs.declared.reader.ReaderStop.{ReaderStop}
+use Rattle.pegread.specs.declared.reader.ReaderStop.TheVariants as stops
 use Rattle.pegread.specs.declared.reader.Prefix.{Prefix}
 use Rattle.pegread.specs.declared.reader.Prefix.TheVariants as prefixes
 use Rattle.pegread.specs.declared.reader.Definition.{Definition}
@@ -92,12 +92,12 @@ abbrev pub config_of : Reader → Config
 config_of r = config_at r r.at
 
 -- the reader stopped where the machine has no step, or an allocation failed
-abbrev pub Stops : Option Config → Stop → Type 0
+abbrev pub Stops : Option Config → ReaderStop → Type 0
 Stops x stops.Hopeless = x ≡ None
 Stops x stops.Memory = Unit {0}
 
 -- the reader took the machine's step; or it stopped where there is none, or an allocation failed
-abbrev pub Steps : {A : Type 0} → Option Config → Result A Stop → Reader → Type 0
+abbrev pub Steps : {A : Type 0} → Option Config → Result A ReaderStop → Reader → Type 0
 Steps x (Ok u) r = x ≡ Some (config_of r)
 Steps x (Err s) r = Stops x s
 
@@ -112,11 +112,11 @@ unmarked_step h o bs es words.End = end_step o (ended h (finish bs es))
 unmarked_step h o bs es _ = None
 
 -- where the reader stopped, nothing that the token says goes on, or an allocation failed
-abbrev pub StopsAt : Config → Tok → Stop → Type 0
+abbrev pub StopsAt : Config → Tok → ReaderStop → Type 0
 StopsAt c t stops.Hopeless = (w : Word) → Says t w → step c w ≡ None
 StopsAt c t stops.Memory = Unit {0}
 
 -- the reader took what the token says, or it stopped
-abbrev pub Takes : {A : Type 0} → Config → Tok → Result A Stop → Reader → Type 0
+abbrev pub Takes : {A : Type 0} → Config → Tok → Result A ReaderStop → Reader → Type 0
 Takes c t (Ok u) r = (w : Word) × Says t w × (step c w ≡ Some (config_of r))
 Takes c t (Err s) r = StopsAt c t s

@@ -17,7 +17,7 @@ ghost use Rattle.pegread.specs.Words.{Word, Says, SayAll};
 
 use crate::expr::Peg;
 use crate::kind::Kind;
-use crate::reader::{Definition, Reader, Stop};
+use crate::reader::{Definition, Reader, ReaderStop};
 use crate::token_lists::are_marked;
 use crate::words::word_in;
 use lexer::{MAX_GRAMMAR, MAX_OPEN, Token, have_tokens, tokens};
@@ -90,11 +90,11 @@ fn take_tokens<'a>(alloc: Global, text: &'a [u8], reader: &mut Reader<'a>) -> Re
                 }
                 before = Some(kind);
             }
-            Err(Stop::Hopeless) => {
+            Err(ReaderStop::Hopeless) => {
                 have_tokens::<Kind>(text);
                 return Err(hopeless(before, kind, line_of(text, at, LineRule::Any)));
             }
-            Err(Stop::Memory) => return Err(ReadFault::Memory),
+            Err(ReaderStop::Memory) => return Err(ReadFault::Memory),
         }
     }
     Ok(())
@@ -115,14 +115,14 @@ fn take_token<'a>(
     alloc: Global,
     reader: &mut Reader<'a>,
     token: Token<'a, Kind>,
-) -> Result<(), Stop>
+) -> Result<(), ReaderStop>
     requires { IsCut token.kind token.slice.now }
     ensures { Takes (config_of reader.old) (tok_of token.entry) result reader.new }
 {
     match word_in(alloc, token) {
         Ok(Some(word)) => reader.take(word),
-        Ok(None) => Err(Stop::Hopeless),
-        Err(Memory) => Err(Stop::Memory),
+        Ok(None) => Err(ReaderStop::Hopeless),
+        Err(Memory) => Err(ReaderStop::Memory),
     }
 }
 

@@ -17,30 +17,30 @@ use std::mem;
 
 /// Why the reader takes no further word.
 #[derive(Clone, Copy)]
-pub(crate) enum Stop {
+pub(crate) enum ReaderStop {
     /// With this word the words so far are no prefix of a grammar.
     Hopeless,
     /// An allocation failed.
     Memory,
 }
 
-impl From<AllocError> for Stop {
-    ghost use Rattle.pegread.specs.declared.reader.Stop.TheVariants.{Memory};
+impl From<AllocError> for ReaderStop {
+    ghost use Rattle.pegread.specs.declared.reader.ReaderStop.TheVariants.{Memory};
 
     ghost from_gives = { λ _ e. e ≡ Memory };
 
     fn from(_: AllocError) -> Self {
-        Stop::Memory
+        ReaderStop::Memory
     }
 }
 
-impl<T: Drop> From<AllocFailed<T>> for Stop {
-    ghost use Rattle.pegread.specs.declared.reader.Stop.TheVariants.{Memory};
+impl<T: Drop> From<AllocFailed<T>> for ReaderStop {
+    ghost use Rattle.pegread.specs.declared.reader.ReaderStop.TheVariants.{Memory};
 
     ghost from_gives = { λ _ e. e ≡ Memory };
 
     fn from(_: AllocFailed<T>) -> Self {
-        Stop::Memory
+        ReaderStop::Memory
     }
 }
 
@@ -183,7 +183,7 @@ impl<'a> Reader<'a> {
     }
 
     // Adds an item, under the prefix operator that waits for it.
-    fn push_item(&mut self, item: Expr) -> Result<(), Stop>
+    fn push_item(&mut self, item: Expr) -> Result<(), ReaderStop>
         ensures { Steps (Some (machine.body (head_of self.old) (outer_of self.old) (ended_of self.old)
             (snoc (last_items self.old) (apply (waiting_of self.old) (pattern_of item))) no_mark machine.fresh)) result
             self.new }
@@ -196,7 +196,7 @@ impl<'a> Reader<'a> {
     }
 
     // Opens a bracket.
-    fn open_bracket(&mut self) -> Result<(), Stop>
+    fn open_bracket(&mut self) -> Result<(), ReaderStop>
         ensures { Steps (Some (machine.body (head_of self.old)
             (a_level (ended_of self.old) (last_items self.old) (waiting_of self.old) ∷ outer_of self.old) none none
             no_mark machine.fresh)) result self.new }
@@ -214,7 +214,7 @@ impl<'a> Reader<'a> {
     }
 
     // Ends a sequence at a slash.
-    fn end_sequence(&mut self) -> Result<(), Stop>
+    fn end_sequence(&mut self) -> Result<(), ReaderStop>
         ensures { Steps (Some (machine.body (head_of self.old) (outer_of self.old)
             (snoc (ended_of self.old) (sequence_of (last_items self.old))) none (waiting_of self.old) machine.fresh))
             result self.new }
@@ -226,7 +226,7 @@ impl<'a> Reader<'a> {
     }
 
     // Takes a primary, which a suffix may follow.
-    fn take_primary(&mut self, primary: Expr) -> Result<(), Stop>
+    fn take_primary(&mut self, primary: Expr) -> Result<(), ReaderStop>
         ensures { Steps (Some (body_config self.old (machine.read (pattern_of primary)))) result self.new }
     {
         self.at = At::Read(primary);
@@ -234,12 +234,12 @@ impl<'a> Reader<'a> {
     }
 
     // Closes a bracket.
-    fn close_bracket(&mut self) -> Result<(), Stop>
+    fn close_bracket(&mut self) -> Result<(), ReaderStop>
         ensures { Steps (close_step (outer_of self.old) (head_of self.old)
             (finish (ended_of self.old) (last_items self.old))) result self.new }
     {
         let Some(level) = self.outer.pop() else {
-            return Err(Stop::Hopeless);
+            return Err(ReaderStop::Hopeless);
         };
         let alternatives = mem::replace(&mut self.alternatives, level.alternatives);
         let items = mem::replace(&mut self.items, level.items);
@@ -279,12 +279,12 @@ impl<'a> Reader<'a> {
     }
 
     // Takes the end.
-    fn take_end(&mut self) -> Result<(), Stop>
+    fn take_end(&mut self) -> Result<(), ReaderStop>
         ensures { Steps (end_step (outer_of self.old) (ended (head_of self.old)
             (finish (ended_of self.old) (last_items self.old)))) result self.new }
     {
         if !self.outer.is_empty() {
-            return Err(Stop::Hopeless);
+            return Err(ReaderStop::Hopeless);
         }
         self.end_definition()?;
         self.at = At::Done;
@@ -292,7 +292,7 @@ impl<'a> Reader<'a> {
     }
 
     // Takes a word where no suffix may stand and no prefix operator waits.
-    fn take_unmarked(&mut self, word: Word<'a>) -> Result<(), Stop>
+    fn take_unmarked(&mut self, word: Word<'a>) -> Result<(), ReaderStop>
         requires { self.old.prefix ≡ Prefix.Nothing }
         ensures { Steps (unmarked_step (head_of self.old) (outer_of self.old) (ended_of self.old) (last_items self.old)
             (word_of word.entry)) result self.new }
@@ -311,12 +311,12 @@ impl<'a> Reader<'a> {
             Word::Slash => self.end_sequence(),
             Word::RParen => self.close_bracket(),
             Word::End => self.take_end(),
-            _ => Err(Stop::Hopeless),
+            _ => Err(ReaderStop::Hopeless),
         }
     }
 
     // Takes a word where no suffix may stand.
-    fn take_fresh(&mut self, word: Word<'a>) -> Result<(), Stop>
+    fn take_fresh(&mut self, word: Word<'a>) -> Result<(), ReaderStop>
         ensures { Steps (fresh_step (head_of self.old) (outer_of self.old) (ended_of self.old) (last_items self.old)
             (waiting_of self.old) (word_of word.entry)) result self.new }
     {
@@ -331,19 +331,19 @@ impl<'a> Reader<'a> {
             Word::Begin => self.take_primary(Expr::Open),
             Word::EndCap => self.take_primary(Expr::Close),
             Word::Action(template) => match self.prefix {
-                Prefix::And => Err(Stop::Hopeless),
+                Prefix::And => Err(ReaderStop::Hopeless),
                 _ => self.take_primary(Expr::Act(template)),
             },
             Word::LParen => self.open_bracket(),
             _ => match self.prefix {
                 Prefix::Nothing => self.take_unmarked(word),
-                _ => Err(Stop::Hopeless),
+                _ => Err(ReaderStop::Hopeless),
             },
         }
     }
 
     // Takes a word after a primary.
-    fn take_suffix(&mut self, primary: Expr, word: Word<'a>) -> Result<(), Stop>
+    fn take_suffix(&mut self, primary: Expr, word: Word<'a>) -> Result<(), ReaderStop>
         ensures { Steps (read_step (head_of self.old) (outer_of self.old) (ended_of self.old) (last_items self.old)
             (waiting_of self.old) (pattern_of primary) (word_of word.entry)) result self.new }
     {
@@ -368,7 +368,12 @@ impl<'a> Reader<'a> {
     }
 
     // Takes a word after a name, which an arrow makes the name of the next definition.
-    fn take_after_name(&mut self, name: &'a [u8], span: Span, word: Word<'a>) -> Result<(), Stop>
+    fn take_after_name(
+        &mut self,
+        name: &'a [u8],
+        span: Span,
+        word: Word<'a>,
+    ) -> Result<(), ReaderStop>
         ensures { Steps (name_step (head_of self.old) (outer_of self.old) (ended_of self.old) (last_items self.old)
             (waiting_of self.old) name.now span (word_of word.entry)) result self.new }
     {
@@ -376,13 +381,13 @@ impl<'a> Reader<'a> {
             Word::Arrow => match self.prefix {
                 Prefix::Nothing => {
                     if !self.outer.is_empty() {
-                        return Err(Stop::Hopeless);
+                        return Err(ReaderStop::Hopeless);
                     }
                     self.end_definition()?;
                     self.begin_body(name, span);
                     Ok(())
                 }
-                _ => Err(Stop::Hopeless),
+                _ => Err(ReaderStop::Hopeless),
             },
             _ => {
                 let name = Vec::from_slice(self.alloc, name)?;
@@ -392,7 +397,7 @@ impl<'a> Reader<'a> {
     }
 
     /// Takes the next word. After an error nothing can be read.
-    pub(crate) fn take(&mut self, word: Word<'a>) -> Result<(), Stop>
+    pub(crate) fn take(&mut self, word: Word<'a>) -> Result<(), ReaderStop>
         ensures { Steps (step (config_of self.old) (word_of word.entry)) result self.new }
     {
         match mem::replace(&mut self.at, At::Start) {
@@ -401,7 +406,7 @@ impl<'a> Reader<'a> {
                     self.at = At::Named(name, span);
                     Ok(())
                 }
-                _ => Err(Stop::Hopeless),
+                _ => Err(ReaderStop::Hopeless),
             },
             At::Named(name, span) => match word {
                 Word::Arrow => {
@@ -409,12 +414,12 @@ impl<'a> Reader<'a> {
                     self.begin_body(name, span);
                     Ok(())
                 }
-                _ => Err(Stop::Hopeless),
+                _ => Err(ReaderStop::Hopeless),
             },
             At::Fresh => self.take_fresh(word),
             At::Read(primary) => self.take_suffix(primary, word),
             At::Name(name, span) => self.take_after_name(name, span, word),
-            At::Done => Err(Stop::Hopeless),
+            At::Done => Err(ReaderStop::Hopeless),
         }
     }
 

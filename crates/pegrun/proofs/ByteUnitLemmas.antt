@@ -13,8 +13,8 @@ use Rattle.pegrun.specs.Attempts.{IsAttempt}
 use Rattle.pegrun.specs.ByteUnits.{AreByteUnits, IsByteUnit, SameTexts, known_text}
 use Rattle.pegrun.specs.declared.attempt.Attempt.TheVariants.{Printed}
 use Rattle.pegrun.specs.declared.byte_units.ByteUnits.{ByteUnits}
-use Rattle.pegrun.specs.declared.byte_units.Known.{Known}
-use Rattle.pegrun.specs.declared.byte_units.Known.TheVariants.{Open, Other, Prints}
+use Rattle.pegrun.specs.declared.byte_units.ByteUnit.{ByteUnit}
+use Rattle.pegrun.specs.declared.byte_units.ByteUnit.TheVariants.{Open, Other, Prints}
 use Rattle.pegrun.proofs.SameFrontLemmas.{same_front_of_start}
 use Rattle.pegrun.proofs.TextOfLemmas.{text_same}
 
@@ -30,7 +30,7 @@ set_at (x ∷ xs) (suc i) (suc j) y = elim (set_at xs i j y) [
 ]
 
 -- one more byte of which nothing is known
-pub one_open : (xs : List Known) (b : ℕ) → known_text (slice_get (xs ++ (Open ∷ [])) b) ≡ known_text (slice_get xs b)
+pub one_open : (xs : List ByteUnit) (b : ℕ) → known_text (slice_get (xs ++ (Open ∷ [])) b) ≡ known_text (slice_get xs b)
 one_open [] zero = refl
 one_open [] (suc b) = refl
 one_open (x ∷ xs) zero = refl
@@ -64,7 +64,7 @@ module _ (g : Grammar) (raw : Bool) where
       let is : a ≡ b = cc first in
       rw (wrote, ← is) unit
 
-  pub asked_bytes : (window text : List ℕ) (b : ℕ) (known : Known) (old new : Option (List ℕ)) → 2 ≤ length window →
+  pub asked_bytes : (window text : List ℕ) (b : ℕ) (known : ByteUnit) (old new : Option (List ℕ)) → 2 ≤ length window →
       slice_get window 0 ≡ Some b → old ≡ Some [] → new ≡ Some text →
       IsAttempt g (take 2 window) true raw old new (Ok (Printed 1)) →
       IfSome (known_text (Some known)) (λ kept. kept ≡ text) → IfSome (known_text (Some known)) (IsByteUnit g raw b)
@@ -77,7 +77,7 @@ module _ (g : Grammar) (raw : Bool) where
   same_units old new same are c text e = are c text (sym (same c) ∙ e)
 
   -- what is kept of a byte
-  pub kept_byte : (old mid : ByteUnits) (b : ℕ) (known : Known) → SameTexts old mid → AreByteUnits g raw old
+  pub kept_byte : (old mid : ByteUnits) (b : ℕ) (known : ByteUnit) → SameTexts old mid → AreByteUnits g raw old
       → IfSome (known_text (Some known)) (IsByteUnit g raw b) → (c : ℕ) (text : List ℕ)
       → known_text (slice_get (set mid.known.items b known) c) ≡ Some text → IsByteUnit g raw c text
   kept_byte old mid b known same are one c text e = elim (set_at mid.known.items b c known) [

@@ -41,7 +41,7 @@ use Rattle.pegrun.proofs.FollowsLemmas.{unit_at_byte}
 use Rattle.toolrun.proofs.ExplainedIfLemmas.{if_asked, if_not_asked}
 use Rattle.pegrun.proofs.WhyStoppedLemmas.{no_lines, some_told}
 use Rattle.pegrun.proofs.SomeReplyLemmas.{units_go_on, unit_goes_on}
-use Rattle.pegrun.specs.declared.unit.Step.TheVariants.{Takes, Stops}
+use Rattle.pegrun.specs.declared.unit.UnitStep.TheVariants.{Takes, Stops}
 
 module _ (rules : List Rule) (start : ℕ) (settings : PegSettings) (input : Input) (old mid new : Option (List ℕ))
     (place : ℕ) (text : List ℕ) (taken : ℕ)

@@ -27,8 +27,8 @@ use Rattle.toolrun.specs.declared.stop.Stop.{Stop}
 use Rattle.toolrun.specs.declared.stop.Stop.TheVariants as stop
 use Rattle.pegrun.specs.declared.attempt.Attempt.{Attempt}
 use Rattle.pegrun.specs.declared.attempt.Attempt.TheVariants.{Printed, Failed, TooLong, NoMemory}
-use Rattle.pegrun.specs.declared.unit.Step.{Step}
-use Rattle.pegrun.specs.declared.unit.Step.TheVariants.{Stops}
+use Rattle.pegrun.specs.declared.unit.UnitStep.{UnitStep}
+use Rattle.pegrun.specs.declared.unit.UnitStep.TheVariants.{Stops}
 use Rattle.toolrun.proofs.AgreesLemmas.{bytes_len, rest_held, rest_is, taken_end, taken_full, window_is}
 use Rattle.pegrun.proofs.StepLemmas.{step_broken, step_is}
 
@@ -66,7 +66,7 @@ fits_of g items more raw settings s old new (Ok NoMemory) a = tt
 fits_of g items more raw settings s old new (Err fault) a = tt
 
 pub step_on_fits : (g : Grammar) (held items : List ℕ) (more : Bool) (settings : PegSettings) (s : ℕ)
-    (old new : Option (List ℕ)) (r : Result Step WriteFault) → items ≡ held →
+    (old new : Option (List ℕ)) (r : Result UnitStep WriteFault) → items ≡ held →
     IsStepOn g held more settings s old new r → StaysWithin (s + length items) s r
 step_on_fits g held items more settings s old new r is (attempted, a, e) =
     rw is (subst (λ v. StaysWithin (s + length held) s v) (sym e)
@@ -89,7 +89,7 @@ module _ (settings : PegSettings) (start : ℕ) (before items : List ℕ) (flow 
         omega (arith, l, full, length-append items agrees.more)
 
     full_step : (g : Grammar) → IsSoundGrammar g → is_after_whole settings start ≡ false → (old new : Option (List ℕ))
-        (r : Result Step WriteFault) → IsStepOn g items true settings start old new r →
+        (r : Result UnitStep WriteFault) → IsStepOn g items true settings start old new r →
         IsStep (rules_of g.rules) g.start settings input start old new r
         × (length (before ++ items) ≡ taken_at settings input start)
     full_step g sound goes old new r (attempted, a, e) =
@@ -121,7 +121,7 @@ module _ (settings : PegSettings) (start : ℕ) (before items : List ℕ) (flow 
     taken_to_end = taken_end before items here agrees settings.limit none (omega (arith, short))
 
   end_step : flow ≡ Ended → length items ≤ settings.limit → (g : Grammar) → IsSoundGrammar g
-      → is_after_whole settings start ≡ false → (old new : Option (List ℕ)) (r : Result Step WriteFault) →
+      → is_after_whole settings start ≡ false → (old new : Option (List ℕ)) (r : Result UnitStep WriteFault) →
       IsStepOn g items false settings start old new r →
       IsStep (rules_of g.rules) g.start settings input start old new r
       × (length (before ++ items) ≡ taken_at settings input start)
@@ -145,7 +145,7 @@ module _ (settings : PegSettings) (start : ℕ) (before items : List ℕ) (flow 
       )
 
   pub broken_step : flow ≡ Broken → length items ≤ settings.limit → (g : Grammar) → (old : Option (List ℕ))
-      → (r : Result Step WriteFault) → r ≡ Ok (Stops stop.Broken) →
+      → (r : Result UnitStep WriteFault) → r ≡ Ok (Stops stop.Broken) →
       IsStep (rules_of g.rules) g.start settings input start old old r
       × (length (before ++ items) ≡ taken_at settings input start)
   broken_step broken short g old r is =
@@ -219,7 +219,7 @@ over_fits held.Fault s n len = tt
 module _ (g : Grammar) (sound : IsSoundGrammar g) (settings : PegSettings) (start : ℕ)
     (goes : is_after_whole settings start ≡ false) (before held items : List ℕ) (flow : Flow) (input : Input)
     (here : length before ≡ start) (agrees : Agrees (before ++ items) flow input) (is : items ≡ held)
-    (old new : Option (List ℕ)) (r : Result Step WriteFault) where
+    (old new : Option (List ℕ)) (r : Result UnitStep WriteFault) where
   pub full_window : length held ≡ suc settings.limit → IsStepOn g held true settings start old new r →
       IsStep (rules_of g.rules) g.start settings input start old new r
       × (length (before ++ items) ≡ taken_at settings input start)

@@ -19,8 +19,8 @@ use Rattle.toolrun.specs.declared.status.Status.TheVariants.{Done}
 use Rattle.toolrun.specs.declared.stop.Stop.TheVariants as stop
 use Rattle.pegrun.specs.declared.attempt.Attempt.{Attempt}
 use Rattle.pegrun.specs.declared.attempt.Attempt.TheVariants.{Printed, Failed, TooLong, NoMemory}
-use Rattle.pegrun.specs.declared.unit.Step.{Step}
-use Rattle.pegrun.specs.declared.unit.Step.TheVariants.{Takes as Goes, Stops}
+use Rattle.pegrun.specs.declared.unit.UnitStep.{UnitStep}
+use Rattle.pegrun.specs.declared.unit.UnitStep.TheVariants.{Takes as Goes, Stops}
 
 -- At the front of a window a success prints its text, and all else prints nothing, unless the writer fails.
 abbrev pub IsAttempt : Grammar → List ℕ → Bool → Bool → Option (List ℕ) → Option (List ℕ) → Result Attempt WriteFault
@@ -57,7 +57,7 @@ abbrev pub failed_at : PegSettings → ℕ → ℕ → Stop
 failed_at settings place len = if settings.options.whole then stop.NoMatch place else stop_at place len
 
 -- what follows at a place where this came of the start rule
-abbrev pub step_after : PegSettings → ℕ → ℕ → Result Attempt WriteFault → Result Step WriteFault
+abbrev pub step_after : PegSettings → ℕ → ℕ → Result Attempt WriteFault → Result UnitStep WriteFault
 step_after settings place len (Ok (Printed zero)) = Ok (Stops (stop_at place len))
 step_after settings place len (Ok (Printed (suc n))) = Ok (Goes (suc n))
 step_after settings place len (Ok Failed) = Ok (Stops (failed_at settings place len))
@@ -66,20 +66,21 @@ step_after settings place len (Ok NoMemory) = Ok (Stops stop.NoMemory)
 step_after settings place len (Err fault) = Err fault
 
 -- how a run ends at a place where no unit is tried, if it is held so
-abbrev pub step_held : Held → ℕ → ℕ → Step
+abbrev pub step_held : Held → ℕ → ℕ → UnitStep
 step_held held.Fault place len = Stops stop.Broken
 step_held _ place len = Stops (stop_at place len)
 
 -- what follows at a place from which these bytes are held
 abbrev pub IsStepOn : Grammar → List ℕ → Bool → PegSettings → ℕ → Option (List ℕ) → Option (List ℕ)
-    → Result Step WriteFault → Type 0
+    → Result UnitStep WriteFault → Type 0
 IsStepOn g items more settings s old new result = (attempted : Result Attempt WriteFault)
     × IsAttempt g items more settings.options.raw old new attempted ×
     (result ≡ step_after settings s (s + length items) attempted)
 
 -- A unit of some bytes was printed, or the run ends here and the text of its last unit was printed, or an allocation
 -- failed and nothing was.
-abbrev pub IsStep : List Rule → ℕ → PegSettings → Input → ℕ → Option (List ℕ) → Option (List ℕ) → Result Step WriteFault
+abbrev pub IsStep : List Rule → ℕ → PegSettings → Input → ℕ → Option (List ℕ) → Option (List ℕ)
+    → Result UnitStep WriteFault
     → Type 0
 IsStep rules start settings input s old new (Ok (Goes k)) =
     (text : List ℕ) × IsUnit rules start settings input s k text × Appends old new text × (0 < k)
@@ -90,6 +91,6 @@ IsStep rules start settings input s old new (Err fault) =
     (k : ℕ) × (text : List ℕ) × IsUnit rules start settings input s k text × AppendsPart old new text
 
 -- a unit takes some of the bytes that are there
-abbrev pub StaysWithin : ℕ → ℕ → Result Step WriteFault → Type 0
+abbrev pub StaysWithin : ℕ → ℕ → Result UnitStep WriteFault → Type 0
 StaysWithin len s (Ok (Goes k)) = (0 < k) × (s + k ≤ len)
 StaysWithin len s _ = ⊤

@@ -7,8 +7,8 @@ use Rattle.gramcheck.specs.Outcome.{Takes, Event}
 use Rattle.pegmatch.specs.Answers.{StartGives}
 use Rattle.pegmatch.specs.Text.{text_of}
 use Rattle.pegrun.specs.declared.byte_units.ByteUnits.{ByteUnits}
-use Rattle.pegrun.specs.declared.byte_units.Known.{Known}
-use Rattle.pegrun.specs.declared.byte_units.Known.TheVariants.{Open, Other, Prints}
+use Rattle.pegrun.specs.declared.byte_units.ByteUnit.{ByteUnit}
+use Rattle.pegrun.specs.declared.byte_units.ByteUnit.TheVariants.{Open, Other, Prints}
 
 -- On each input that begins with that byte, the start rule takes that byte, compares no other, and prints this text.
 abbrev pub IsByteUnit : Grammar → Bool → ℕ → List ℕ → Type 0
@@ -16,7 +16,7 @@ IsByteUnit g raw b text = (rest : List ℕ) → (events : List Event) × (looked
     × StartGives g (b ∷ rest) (Takes 1 events) looked × (looked ≤ 1) × (text ≡ text_of raw (b ∷ rest) events)
 
 -- the text of an entry, if it has one
-abbrev pub known_text : Option Known → Option (List ℕ)
+abbrev pub known_text : Option ByteUnit → Option (List ℕ)
 known_text None = None
 known_text (Some Open) = None
 known_text (Some Other) = None

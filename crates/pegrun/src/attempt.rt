@@ -6,7 +6,7 @@ ghost use Rattle.pegrun.specs.ByteUnits.{AreByteUnits, IsByteUnit, known_text};
 ghost use Rattle.pegmatch.specs.Answers.{most_matches};
 ghost use Rattle.pegrun.specs.MatchCalls.{calls_of};
 
-use crate::byte_units::{ByteUnits, Known};
+use crate::byte_units::{ByteUnit, ByteUnits};
 use gramcheck::SoundPeg;
 use pegmatch::{Matcher, ReplayFault, Unit};
 use ruletable::{Sink, SinkOf, WriteFault};
@@ -76,7 +76,7 @@ impl<M: Matcher> CountedMatcher<M> {
     }
 
     /// Matches the first two bytes of a window, with more bytes to come. Returns the table entry for the first byte.
-    fn ask(&mut self, peg: &SoundPeg, window: &[u8], raw: bool) -> Known
+    fn ask(&mut self, peg: &SoundPeg, window: &[u8], raw: bool) -> ByteUnit
         requires { 2 ≤ length window.now }
         ensures known { (b : ℕ) → slice_get window.now 0 ≡ Some b
             → IfSome (known_text (Some result)) (IsByteUnit peg.now raw b) }
@@ -85,8 +85,8 @@ impl<M: Matcher> CountedMatcher<M> {
     {
         let mut text = SinkOf::new(Vec::new(self.units.alloc));
         match self.print_unit(peg, &window[..2], true, raw, &mut text) {
-            Ok(Attempt::Printed(1)) => Known::of(text.into_inner()),
-            _ => Known::Other,
+            Ok(Attempt::Printed(1)) => ByteUnit::of(text.into_inner()),
+            _ => ByteUnit::Other,
         }
     }
 

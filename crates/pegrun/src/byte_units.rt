@@ -14,7 +14,7 @@ const MOST_TEXT: usize = 64;
 
 /// A table entry, for the units that begin with one byte.
 #[derive(Drop)]
-pub(crate) enum Known {
+pub(crate) enum ByteUnit {
     /// No such unit of one byte was matched yet.
     Open,
     /// The result depends on later bytes, or the text is too long to be stored.
@@ -23,15 +23,15 @@ pub(crate) enum Known {
     Prints(Vec<u8>),
 }
 
-impl Known {
+impl ByteUnit {
     /// Returns the entry for a text: `Other` if the text is too long.
-    pub(crate) fn of(text: Vec<u8>) -> Known
+    pub(crate) fn of(text: Vec<u8>) -> ByteUnit
         ensures { IfSome (known_text (Some result)) (λ kept. kept ≡ text.items) }
     {
         if text.len() > MOST_TEXT {
-            return Known::Other;
+            return ByteUnit::Other;
         }
-        Known::Prints(text)
+        ByteUnit::Prints(text)
     }
 }
 
@@ -41,7 +41,7 @@ pub struct ByteUnits {
     /// Allocates the entries.
     pub(crate) alloc: Global,
     /// The entries, by byte. The vector is empty until the first entry is added.
-    known: Vec<Known>,
+    known: Vec<ByteUnit>,
 }
 
 impl ByteUnits {
@@ -64,7 +64,7 @@ impl ByteUnits {
 
     /// Returns whether the table has no entry for a byte.
     pub(crate) fn is_open(&self, byte: u8) -> bool {
-        matches!(self.known.get(byte as usize), Some(Known::Open) | None)
+        matches!(self.known.get(byte as usize), Some(ByteUnit::Open) | None)
     }
 
     /// Returns the text for a byte, if the table has one.
@@ -73,7 +73,7 @@ impl ByteUnits {
         ensures { option_map (λ t. t.now) result ≡ text_by self.now byte }
     {
         match self.known.get(byte as usize) {
-            Some(Known::Prints(text)) => Some(text.as_slice()),
+            Some(ByteUnit::Prints(text)) => Some(text.as_slice()),
             _ => None,
         }
     }
@@ -84,13 +84,13 @@ impl ByteUnits {
         ensures room { OnOk result (256 ≤ length self.new.known.items) }
     {
         while self.known.len() < 256 {
-            self.known.push(Known::Open)?;
+            self.known.push(ByteUnit::Open)?;
         }
         Ok(())
     }
 
     /// Stores the entry for a byte. If an allocation fails, it stores no text.
-    pub(crate) fn keep(&mut self, byte: u8, known: Known)
+    pub(crate) fn keep(&mut self, byte: u8, known: ByteUnit)
         ensures { (g : Grammar) (raw : Bool) → AreByteUnits g raw self.old
             → IfSome (known_text (Some known)) (IsByteUnit g raw byte) → AreByteUnits g raw self.new }
     {

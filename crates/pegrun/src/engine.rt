@@ -19,7 +19,7 @@ use crate::attempt::CountedMatcher;
 use crate::options::PegSettings;
 use crate::passed::{Passed, pass_known};
 use crate::past::{Past, ending_at};
-use crate::unit::{Step, next_unit};
+use crate::unit::{UnitStep, next_unit};
 use feed::{Feed, Source};
 use gramcheck::SoundPeg;
 use matchfailure::FailureSearch;
@@ -86,7 +86,7 @@ fn cut<M: Matcher, R: Source, O: Sink>(
     let mut past = Past::new(alloc);
     loop {
         match next_unit(&mut counted.matcher, peg, settings, feed, start, out) {
-            Ok(Step::Takes(n)) => {
+            Ok(UnitStep::Takes(n)) => {
                 past.pass(settings.explain, feed, n);
                 feed.skip(n);
                 start += n;
@@ -96,7 +96,7 @@ fn cut<M: Matcher, R: Source, O: Sink>(
                     Err(fault) => return Err(fault),
                 }
             }
-            Ok(Step::Stops(stop)) => {
+            Ok(UnitStep::Stops(stop)) => {
                 let search = &mut counted.search;
                 return Ok(ending_at(search, peg, settings, &mut past, feed, stop));
             }

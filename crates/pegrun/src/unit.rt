@@ -23,7 +23,7 @@ use toolrun::{Status, Stop};
 
 /// The next step of a run: a unit of so many bytes, or a stop.
 #[derive(Clone, Copy)]
-pub enum Step {
+pub enum UnitStep {
     Takes(usize),
     Stops(Stop),
 }
@@ -55,18 +55,18 @@ fn step_of(
     settings: &PegSettings<'_>,
     place: usize,
     len: usize,
-) -> Result<Step, WriteFault>
+) -> Result<UnitStep, WriteFault>
     ensures { result ≡ step_after settings.now place len attempted }
 {
     match attempted {
-        Ok(Attempt::Printed(0)) => Ok(Step::Stops(stop_where(place, len))),
-        Ok(Attempt::Printed(n)) => Ok(Step::Takes(n)),
-        Ok(Attempt::Failed) => Ok(Step::Stops(stop_failed(settings, place, len))),
+        Ok(Attempt::Printed(0)) => Ok(UnitStep::Stops(stop_where(place, len))),
+        Ok(Attempt::Printed(n)) => Ok(UnitStep::Takes(n)),
+        Ok(Attempt::Failed) => Ok(UnitStep::Stops(stop_failed(settings, place, len))),
         Ok(Attempt::TooLong) => {
             let limit = settings.limit;
-            Ok(Step::Stops(Stop::LongUnit { place, limit }))
+            Ok(UnitStep::Stops(Stop::LongUnit { place, limit }))
         }
-        Ok(Attempt::NoMemory) => Ok(Step::Stops(Stop::NoMemory)),
+        Ok(Attempt::NoMemory) => Ok(UnitStep::Stops(Stop::NoMemory)),
         Err(fault) => Err(fault),
     }
 }
@@ -167,7 +167,7 @@ fn unit_at<M: Matcher, R: Source, O: Sink>(
     settings: &PegSettings<'_>,
     start: usize,
     out: &mut O,
-) -> Result<Step, WriteFault>
+) -> Result<UnitStep, WriteFault>
     requires some { more ≡ true → 0 < length (bytes_of feed.old) }
     requires within { start + length (bytes_of feed.old) ≤ input_limit }
     requires out_is_fresh { O.failed out.old ≡ false }
@@ -194,7 +194,7 @@ fn is_over(settings: &PegSettings<'_>, start: usize) -> bool
 
 /// Reads until `limit` + 1 bytes are held, the input ends or a read fails, and returns how a run ends there, after its
 /// only unit.
-fn step_over<R: Source>(feed: &mut Feed<'_, R>, start: usize) -> Step
+fn step_over<R: Source>(feed: &mut Feed<'_, R>, start: usize) -> UnitStep
     requires within { start + length (bytes_of feed.old) + allowance_of feed.old ≡ input_limit }
     requires told { IsTrueOfReader R.remaining R.failed R.ended feed.old }
     ensures loan { SameLoan feed.old feed.new }
@@ -206,8 +206,8 @@ fn step_over<R: Source>(feed: &mut Feed<'_, R>, start: usize) -> Step
     let held = feed.fill();
     let end = start + feed.len();
     match held {
-        Held::Full | Held::End => Step::Stops(stop_where(start, end)),
-        Held::Fault => Step::Stops(Stop::Broken),
+        Held::Full | Held::End => UnitStep::Stops(stop_where(start, end)),
+        Held::Fault => UnitStep::Stops(Stop::Broken),
     }
 }
 
@@ -221,7 +221,7 @@ pub fn next_unit<M: Matcher, R: Source, O: Sink>(
     feed: &mut Feed<'_, R>,
     start: usize,
     out: &mut O,
-) -> Result<Step, WriteFault>
+) -> Result<UnitStep, WriteFault>
     requires sound { IsSoundGrammar peg.now }
     requires capacity { capacity_of feed.old ≡ settings.now.limit + 1 }
     requires within { start + length (bytes_of feed.old) + allowance_of feed.old ≡ input_limit }
@@ -247,6 +247,6 @@ pub fn next_unit<M: Matcher, R: Source, O: Sink>(
     match feed.fill() {
         Held::Full => unit_at(matcher, peg, feed, true, settings, start, out),
         Held::End => unit_at(matcher, peg, feed, false, settings, start, out),
-        Held::Fault => Ok(Step::Stops(Stop::Broken)),
+        Held::Fault => Ok(UnitStep::Stops(Stop::Broken)),
     }
 }

@@ -18,7 +18,7 @@ use Rattle.flatgrammar.specs.Holds.{Holds, begins, called, has_read, returned}
 use Rattle.flatgrammar.specs.NodeSteps.{IfSomeSet}
 use Rattle.lowering.specs.ToldBeginnings.{TellsBeginnings}
 use Rattle.flatgrammar.specs.Blocks.{spot}
-use Rattle.flatgrammar.specs.declared.block.Spot.{Spot}
+use Rattle.flatgrammar.specs.declared.block.DottedRule.{DottedRule}
 use Rattle.earleyitems.specs.ChartSets.{AreSpotsOf, IsSet}
 use Rattle.lazydfa.specs.ExpectedSets.{AreReadersAt}
 use Rattle.refusedlines.specs.LetterRuns.{AreApartFrom, RunsHave}
@@ -91,13 +91,14 @@ module _ (flat : Flat) where
   place_reads c (reads {s = s} {k = k} {set = set} node (letter {sets = sets} at_k)) has =
       (s, k, refl, rw (node, at_k) has)
 
-  letters_reads : (s : Spot) (c : ℕ) (sets : List Set) → slice_get flat.nodes s.node ≡ Some (Letters sets)
+  letters_reads : (s : DottedRule) (c : ℕ) (sets : List Set) → slice_get flat.nodes s.node ≡ Some (Letters sets)
       → (o : Option Set) → slice_get sets s.step ≡ o → IfSomeSet o c
       → (set : Set) × (r : Place) × Reads flat (at s.node s.step) set r × Has set c
   letters_reads s c sets node None is h = elim h [ ]
   letters_reads s c sets node (Some set) is h = (set, at s.node (s.step + 1), reads node (letter is), h)
 
-  spot_reads : (s : Spot) (c : ℕ) (o : Option Node) → slice_get flat.nodes s.node ≡ o → IfSomeSet (read_by o s.step) c
+  spot_reads : (s : DottedRule) (c : ℕ) (o : Option Node) → slice_get flat.nodes s.node ≡ o
+      → IfSomeSet (read_by o s.step) c
       → (set : Set) × (r : Place) × Reads flat (at s.node s.step) set r × Has set c
   spot_reads s c None is h = elim h [ ]
   spot_reads s c (Some (Letters sets)) is h = letters_reads s c sets is (slice_get sets s.step) refl h
@@ -126,7 +127,7 @@ letters_push has (a ∷ z) c all is = (all.0, letters_push has z c all.1 is)
 
 module _ (has : ℕ → Bool) (rules : List Rule) (id : ℕ) (flat : Flat) (tells : TellsBeginnings has rules id flat)
     (z : List ℕ) (short : length z + 1 ≤ flat.limit) (letters : AreLetters has z) where
-  module _ (spots : List Spot) (are : AreReadersAt flat z (length z) spots) where
+  module _ (spots : List DottedRule) (are : AreReadersAt flat z (length z) spots) where
     read_follows : (c : ℕ) → has c ≡ true → SpotsRead flat spots c
         → BeginsMember has rules id (z ++ c ∷ []) (length z + 1)
     read_follows c is r =
@@ -188,7 +189,7 @@ module _ (has : ℕ → Bool) (rules : List Rule) (id : ℕ) (flat : Flat) (tell
 
 -- the dotted rules of a whole item set
 pub readers_of_set : (flat : Flat) (z : List ℕ) (n : ℕ) (set : List (Place × ℕ)) → IsSet flat z n set
-    → (spots : List Spot) → AreSpotsOf set spots → AreReadersAt flat z n spots
+    → (spots : List DottedRule) → AreSpotsOf set spots → AreReadersAt flat z n spots
 readers_of_set flat z n set is_set spots are = record {
   held = λ s stands.
       let there = (are s).0 stands in
@@ -205,7 +206,7 @@ agree_front (a ∷ x) zero k lt = absurd (omega (arith, lt))
 agree_front (a ∷ x) (suc n) zero lt = refl
 agree_front (a ∷ x) (suc n) (suc k) lt = agree_front x n k (omega (arith, lt))
 
-readers_of_front : (flat : Flat) (x : List ℕ) (n : ℕ) → n ≤ length x → (spots : List Spot)
+readers_of_front : (flat : Flat) (x : List ℕ) (n : ℕ) → n ≤ length x → (spots : List DottedRule)
     → AreReadersAt flat x n spots → AreReadersAt flat (take n x) n spots
 readers_of_front flat x n within spots are = record {
   held = λ s stands. let h = are.held s stands in
@@ -259,7 +260,7 @@ letters_front has (suc n) (a ∷ x) all = (all.0, letters_front has n x all.1)
 
 -- what can follow, by the last item set of a line
 pub following_of_set : (has : ℕ → Bool) (rules : List Rule) (id : ℕ) (flat : Flat) → TellsBeginnings has rules id flat
-    → (x : List ℕ) (n : ℕ) → length x + 1 ≤ flat.limit → AreLetters has x → n ≤ length x → (spots : List Spot)
+    → (x : List ℕ) (n : ℕ) → length x + 1 ≤ flat.limit → AreLetters has x → n ≤ length x → (spots : List DottedRule)
     → AreReadersAt flat x n spots → (runs : List LetterRun) (ends : Bool) → AreApartFrom 0 runs
     → ((c : ℕ) → RunsHave runs c ↔ ((has c ≡ true) × SpotsRead flat spots c))
     → (IsTrue ends ↔ Holds flat x n (at flat.whole 1) 0) → AreFollowing has rules id x n runs ends

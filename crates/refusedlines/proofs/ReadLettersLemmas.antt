@@ -7,19 +7,19 @@ use Rattle.std.proofs.lemmas.List.{take_more}
 use Rattle.flatgrammar.proofs.InLemmas.{among_more, at_end, from_front, in_front, in_left}
 use Rattle.flatgrammar.specs.Flat.{Flat}
 use Rattle.flatgrammar.specs.Places.{In}
-use Rattle.flatgrammar.specs.declared.block.Spot.{Spot}
+use Rattle.flatgrammar.specs.declared.block.DottedRule.{DottedRule}
 use Rattle.letters.specs.Letters.{has}
 use Rattle.letters.specs.declared.alphabet.Alphabet.{Alphabet}
 use Rattle.refusedlines.specs.LetterRuns.{RunsHave}
 use Rattle.refusedlines.specs.declared.letterruns.run.LetterRun.{LetterRun}
 use Rattle.refusedlines.specs.ReadLetters.{GainLetters, SpotReads, SpotsRead}
 
-module _ (alphabet : Alphabet) (flat : Flat) (spots : List Spot) where
+module _ (alphabet : Alphabet) (flat : Flat) (spots : List DottedRule) where
   -- the letters that the first k dotted rules read
   abbrev Read : ℕ → ℕ → Type 0
   Read k c = (has alphabet c ≡ true) × SpotsRead flat (take k spots) c
 
-  read_among : (k : ℕ) (d : Spot) (c : ℕ) → k < length spots → SpotsRead flat (take (k + 1) spots) c
+  read_among : (k : ℕ) (d : DottedRule) (c : ℕ) → k < length spots → SpotsRead flat (take (k + 1) spots) c
       → SpotsRead flat (take k spots) c ⊎ SpotReads flat (slice_index_or spots k d) c
   read_among k d c lt r =
       let one : k + 1 ≡ suc k = omega arith in
@@ -27,11 +27,12 @@ module _ (alphabet : Alphabet) (flat : Flat) (spots : List Spot) where
       (λ same. inr (subst (λ v. SpotReads flat v c) same r.reads))
       (among_more r.spot spots k d lt (subst (λ v. In r.spot (take v spots)) one r.stands))
 
-  in_next : (s : Spot) (k : ℕ) (d : Spot) → k < length spots → In s (take k spots) → In s (take (k + 1) spots)
+  in_next : (s : DottedRule) (k : ℕ) (d : DottedRule) → k < length spots → In s (take k spots)
+      → In s (take (k + 1) spots)
   in_next s k d lt h = subst (λ v. In s v) (sym (take_more spots k d lt))
       (in_left (slice_index_or spots k d ∷ []) h)
 
-  pub spots_read_more : (k : ℕ) (d : Spot) (old new : List LetterRun) → k < length spots
+  pub spots_read_more : (k : ℕ) (d : DottedRule) (old new : List LetterRun) → k < length spots
       → ((c : ℕ) → RunsHave old c ↔ Read k c)
       → GainLetters (λ c. (has alphabet c ≡ true) × SpotReads flat (slice_index_or spots k d) c) old new
       → (c : ℕ) → RunsHave new c ↔ Read (k + 1) c

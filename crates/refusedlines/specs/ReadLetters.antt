@@ -3,7 +3,7 @@ use Rattle.std.specs.Prelude.{ℕ, ◌↔◌, ◌⊎◌, List, slice_get, Option
 use Rattle.flatgrammar.specs.Flat.{Flat, Node, Set}
 use Rattle.flatgrammar.specs.NodeSteps.{IfSomeSet, read_at}
 use Rattle.flatgrammar.specs.Places.{In}
-use Rattle.flatgrammar.specs.declared.block.Spot.{Spot}
+use Rattle.flatgrammar.specs.declared.block.DottedRule.{DottedRule}
 use Rattle.refusedlines.specs.LetterRuns.{RunsHave}
 use Rattle.refusedlines.specs.declared.letterruns.run.LetterRun.{LetterRun}
 
@@ -13,12 +13,12 @@ read_by None k = None
 read_by (Some node) k = read_at node k
 
 -- a dotted rule reads a letter
-abbrev pub SpotReads : Flat → Spot → ℕ → Type 0
+abbrev pub SpotReads : Flat → DottedRule → ℕ → Type 0
 SpotReads flat s c = IfSomeSet (read_by (slice_get flat.nodes s.node) s.step) c
 
 -- one of the dotted rules reads a letter
-pub record SpotsRead (flat : Flat) (spots : List Spot) (c : ℕ) : Type 0 where
-  pub spot : Spot
+pub record SpotsRead (flat : Flat) (spots : List DottedRule) (c : ℕ) : Type 0 where
+  pub spot : DottedRule
   pub stands : In spot spots
   pub reads : SpotReads flat spot c
 

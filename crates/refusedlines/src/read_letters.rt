@@ -8,7 +8,7 @@ ghost use Rattle.refusedlines.specs.LetterRuns.{AreApartFrom, IsSomeRun, RunsHav
 ghost use Rattle.refusedlines.specs.ReadLetters.{GainLetters, SpotReads, SpotsRead};
 
 use crate::letterruns::{LetterRun, merge_runs};
-use flatgrammar::{Flat, Node, Set, Spot};
+use flatgrammar::{DottedRule, Flat, Node, Set};
 use letters::Alphabet;
 use ruletable::Memory;
 use std::alloc::Global;
@@ -105,7 +105,7 @@ fn add_node(
 fn add_spot(
     alphabet: Alphabet,
     flat: &Flat,
-    spot: Spot,
+    spot: DottedRule,
     runs: &mut Vec<LetterRun>,
 ) -> Result<(), Memory>
     requires { All IsSomeRun runs.old.items }
@@ -125,7 +125,7 @@ pub(crate) fn letters_read(
     alloc: Global,
     alphabet: Alphabet,
     flat: &Flat,
-    spots: &[Spot],
+    spots: &[DottedRule],
 ) -> Result<Vec<LetterRun>, Memory>
     ensures apart { IfOk result (λ runs. AreApartFrom 0 runs.items) }
     ensures letters { IfOk result (λ runs. (c : ℕ) → RunsHave runs.items c

@@ -9,8 +9,8 @@ use Rattle.lazydfa.specs.RunVerdicts.{IsOne}
 use Rattle.lazydfa.specs.StateSets.{grammar_of, last_in, StateSets}
 use Rattle.rulepairs.specs.declared.alone.Alone.{Alone}
 use Rattle.rulepairs.specs.declared.alone.Alone.TheVariants.{First, Never, NeverUpTo, Unknown}
-use Rattle.rulepairs.specs.declared.search.Outcome.{Outcome}
-use Rattle.rulepairs.specs.declared.search.Search.{Search}
+use Rattle.rulepairs.specs.declared.search.SearchEnd.{SearchEnd}
+use Rattle.rulepairs.specs.declared.search.PairSearch.{PairSearch}
 use Rattle.rulepairs.specs.FirstLines.{HasNoLine, HasNoLineUpTo, IsFirstLine}
 use Rattle.rulepairs.specs.Search.{IsSearchOutcome, Searches}
 use Rattle.rulepairs.specs.StatePairs.{AreSamples}
@@ -34,13 +34,13 @@ pub record AreOfGrammar (flat : Flat) (sets : StateSets) : Type 0 where
   pub tail_places : TellsLast (grammar_of sets) (last_in sets)
 
 -- a search of states of both grammars, whose first pair are the start states
-pub record IsBegun (old new : Flat) (search : Search) : Type 0 where
+pub record IsBegun (old new : Flat) (search : PairSearch) : Type 0 where
   pub olds_are : AreOfGrammar old search.olds
   pub news_are : AreOfGrammar new search.news
   pub starts : (has : ℕ → Bool) (samples : List ℕ) → Searches has samples search 0 0 0
 
 -- a search of states of both grammars by samples of all their classes, and how it ended
-pub record IsSearchOf (old new : Flat) (has : ℕ → Bool) (samples : List ℕ) (outcome : Outcome) (search : Search)
+pub record IsSearchOf (old new : Flat) (has : ℕ → Bool) (samples : List ℕ) (outcome : SearchEnd) (search : PairSearch)
     : Type 0 where
   pub olds_are : AreOfGrammar old search.olds
   pub news_are : AreOfGrammar new search.news

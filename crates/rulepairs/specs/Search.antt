@@ -3,17 +3,17 @@ use Rattle.std.specs.Prelude.{◌≡◌, ◌⊎◌, ℕ, ◌+◌, ◌<◌, ◌�
 use Rattle.std.specs.Prelude.{length, slice_get, Some}
 use Rattle.std.specs.Prelude.{slice_index_or}
 use Rattle.lazydfa.specs.StateSets.{grammar_of, last_in, StateSet, StateSets}
-use Rattle.rulepairs.specs.declared.pairs.Pair.{Pair}
-use Rattle.rulepairs.specs.declared.search.Outcome.{Outcome}
-use Rattle.rulepairs.specs.declared.search.Outcome.TheVariants.{First, Nothing, Over}
-use Rattle.rulepairs.specs.declared.search.Search.{Search}
+use Rattle.rulepairs.specs.declared.pairs.FoundPair.{FoundPair}
+use Rattle.rulepairs.specs.declared.search.SearchEnd.{SearchEnd}
+use Rattle.rulepairs.specs.declared.search.SearchEnd.TheVariants.{First, Nothing, Over}
+use Rattle.rulepairs.specs.declared.search.PairSearch.{PairSearch}
 use Rattle.rulepairs.specs.FoundPairs.{AreFound, EndWithNew, FoundPair, IsOldDead, LeadsToFound}
 
 -- a state by its number
 abbrev pub state_at : StateSets → ℕ → StateSet
 state_at sets n = slice_index_or sets.states n (record { stacks = []; ended = false })
 
-abbrev pub found_pair : StateSets → StateSets → Pair → FoundPair
+abbrev pub found_pair : StateSets → StateSets → FoundPair → FoundPair
 found_pair old new p = record {
   pair = record {
     old = (state_at old p.old).stacks;
@@ -25,30 +25,30 @@ found_pair old new p = record {
   symbol = p.symbol;
 }
 
-abbrev pub found_pairs : StateSets → StateSets → List Pair → List FoundPair
+abbrev pub found_pairs : StateSets → StateSets → List FoundPair → List FoundPair
 found_pairs old new pairs = map (found_pair old new) pairs
 
 -- a pair of these two states
-pub record HasPair (pairs : List Pair) (old new : ℕ) : Type 0 where
+pub record HasPair (pairs : List FoundPair) (old new : ℕ) : Type 0 where
   pub index : ℕ
-  pub pair : Pair
+  pub pair : FoundPair
   pub is : slice_get pairs index ≡ Some pair
   pub old_is : pair.old ≡ old
   pub new_is : pair.new ≡ new
 
 -- a pair was added, unless there was one of these states
-abbrev pub IsPairAdded : List Pair → Pair → List Pair → Type 0
+abbrev pub IsPairAdded : List FoundPair → FoundPair → List FoundPair → Type 0
 IsPairAdded old pair new = ((new ≡ old) × HasPair old pair.old pair.new) ⊎ (new ≡ old ++ pair ∷ [])
 
 -- A search by samples: all samples lead on from the first n pairs, but for the dead ones, and the first k samples from
 -- the next one. In the first m pairs the new whole is done where the old one is.
-pub record IsPairSearch (has : ℕ → Bool) (samples : List ℕ) (old new : StateSets) (pairs : List Pair) (n k m : ℕ)
+pub record IsPairSearch (has : ℕ → Bool) (samples : List ℕ) (old new : StateSets) (pairs : List FoundPair) (n k m : ℕ)
     : Type 0
   where
-    pub old_within : (i : ℕ) (p : Pair) → slice_get pairs i ≡ Some p → p.old < length old.states
-    pub new_within : (i : ℕ) (p : Pair) → slice_get pairs i ≡ Some p → p.new < length new.states
+    pub old_within : (i : ℕ) (p : FoundPair) → slice_get pairs i ≡ Some p → p.old < length old.states
+    pub new_within : (i : ℕ) (p : FoundPair) → slice_get pairs i ≡ Some p → p.new < length new.states
     pub found : AreFound (grammar_of old) (last_in old) (grammar_of new) (last_in new) (found_pairs old new pairs) has
-    pub recent : (i : ℕ) (p : Pair) → 0 < i → slice_get pairs i ≡ Some p → (p.parent < n)
+    pub recent : (i : ℕ) (p : FoundPair) → 0 < i → slice_get pairs i ≡ Some p → (p.parent < n)
         ⊎ ((p.parent ≡ n) × (j : ℕ) × (j < k) × (slice_get samples j ≡ Some p.symbol))
     pub searched : (i j : ℕ) (e : FoundPair) (c : ℕ) → (i < n) ⊎ ((i ≡ n) × (j < k))
         → slice_get (found_pairs old new pairs) i ≡ Some e → slice_get samples j ≡ Some c → IsOldDead e.pair
@@ -57,14 +57,14 @@ pub record IsPairSearch (has : ℕ → Bool) (samples : List ℕ) (old new : Sta
     pub agree : EndWithNew (found_pairs old new pairs) m
 
 -- so it is with a search of the code
-abbrev pub Searches : (ℕ → Bool) → List ℕ → Search → ℕ → ℕ → ℕ → Type 0
+abbrev pub Searches : (ℕ → Bool) → List ℕ → PairSearch → ℕ → ℕ → ℕ → Type 0
 Searches has samples search n k m = IsPairSearch has samples search.olds search.news search.pairs.items.items n k m
 
-abbrev pub found_in : Search → List FoundPair
+abbrev pub found_in : PairSearch → List FoundPair
 found_in search = found_pairs search.olds search.news search.pairs.items.items
 
 -- all samples lead on from one more pair, or there is no room for what some of them lead to
-abbrev pub IsExpanded : Bool → (ℕ → Bool) → List ℕ → Search → ℕ → ℕ → Type 0
+abbrev pub IsExpanded : Bool → (ℕ → Bool) → List ℕ → PairSearch → ℕ → ℕ → Type 0
 IsExpanded true has samples search n m = Searches has samples search (n + 1) 0 m
 IsExpanded false has samples search n m = (k : ℕ) × Searches has samples search n k m
 
@@ -76,12 +76,12 @@ pub record IsOldAloneAt (found : List FoundPair) (n : ℕ) : Type 0 where
   pub new_runs : entry.pair.new_ended ≡ false
 
 -- how a search ended
-abbrev pub IsSearchOutcome : Outcome → (ℕ → Bool) → List ℕ → Search → Type 0
+abbrev pub IsSearchOutcome : SearchEnd → (ℕ → Bool) → List ℕ → PairSearch → Type 0
 IsSearchOutcome (First n) has samples search = Searches has samples search n 0 n × IsOldAloneAt (found_in search) n
 IsSearchOutcome Nothing has samples search =
     (n : ℕ) × (length (found_in search) ≤ n) × Searches has samples search n 0 n
 IsSearchOutcome (Over n) has samples search = (k m : ℕ) × (n ≤ m) × Searches has samples search n k m
 
 -- the states of both are of the same grammars
-abbrev pub AreSameGrammars : Search → Search → Type 0
+abbrev pub AreSameGrammars : PairSearch → PairSearch → Type 0
 AreSameGrammars old new = (new.olds.tables ≡ old.olds.tables) × (new.news.tables ≡ old.news.tables)

@@ -9,9 +9,9 @@ ghost use Rattle.rulepairs.specs.FirstLines.{IsOfOldAlone};
 ghost use Rattle.rulepairs.specs.FoundPairs.{IsWordOf};
 ghost use Rattle.rulepairs.specs.Search.{found_pairs};
 
-use crate::pairs::{Pair, add_pair, no_pairs};
+use crate::pairs::{FoundPair, add_pair, no_pairs};
 use crate::samples::common_samples;
-use crate::search::{Outcome, Search, search_all};
+use crate::search::{PairSearch, SearchEnd, search_all};
 use flatgrammar::Flat;
 use lazydfa::States;
 use letters::Alphabet;
@@ -31,7 +31,7 @@ pub enum Alone {
 
 // Returns the symbols that lead to the pair of an index; `None` if there is none, or a parent does not come earlier.
 // `Memory` if an allocation fails.
-fn word_of(alloc: Global, pairs: &[Pair], index: usize) -> Result<Option<Vec<u32>>, Memory>
+fn word_of(alloc: Global, pairs: &[FoundPair], index: usize) -> Result<Option<Vec<u32>>, Memory>
     ensures { IfOk result (λ told. IfSome told (λ word. (olds news : StateSets) → IsWordOf (found_pairs olds news
         pairs.now) index word.items)) }
 {
@@ -62,7 +62,7 @@ fn begin_search(
     old: &Flat,
     new: &Flat,
     room: usize,
-) -> Result<Option<Search>, Memory>
+) -> Result<Option<PairSearch>, Memory>
     ensures { IfOk result (λ told. IfSome told (IsBegun old.now new.now)) }
 {
     let Some(mut olds) = States::new(alloc, old, room)? else {
@@ -78,31 +78,31 @@ fn begin_search(
         return Ok(None);
     };
     let mut pairs = no_pairs(alloc);
-    let pair = Pair {
+    let pair = FoundPair {
         old: first,
         new: second,
         parent: 0,
         symbol: 0,
     };
     add_pair(&mut pairs, pair)?;
-    Ok(Some(Search { olds, news, pairs }))
+    Ok(Some(PairSearch { olds, news, pairs }))
 }
 
 // Returns what the end of a search says of the lines that the old grammar alone derives. `Memory` if an allocation
 // fails.
-fn conclude(alloc: Global, search: &Search, outcome: Outcome) -> Result<Alone, Memory>
+fn conclude(alloc: Global, search: &PairSearch, outcome: SearchEnd) -> Result<Alone, Memory>
     ensures { IfOk result (λ alone. (old new : Flat) (has : ℕ → Bool) (samples : List ℕ)
         (old_rules new_rules : List Rule) (old_rule new_rule : ℕ) → IsSearchOf old new has samples outcome search.now →
         DerivesAsRule has old_rules old_rule old → DerivesAsRule has new_rules new_rule new → IsKnownOf (IsOfOldAlone
         has old_rules old_rule new_rules new_rule) alone) }
 {
     match outcome {
-        Outcome::First(n) => match word_of(alloc, &search.pairs.items, n)? {
+        SearchEnd::First(n) => match word_of(alloc, &search.pairs.items, n)? {
             Some(word) => Ok(Alone::First(word)),
             None => Ok(Alone::Unknown),
         },
-        Outcome::Nothing => Ok(Alone::Never),
-        Outcome::Over(n) => match word_of(alloc, &search.pairs.items, n)? {
+        SearchEnd::Nothing => Ok(Alone::Never),
+        SearchEnd::Over(n) => match word_of(alloc, &search.pairs.items, n)? {
             Some(word) => match word.len().checked_sub(1) {
                 Some(most) => Ok(Alone::NeverUpTo(most)),
                 None => Ok(Alone::Unknown),

@@ -3,13 +3,13 @@ ghost use Rattle.std.specs.Prelude.{◌≡◌, ◌+◌, ℕ, Bool, false, List, 
 ghost use Rattle.rulepairs.specs.Samples.{AreInLineOrder};
 ghost use Rattle.rulepairs.specs.Search.{AreSameGrammars, IsExpanded, IsSearchOutcome, Searches};
 
-use crate::pairs::{Pair, Pairs, add_pair};
+use crate::pairs::{FoundPair, Pairs, add_pair};
 use lazydfa::States;
 use ruletable::Memory;
 
 /// The states of two grammars, and the pairs of them that a search has found.
 #[derive(Drop)]
-pub(crate) struct Search {
+pub(crate) struct PairSearch {
     /// The states of the old grammar.
     pub(crate) olds: States,
     /// The states of the new grammar.
@@ -21,7 +21,7 @@ pub(crate) struct Search {
 /// How a search ended. `First`: the old grammar alone derives the symbols that lead to the pair of that index.
 /// `Nothing`: all pairs were searched. `Over`: there was no room for what the pair of that index leads to.
 #[derive(Clone, Copy)]
-pub(crate) enum Outcome {
+pub(crate) enum SearchEnd {
     First(usize),
     Nothing,
     Over(usize),
@@ -29,7 +29,7 @@ pub(crate) enum Outcome {
 
 // Finds the pair that a symbol leads to from another. Returns whether there is room for its states. `Memory` if an
 // allocation fails.
-fn lead(search: &mut Search, at: usize, symbol: u32) -> Result<bool, Memory>
+fn lead(search: &mut PairSearch, at: usize, symbol: u32) -> Result<bool, Memory>
     ensures same { IfOk result (λ done. AreSameGrammars search.old search.new) }
     ensures led { IfOk result (λ done. (has : ℕ → Bool) (samples : List ℕ) (k m : ℕ) → Searches has samples search.old
         at k m → IsTrue done → AreInLineOrder has samples → slice_get samples k ≡ Some symbol → Searches has samples
@@ -47,7 +47,7 @@ fn lead(search: &mut Search, at: usize, symbol: u32) -> Result<bool, Memory>
     let Some(new) = search.news.next(pair.new, symbol)? else {
         return Ok(false);
     };
-    let next = Pair {
+    let next = FoundPair {
         old,
         new,
         parent: at,
@@ -59,7 +59,7 @@ fn lead(search: &mut Search, at: usize, symbol: u32) -> Result<bool, Memory>
 
 // Finds the pairs that samples lead to from another. Returns whether there is room for their states. `Memory` if an
 // allocation fails.
-fn expand(search: &mut Search, at: usize, samples: &[u32]) -> Result<bool, Memory>
+fn expand(search: &mut PairSearch, at: usize, samples: &[u32]) -> Result<bool, Memory>
     ensures same { IfOk result (λ done. AreSameGrammars search.old search.new) }
     ensures expanded { IfOk result (λ done. (has : ℕ → Bool) (m : ℕ) → AreInLineOrder has samples.now → Searches has
         samples.now search.old at 0 m → IsExpanded done has samples.now search.new at m) }
@@ -74,25 +74,25 @@ fn expand(search: &mut Search, at: usize, samples: &[u32]) -> Result<bool, Memor
 
 /// Searches at most `most` pairs in the order in which they were found. `Memory` if an allocation fails.
 pub(crate) fn search_all(
-    search: &mut Search,
+    search: &mut PairSearch,
     samples: &[u32],
     most: usize,
-) -> Result<Outcome, Memory>
+) -> Result<SearchEnd, Memory>
     ensures same { IfOk result (λ outcome. AreSameGrammars search.old search.new) }
     ensures outcome { IfOk result (λ outcome. (has : ℕ → Bool) → AreInLineOrder has samples.now → Searches has
         samples.now search.old 0 0 0 → IsSearchOutcome outcome has samples.now search.new) }
 {
     for at in 0..most {
         let Some(found) = search.pairs.items.get(at) else {
-            return Ok(Outcome::Nothing);
+            return Ok(SearchEnd::Nothing);
         };
         let pair = *found;
         if search.olds.has_ended(pair.old) && !search.news.has_ended(pair.new) {
-            return Ok(Outcome::First(at));
+            return Ok(SearchEnd::First(at));
         }
         if !search.olds.is_dead(pair.old) && !expand(search, at, samples)? {
-            return Ok(Outcome::Over(at));
+            return Ok(SearchEnd::Over(at));
         }
     }
-    Ok(Outcome::Over(most))
+    Ok(SearchEnd::Over(most))
 }

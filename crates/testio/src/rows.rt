@@ -11,7 +11,7 @@ pub trait Calls {
 
 /// A row as it is written.
 #[derive(Drop)]
-struct Line {
+struct RowLines {
     /// The number of its first line.
     number: usize,
     /// Its lines, joined.
@@ -22,15 +22,15 @@ struct Line {
 const INDENT: &[u8] = b"    ";
 
 // Joins the lines of each row. Empty lines and comments are no rows.
-fn lines_of(alloc: Global, text: &[u8]) -> Option<Vec<Line>> {
-    let mut lines: Vec<Line> = Vec::new(alloc);
+fn lines_of(alloc: Global, text: &[u8]) -> Option<Vec<RowLines>> {
+    let mut lines: Vec<RowLines> = Vec::new(alloc);
     for (at, line) in text.split(|byte| *byte == b'\n').enumerate() {
         if let Some(more) = line.strip_prefix(INDENT) {
             lines.last_mut()?.text.extend_from_slice(more).ok()?;
         } else if !line.is_empty() && line.first() != Some(&b'#') {
             let text = Vec::from_slice(alloc, line).ok()?;
             let number = at.saturating_add(1);
-            lines.push(Line { number, text }).ok()?;
+            lines.push(RowLines { number, text }).ok()?;
         }
     }
     Some(lines)
@@ -186,7 +186,7 @@ fn run_row<C: Calls>(alloc: Global, calls: &C, line: &[u8], out: &mut Text) -> O
 }
 
 // Runs a row, and adds a line on it if it is not right. Tells whether it is.
-fn check_row<C: Calls>(alloc: Global, calls: &C, line: &Line, out: &mut Text) -> bool {
+fn check_row<C: Calls>(alloc: Global, calls: &C, line: &RowLines, out: &mut Text) -> bool {
     let mut why = Text::new(alloc);
     let is_right = run_row(alloc, calls, &line.text, &mut why);
     if is_right == Some(true) {

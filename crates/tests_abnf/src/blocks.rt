@@ -1,7 +1,7 @@
 //! Lines and rules of RFCs.
 
 use abnfblocks::{
-    Found, LineKind, blank_count, find_rules, is_blank, read_lines, source_text, without_mark,
+    LineKind, RuleSearch, blank_count, find_rules, is_blank, read_lines, source_text, without_mark,
 };
 use ruletable::{SinkOf, write_fault};
 use std::alloc::Global;
@@ -23,15 +23,15 @@ pub(crate) fn xml_text_of(alloc: Global, fields: &Fields, out: &mut Text) -> Opt
 }
 
 // Adds what is found.
-fn add_found(alloc: Global, found: &Found, out: &mut Text) -> Option<()> {
+fn add_found(alloc: Global, found: &RuleSearch, out: &mut Text) -> Option<()> {
     match found {
-        Found::Rule { first, count } => {
+        RuleSearch::Rule { first, count } => {
             out.add_number(*first as u128);
             out.add(b": lines ");
             out.add_number(*count as u128);
             out.add(b"\n");
         }
-        Found::NotAbnf {
+        RuleSearch::NotAbnf {
             first,
             count,
             fault,

@@ -9,7 +9,7 @@ use testio::{Fields, Text};
 
 /// A flat grammar with its chart.
 #[derive(Drop)]
-struct Sets {
+struct FilledChart {
     /// The flat grammar.
     flat: Flat,
     /// The item sets of a line.
@@ -17,14 +17,14 @@ struct Sets {
 }
 
 // Returns the flat grammar of a text for lines of so many letters, with no item sets.
-fn no_sets(alloc: Global, text: &[u8], limit: usize) -> Option<Sets> {
+fn no_sets(alloc: Global, text: &[u8], limit: usize) -> Option<FilledChart> {
     let flat = flat(alloc, text, limit)?;
     let chart = Chart::new(alloc);
-    Some(Sets { flat, chart })
+    Some(FilledChart { flat, chart })
 }
 
 // Makes the item sets of a line. Returns whether the judged rule derives it; nothing if it is too long.
-fn is_derived(sets: &mut Sets, line: &[u8]) -> Option<bool> {
+fn is_derived(sets: &mut FilledChart, line: &[u8]) -> Option<bool> {
     if line.len() > sets.flat.limit() {
         return None;
     }
@@ -32,7 +32,7 @@ fn is_derived(sets: &mut Sets, line: &[u8]) -> Option<bool> {
 }
 
 // `bytes`: the runs of the bytes that are derived as lines of one letter.
-fn add_bytes(sets: &mut Sets, out: &mut Text) -> Option<()> {
+fn add_bytes(sets: &mut FilledChart, out: &mut Text) -> Option<()> {
     let mut is_in_run = false;
     for byte in 0..=255u8 {
         let answer = is_derived(sets, &[byte])?;
@@ -62,7 +62,7 @@ fn add_items(chart: &Chart, set: usize, out: &mut Text) {
 }
 
 // `items .. | LINE | SET ..`: whether a line is derived, and how many items each set has.
-fn add_sets(sets: &mut Sets, fields: &Fields, out: &mut Text) -> Option<()> {
+fn add_sets(sets: &mut FilledChart, fields: &Fields, out: &mut Text) -> Option<()> {
     out.add_answer(is_derived(sets, fields.text(2))?);
     for at in 3..fields.len() {
         out.add(b";");
@@ -73,7 +73,7 @@ fn add_sets(sets: &mut Sets, fields: &Fields, out: &mut Text) -> Option<()> {
 
 // `items_within .. | LINE | COUNT`: the limit, whether the line is derived, whether each of its sets has an item, and
 // set j at most COUNT * (j + 1) of them, and how many items the set after the last has.
-fn add_bounds(sets: &mut Sets, fields: &Fields, out: &mut Text) -> Option<()> {
+fn add_bounds(sets: &mut FilledChart, fields: &Fields, out: &mut Text) -> Option<()> {
     let line = fields.text(2);
     out.add_number(sets.flat.limit() as u128);
     out.add(b";");
@@ -91,7 +91,7 @@ fn add_bounds(sets: &mut Sets, fields: &Fields, out: &mut Text) -> Option<()> {
 
 // `one_chart .. | LINE`: whether one chart derives the prefixes of a line of seven letters a thousand times, and has no
 // items after their ends.
-fn add_prefixes(sets: &mut Sets, line: &[u8], out: &mut Text) -> Option<()> {
+fn add_prefixes(sets: &mut FilledChart, line: &[u8], out: &mut Text) -> Option<()> {
     let mut are_derived = true;
     for n in 0..1000usize {
         let end = n % 8;

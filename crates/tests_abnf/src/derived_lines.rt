@@ -1,7 +1,7 @@
 //! Calls on the lines that a rule derives.
 
 use crate::sound_grammars::sound;
-use derivedlines::{Lines, Step};
+use derivedlines::{Lines, NextLine};
 use letters::Alphabet;
 use std::alloc::Global;
 use testio::{Fields, Text};
@@ -33,13 +33,13 @@ pub(crate) fn first_lines(alloc: Global, fields: &Fields, out: &mut Text) -> Opt
     let mut lines = Lines::new(alloc, &grammar, alphabet, 10, limit, ROOM).ok()??;
     let mut step = lines.first().ok()??;
     for _ in 0..fields.number(1) {
-        let Step::Line(line) = step else {
+        let NextLine::Line(line) = step else {
             break;
         };
         add_line(&line, out);
         step = lines.after(&line).ok()??;
     }
-    if matches!(step, Step::Done) {
+    if matches!(step, NextLine::Done) {
         out.add(b".");
     }
     Some(())

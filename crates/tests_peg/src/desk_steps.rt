@@ -1,7 +1,7 @@
 //! Steps of the plain machine.
 ghost use Rattle.std.specs.Prelude.{◌≡◌, ◌<◌, List, ◌∷◌, length, true};
 ghost use Rattle.matchfailure.specs.Desk.{Fits};
-ghost use Rattle.matchfailure.specs.declared.desk.frame.Frame.{Frame};
+ghost use Rattle.matchfailure.specs.declared.desk.frame.FailureFrame.{FailureFrame};
 
 use crate::nodes::sound;
 use crate::units::add_unit;
@@ -23,7 +23,7 @@ fn answered(
     more: bool,
 ) -> Result<Option<(Unit, usize)>, Memory>
     requires some { more ≡ true → 0 < length window.now }
-    requires frame { (top : Frame) × (below : List Frame) × (desk.old.frames ≡ top ∷ below) }
+    requires frame { (top : FailureFrame) × (below : List FailureFrame) × (desk.old.frames ≡ top ∷ below) }
     requires fits { Fits peg.now window.now more desk.old }
 {
     for i in 0..MOST_STEPS {

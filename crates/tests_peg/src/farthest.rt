@@ -3,7 +3,7 @@
 use crate::nodes::sound;
 use gramcheck::SoundPeg;
 use matchfailure::{
-    Told, Visit, failing_leaf_stops, fails_so_in_input, farthest_failure, farthest_or_none,
+    LastUnit, Visit, failing_leaf_stops, fails_so_in_input, farthest_failure, farthest_or_none,
     one_farthest, one_no_match, stops_fail, told_unit,
 };
 use pegnodes::Node;
@@ -62,8 +62,8 @@ fn position(fields: &Fields, at: usize) -> Option<u128> {
 /// and of the last one.
 pub(crate) fn told_unit_of(fields: &Fields, out: &mut Text) {
     match told_unit(position(fields, 0), position(fields, 1)) {
-        Told::Before => out.add(b"before"),
-        Told::Last => out.add(b"last"),
+        LastUnit::Before => out.add(b"before"),
+        LastUnit::Last => out.add(b"last"),
     }
 }
 

@@ -11,7 +11,7 @@ use testio::{ALL, Paper, Takes, Tape};
 
 /// The ends of a run: its reader and its writers.
 #[derive(Drop)]
-pub struct Ends<'a> {
+pub struct RunEnds<'a> {
     /// The bytes of the input.
     pub input: &'a [u8],
     /// How many bytes a call gives or takes.
@@ -24,10 +24,10 @@ pub struct Ends<'a> {
     pub err: Takes,
 }
 
-impl<'a> Ends<'a> {
+impl<'a> RunEnds<'a> {
     /// Ends that never fail.
-    pub fn new(input: &'a [u8], step: usize) -> Ends<'a> {
-        Ends {
+    pub fn new(input: &'a [u8], step: usize) -> RunEnds<'a> {
+        RunEnds {
             input,
             step,
             torn: false,
@@ -123,7 +123,7 @@ pub fn run_over(
     tool: Tool,
     grammar: &[u8],
     wanted: Wanted,
-    ends: &Ends<'_>,
+    ends: &RunEnds<'_>,
 ) -> Ended {
     let clock = Cell::new(0);
     let mut reader = SourceOf::new(Tape::new(ends.input, ends.step.max(1), ends.torn));

@@ -1,13 +1,13 @@
 //! Readers that give a few bytes a call and fail, and how many bytes are left to them.
 
-use crate::ends::{Ends, Tool, Wanted, run_over};
+use crate::ends::{RunEnds, Tool, Wanted, run_over};
 use fanquber::{DEFAULT_LIMIT, Mode, Status};
 use std::process::Abort;
 use std::test::Fail;
 
 // A tool, a grammar, how many bytes a unit or a line may have, an input, what is to come on both outputs, the
 // status, and how many bytes of the input are left to the reader.
-type Row = (
+type RunRow = (
     Tool,
     &'static [u8],
     usize,
@@ -31,9 +31,9 @@ pub(crate) const WORD: &[u8] = b"word = 1*ALPHA";
 const TORN: &[u8] = b"read error\n";
 
 // Checks a row by reads and writes of so many bytes. A torn reader fails after the input.
-fn check_row<R: Abort + AllocGlobal>(rt: &R, row: &Row, torn: bool, step: usize) {
+fn check_row<R: Abort + AllocGlobal>(rt: &R, row: &RunRow, torn: bool, step: usize) {
     let wanted = Wanted::new(Mode::Run, row.2);
-    let mut ends = Ends::new(row.3, step);
+    let mut ends = RunEnds::new(row.3, step);
     ends.torn = torn;
     let ran = run_over(rt.alloc(), row.0, row.1, wanted, &ends);
     assert!(rt; ran.is(row.4, row.5, row.6), "{:?} by {step}", row.1);
@@ -41,7 +41,7 @@ fn check_row<R: Abort + AllocGlobal>(rt: &R, row: &Row, torn: bool, step: usize)
 }
 
 // Checks each row by reads and writes of 1, 2, 3 and 7 bytes, and all at once.
-fn check_rows<R: Abort + AllocGlobal>(rt: &R, rows: &[Row], torn: bool) {
+fn check_rows<R: Abort + AllocGlobal>(rt: &R, rows: &[RunRow], torn: bool) {
     for row in rows {
         for step in [1usize, 2, 3, 7, 4096] {
             check_row(rt, row, torn, step);
@@ -50,7 +50,7 @@ fn check_rows<R: Abort + AllocGlobal>(rt: &R, rows: &[Row], torn: bool) {
 }
 
 // After a fault of the reader a unit is run on a full window alone.
-static FAULTS: [Row; 8] = [
+static FAULTS: [RunRow; 8] = [
     // the third unit has no window of two bytes
     (
         Tool::Peg,
@@ -145,7 +145,7 @@ fn after_a_fault_of_the_reader_a_unit_is_run_on_a_full_window_alone(rt: HostRunt
 fn a_reader_may_fail_after_each_byte(rt: HostRuntime) {
     let input: &[u8] = b"a username\n";
     for given in 0..12 {
-        let mut ends = Ends::new(&input[..given], 3);
+        let mut ends = RunEnds::new(&input[..given], 3);
         ends.torn = true;
         let ran = run_over(
             rt.alloc(),
@@ -160,7 +160,7 @@ fn a_reader_may_fail_after_each_byte(rt: HostRuntime) {
 }
 
 // Runs that stop early, and two that take all of their input.
-static LEFT: [Row; 9] = [
+static LEFT: [RunRow; 9] = [
     (
         Tool::Peg,
         b"S <- 'a'",
@@ -283,7 +283,7 @@ fn seventy_thousand_bytes(rt: HostRuntime) -> Result<(), Fail> {
     let text = vec![in rt.alloc(); b'a'; 70_000]?;
     for row in &LIMITS {
         let wanted = Wanted::new(Mode::Run, row.0);
-        let ends = Ends::new(&text, 4096);
+        let ends = RunEnds::new(&text, 4096);
         let ran = run_over(rt.alloc(), Tool::Peg, b"S <- .* {x}", wanted, &ends);
         assert!(rt;
             ran.is(row.1, row.2, row.3) && ran.left == row.4,

@@ -1,12 +1,12 @@
 //! Error outputs that fail within what explains a grammar's fault, a stop or a rejected line.
 
-use crate::ends::{Ends, Tool, Wanted, run_over};
+use crate::ends::{RunEnds, Tool, Wanted, run_over};
 use fanquber::{DEFAULT_LIMIT, Mode, Status};
 use testio::{ALL, Takes};
 
 // A tool, a grammar, an input, what is printed, what is told, how many bytes are left to the reader, and when both
 // outputs are flushed: from 1, 0 for never.
-type Row = (
+type RunRow = (
     Tool,
     &'static [u8],
     &'static [u8],
@@ -16,7 +16,7 @@ type Row = (
     (u32, u32),
 );
 
-static ROWS: [Row; 4] = [
+static ROWS: [RunRow; 4] = [
     (
         Tool::Peg,
         b"S <-\t'\xC3\xA9' \xE2\x86\x90 x\n",
@@ -86,7 +86,7 @@ fn an_error_output_that_fails_holds_a_prefix_of_what_is_told(rt: HostRuntime) {
         let mut wanted = Wanted::new(Mode::Run, DEFAULT_LIMIT);
         wanted.explain = true;
         for room in 0..row.4.len() {
-            let ends = Ends {
+            let ends = RunEnds {
                 input: row.2,
                 step: 3,
                 torn: false,

@@ -1,7 +1,7 @@
 //! Writers that fail at a byte or in a flush, and notes that stand before a run.
 ghost use Rattle.std.specs.Prelude.{None};
 
-use crate::ends::{Ended, Ends, PEG, Tool, Wanted, run_over};
+use crate::ends::{Ended, PEG, RunEnds, Tool, Wanted, run_over};
 use crate::readers::{USERNAME, WORD};
 use fanquber::{DEFAULT_LIMIT, Mode, SourceOf, Status, run_peg};
 use ruletable::SinkOf;
@@ -23,7 +23,7 @@ type Written = (
 /// Runs a row with these outputs.
 fn run_row(alloc: Global, row: &Written, out: Takes, err: Takes) -> Ended {
     let wanted = Wanted::new(row.0, DEFAULT_LIMIT);
-    let ends = Ends {
+    let ends = RunEnds {
         input: row.2,
         step: 3,
         torn: false,
@@ -103,7 +103,7 @@ fn an_output_that_fails_holds_a_prefix(rt: HostRuntime) {
 #[test]
 fn an_output_that_fails_holds_a_prefix_of_the_answers(rt: HostRuntime) {
     let wanted = Wanted::new(Mode::Run, DEFAULT_LIMIT);
-    let mut ends = Ends::new(b"ab\nA1\n\nZ", 7);
+    let mut ends = RunEnds::new(b"ab\nA1\n\nZ", 7);
     ends.out.room = 3;
     let ran = run_over(rt.alloc(), Tool::Abnf, WORD, wanted, &ends);
     assert!(rt; ran.is(b"yes", b"write error\n", Status::Fault));

@@ -5,10 +5,10 @@ use Rattle.toolrun.specs.Explained.{Explained}
 use Rattle.toolrun.specs.declared.settings.Settings.{Settings}
 use Rattle.toolrun.specs.declared.stop.Stop.{Stop}
 use Rattle.toolrun.specs.declared.stop.Stop.TheVariants.{NoMemory}
-use Rattle.toolrun.specs.declared.told.Hinted.{Hinted}
-use Rattle.toolrun.specs.declared.told.Hinted.TheVariants as hinted
-use Rattle.toolrun.specs.declared.told.Told.{Told}
-use Rattle.toolrun.specs.declared.told.Told.TheVariants.{Whole, Part}
+use Rattle.toolrun.specs.declared.told.HintText.{HintText}
+use Rattle.toolrun.specs.declared.told.HintText.TheVariants as hinted
+use Rattle.toolrun.specs.declared.told.NoteText.{NoteText}
+use Rattle.toolrun.specs.declared.told.NoteText.TheVariants.{Whole, Part}
 
 -- all notes in order: the line of each, and behind it the lines that explain it
 pub data AreNotesTold (Why : Said → List ℕ → Type 0) : List Said → List ℕ → Type 0 where
@@ -48,12 +48,13 @@ pub record CutNotes {O : Type 0} (settings : Settings O) (Why : Option (List ℕ
   pub begun : AreNotesBegun (WhyNoted settings Why) notes text
 
 -- what the code tells of notes
-abbrev pub IsToldOf : (Said → List ℕ → Type 0) → List Said → Told → Type 0
+abbrev pub IsToldOf : (Said → List ℕ → Type 0) → List Said → NoteText → Type 0
 IsToldOf Why notes (Whole text) = AreNotesTold Why notes text.items
 IsToldOf Why notes (Part text) = AreNotesBegun Why notes text.items
 
 -- what the code tells of notes, with hints behind them, and the rules that it hands back
-abbrev pub IsHintedOf : {R : Type 0} → (Said → List ℕ → Type 0) → (List ℕ → Type 0) → List Said → R → Hinted R → Type 0
+abbrev pub IsHintedOf : {R : Type 0} → (Said → List ℕ → Type 0) → (List ℕ → Type 0) → List Said → R → HintText R
+    → Type 0
 IsHintedOf Why AreHints notes rules (hinted.Whole text kept) = ((first hints : List ℕ) × AreNotesTold Why notes first
     × AreHints hints × (text.items ≡ first ++ hints)) × (kept ≡ rules)
 IsHintedOf Why AreHints notes rules (hinted.Part text) = AreNotesBegun Why notes text.items

@@ -6,7 +6,7 @@ ghost use Rattle.toolrun.specs.ToldNotes.{HintedNotes};
 use crate::language::{Checked, Language};
 use crate::notes::text_of;
 use crate::settings::Settings;
-use crate::told::{Hinted, told_hints};
+use crate::told::{HintText, told_hints};
 use ruletable::{Memory, Note, ReadFault};
 use std::alloc::Global;
 
@@ -63,8 +63,8 @@ fn diagnostics_of<L: Language>(
         return Ok((text, rules));
     }
     match told_hints::<L>(alloc, text, settings, rules, notes) {
-        Hinted::Whole(text, rules) => Ok((text, rules)),
-        Hinted::Part(_) => Err(Memory),
+        HintText::Whole(text, rules) => Ok((text, rules)),
+        HintText::Part(_) => Err(Memory),
     }
 }
 

@@ -16,7 +16,7 @@ use crate::opening::read_checked;
 use crate::settings::{Mode, Settings};
 use crate::status::Status;
 use crate::stop::{Stop, stop_unread};
-use crate::told::{Hinted, Told, told_hints, told_notes};
+use crate::told::{HintText, NoteText, told_hints, told_notes};
 use ruletable::{Memory, Note, ReadFault};
 use std::alloc::Global;
 
@@ -177,11 +177,11 @@ fn plan_again<L: Language>(
         };
     }
     match told_notes::<L>(alloc, text, settings.start, grammar, notes.as_slice()) {
-        Told::Whole(told) => Plan {
+        NoteText::Whole(told) => Plan {
             first: First::Told(told),
             task,
         },
-        Told::Part(told) => Plan {
+        NoteText::Part(told) => Plan {
             first: First::Told(told),
             task: Err(Stop::NoMemory),
         },
@@ -239,10 +239,10 @@ fn plan_opened<L: Language>(
         return plan_task::<L>(alloc, settings, First::Notes(notes), rules, judged);
     }
     match told_hints::<L>(alloc, text, settings, rules, notes.as_slice()) {
-        Hinted::Whole(told, rules) => {
+        HintText::Whole(told, rules) => {
             plan_task::<L>(alloc, settings, First::Told(told), rules, judged)
         }
-        Hinted::Part(told) => Plan {
+        HintText::Part(told) => Plan {
             first: First::Told(told),
             task: Err(Stop::NoMemory),
         },

@@ -11,7 +11,7 @@ use std::alloc::Global;
 
 /// The text of notes with the lines that explain them.
 #[derive(Drop)]
-pub(crate) enum Told {
+pub(crate) enum NoteText {
     /// All of them.
     Whole(Vec<u8>),
     /// The first ones, where an allocation failed.
@@ -20,7 +20,7 @@ pub(crate) enum Told {
 
 /// The text of notes with the lines that explain them, and then hints.
 #[derive(Drop)]
-pub(crate) enum Hinted<R> {
+pub(crate) enum HintText<R> {
     /// All of it, and the rules of the grammar.
     Whole(Vec<u8>, R),
     /// The first notes, where an allocation failed.
@@ -63,7 +63,7 @@ fn told_by<L: Language>(
     places: &L::Places,
     start: Option<&str>,
     notes: &[Note],
-) -> Told
+) -> NoteText
     ensures { (text : List ℕ) → L.are_places text (option_copied start.entry) places.now
         → IsToldOf (L.explains_note text (option_copied start.entry)) (map said_of notes.now) result }
 {
@@ -71,14 +71,14 @@ fn told_by<L: Language>(
     for note in notes {
         match push_note(alloc, note, &mut told) {
             Ok(()) => {}
-            Err(Memory) => return Told::Part(told),
+            Err(Memory) => return NoteText::Part(told),
         }
         match push_why::<L>(alloc, places, start, note, &mut told) {
             Ok(()) => {}
-            Err(Memory) => return Told::Part(told),
+            Err(Memory) => return NoteText::Part(told),
         }
     }
-    Told::Whole(told)
+    NoteText::Whole(told)
 }
 
 /// Returns the notes on the grammar of a text, each with the lines that explain it. Where an allocation fails, the
@@ -89,16 +89,16 @@ pub(crate) fn told_notes<L: Language>(
     start: Option<&str>,
     grammar: L::Grammar,
     notes: &[Note],
-) -> Told
+) -> NoteText
     requires { L.is_read text.now grammar }
     ensures { IsToldOf (L.explains_note text.now (option_copied start.entry)) (map said_of notes.now) result }
 {
     let Ok(checked) = L::check(alloc, grammar, start) else {
-        return Told::Part(Vec::new(alloc));
+        return NoteText::Part(Vec::new(alloc));
     };
     match L::places(alloc, text, checked.rules, start) {
         Ok(places) => told_by::<L>(alloc, &places, start, notes),
-        Err(Memory) => Told::Part(Vec::new(alloc)),
+        Err(Memory) => NoteText::Part(Vec::new(alloc)),
     }
 }
 
@@ -126,21 +126,21 @@ pub(crate) fn told_hints<L: Language>(
     settings: &Settings<'_, L::Options>,
     rules: L::Rules,
     notes: &[Note],
-) -> Hinted<L::Rules>
+) -> HintText<L::Rules>
     requires { L.are_rules text.now rules }
     ensures { IsHintedOf (L.explains_note text.now (option_copied settings.now.start))
         (L.are_hints text.now settings.now) (map said_of notes.now) rules result }
 {
     let Ok(places) = L::places(alloc, text, rules, settings.start) else {
-        return Hinted::Part(Vec::new(alloc));
+        return HintText::Part(Vec::new(alloc));
     };
     match told_by::<L>(alloc, &places, settings.start, notes) {
-        Told::Part(told) => Hinted::Part(told),
-        Told::Whole(told) => {
+        NoteText::Part(told) => HintText::Part(told),
+        NoteText::Whole(told) => {
             let mut told = told;
             match push_hints::<L>(alloc, &places, settings, &mut told) {
-                Ok(()) => Hinted::Whole(told, L::into_rules(places)),
-                Err(Memory) => Hinted::Part(told),
+                Ok(()) => HintText::Whole(told, L::into_rules(places)),
+                Err(Memory) => HintText::Part(told),
             }
         }
     }

@@ -94,7 +94,7 @@ fn number_or_zero(numbers: &[usize], i: usize) -> usize
 
 /// The next lines of a text, which are masked or not together.
 #[derive(Clone, Copy)]
-struct Step {
+struct MaskedRun {
     /// How many lines.
     count: usize,
     /// Whether they are masked.
@@ -102,11 +102,11 @@ struct Step {
 }
 
 // Returns the lines of a block of that size, masked or not, or else one line that is not masked.
-fn step_over(size: usize, hides: bool) -> Step
+fn step_over(size: usize, hides: bool) -> MaskedRun
     ensures count { result.count ≡ max size 1 }
     ensures masks { result.masks ≡ (nat_lt 0 size && hides) }
 {
-    Step {
+    MaskedRun {
         count: size.max(1),
         masks: size > 0 && hides,
     }

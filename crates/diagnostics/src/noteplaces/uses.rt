@@ -22,7 +22,7 @@ use std::alloc::Global;
 
 /// A mention with its rule.
 #[derive(Clone, Copy)]
-pub(crate) struct Found<'a> {
+pub(crate) struct MentionInRule<'a> {
     /// The rule in whose body it stands.
     rule: &'a Head,
     /// The mention.
@@ -71,8 +71,8 @@ fn rule_around(places: &Places, start: usize) -> Result<Option<&Head>, Memory>
 fn earlier_of<'a>(
     rule: Option<&'a Head>,
     mention: &'a Mention,
-    other: Option<Found<'a>>,
-) -> Option<Found<'a>>
+    other: Option<MentionInRule<'a>>,
+) -> Option<MentionInRule<'a>>
     ensures { (names : NameCase) (definitions : List DefinedAt) (mentions : List MentionedAt)
         → option_map (λ h. defined_at h.now) rule.entry ≡ rule_standing_at names definitions mention.now.within
         → IsFirstIfAny names definitions mentions (option_map mention_found other.entry)
@@ -86,14 +86,14 @@ fn earlier_of<'a>(
             return Some(later);
         }
     }
-    Some(Found { rule, mention })
+    Some(MentionInRule { rule, mention })
 }
 
 // Returns the first of the mentions, in the order of the rules and of their bodies.
 fn earliest_of<'a>(
     places: &'a Places,
     mentions: &[&'a Mention],
-) -> Result<Option<Found<'a>>, Memory>
+) -> Result<Option<MentionInRule<'a>>, Memory>
     ensures { IfOk result (λ found. IsFirstIfAny places.now.names (map defined_at places.now.heads.items)
         (map (λ m. mentioned_at m.now) mentions.now) (option_map mention_found found)) }
 {
@@ -139,7 +139,7 @@ pub(crate) fn mentions_under<'a>(
 }
 
 // Adds the line of the use of a name.
-fn push_use(out: &mut Vec<u8>, found: Option<Found<'_>>) -> Result<(), Memory>
+fn push_use(out: &mut Vec<u8>, found: Option<MentionInRule<'_>>) -> Result<(), Memory>
     ensures { OnOk result (out.new.items ≡ out.old.items ++ use_line (option_map mention_found found.entry)) }
 {
     if let Some(found) = found {

@@ -1,16 +1,16 @@
 //! Frames that begin and come further.
 ghost use Rattle.std.specs.Prelude.{◌≡◌, List, ◌∷◌, OnOk};
 ghost use Rattle.matchfailure.specs.Desk.{beginning as begun_at};
-ghost use Rattle.matchfailure.specs.declared.desk.frame.Frame.{Frame};
+ghost use Rattle.matchfailure.specs.declared.desk.frame.FailureFrame.{FailureFrame};
 
-use crate::desk::frame::{Frame, Frames};
+use crate::desk::frame::{FailureFrame, FailureFrames};
 use ruletable::Memory;
 
 /// Returns the frame of a node at a position that begins.
-pub(crate) fn beginning(node: usize, place: usize) -> Frame
+pub(crate) fn beginning(node: usize, place: usize) -> FailureFrame
     ensures { result ≡ begun_at node place }
 {
-    Frame {
+    FailureFrame {
         node,
         place,
         next: 0,
@@ -20,14 +20,14 @@ pub(crate) fn beginning(node: usize, place: usize) -> Frame
 
 /// Brings the last frame further; it asks for a node at a position.
 pub(crate) fn advance(
-    frames: &mut Frames,
+    frames: &mut FailureFrames,
     next: usize,
     end: usize,
     node: usize,
     place: usize,
 ) -> Result<(), Memory>
-    requires { (top : Frame) × (below : List Frame) × (frames.old ≡ top ∷ below) }
-    ensures { (top : Frame) (below : List Frame) → frames.old ≡ top ∷ below →
+    requires { (top : FailureFrame) × (below : List FailureFrame) × (frames.old ≡ top ∷ below) }
+    ensures { (top : FailureFrame) (below : List FailureFrame) → frames.old ≡ top ∷ below →
         OnOk result (frames.new ≡ begun_at node place
         ∷ (record { node = top.node; place = top.place; next = next; end = end } ∷ below)) }
 {

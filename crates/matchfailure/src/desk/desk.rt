@@ -3,12 +3,12 @@ ghost use Rattle.std.specs.Prelude.{◌≡◌, ℕ, ◌+◌, ◌*◌, ◌<◌, �
 ghost use Rattle.std.specs.Prelude.{IfOk, OnOk, OnErr};
 ghost use Rattle.gramcheck.specs.Grammar.{IsSoundGrammar};
 ghost use Rattle.memo.specs.Entries.{found_at};
-ghost use Rattle.matchfailure.specs.declared.desk.frame.Frame.{Frame};
+ghost use Rattle.matchfailure.specs.declared.desk.frame.FailureFrame.{FailureFrame};
 ghost use Rattle.matchfailure.specs.Desk.{empty, beginning as begun_at, Fits, HasFrames, IsStep, unit_of};
 
 use crate::desk::advance::{advance, beginning};
 use crate::desk::cell_map::CellMap;
-use crate::desk::frame::Frames;
+use crate::desk::frame::FailureFrames;
 use crate::desk::turn::{Turn, next_turn};
 use gramcheck::SoundPeg;
 use memo::Found;
@@ -30,7 +30,7 @@ pub struct Desk {
     /// The outcomes so far.
     cells: CellMap,
     /// The evaluations under way.
-    frames: Frames,
+    frames: FailureFrames,
     /// How many evaluations were begun.
     begun: u128,
 }
@@ -65,12 +65,12 @@ fn step_on(
     window: &[u8],
     more: bool,
     cells: &mut CellMap,
-    frames: &mut Frames,
+    frames: &mut FailureFrames,
     begun: &mut u128,
 ) -> Result<Option<Unit>, Memory>
     requires sound { IsSoundGrammar peg.now }
     requires some { more ≡ true → 0 < length window.now }
-    requires frame { (top : Frame) × (below : List Frame) × (frames.old ≡ top ∷ below) }
+    requires frame { (top : FailureFrame) × (below : List FailureFrame) × (frames.old ≡ top ∷ below) }
     requires fits { Fits peg.now window.now more (record {
       cells = cells.old;
       frames = frames.old;
@@ -112,7 +112,7 @@ impl Desk {
     {
         Desk {
             cells: CellMap::new(alloc),
-            frames: Frames::new(alloc),
+            frames: FailureFrames::new(alloc),
             begun: 0,
         }
     }
@@ -174,7 +174,7 @@ impl Desk {
         more: bool,
     ) -> Result<Option<Unit>, Memory>
         requires some { more ≡ true → 0 < length window.now }
-        requires frame { (top : Frame) × (below : List Frame) × (self.old.frames ≡ top ∷ below) }
+        requires frame { (top : FailureFrame) × (below : List FailureFrame) × (self.old.frames ≡ top ∷ below) }
         requires fits { Fits peg.now window.now more self.old }
         ensures step { IfOk result (IsStep peg.now window.now more self.old self.new) }
         ensures frames { OnOk result (HasFrames peg.now window.now more self.new) }

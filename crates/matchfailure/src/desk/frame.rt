@@ -1,6 +1,6 @@
 //! Evaluations under way.
 ghost use Rattle.std.specs.Prelude.{◌≡◌, List, [], ◌∷◌, OnOk, true, ◌↔◌};
-ghost use Rattle.matchfailure.specs.declared.desk.frame.Frame.{Frame};
+ghost use Rattle.matchfailure.specs.declared.desk.frame.FailureFrame.{FailureFrame};
 
 use ruletable::Memory;
 use std::alloc::Global;
@@ -8,7 +8,7 @@ use std::marker::Model;
 
 /// An entry of the parsing stack: the evaluation of a node at a position.
 #[derive(Clone, Copy)]
-pub(crate) struct Frame {
+pub(crate) struct FailureFrame {
     /// The node.
     pub(crate) node: usize,
     /// The position, in bytes from the front of the window.
@@ -21,25 +21,25 @@ pub(crate) struct Frame {
 
 /// The parsing stack. Contracts see its frames, the top first.
 #[derive(Drop)]
-pub(crate) struct Frames {
+pub(crate) struct FailureFrames {
     /// The frames, the top last.
-    frames: Vec<Frame>,
+    frames: Vec<FailureFrame>,
 }
 
-impl Model for Frames {
+impl Model for FailureFrames {
     ghost use Rattle.std.specs.Prelude.{List, reverse};
-    ghost use Rattle.matchfailure.specs.declared.desk.frame.Frame.{Frame};
+    ghost use Rattle.matchfailure.specs.declared.desk.frame.FailureFrame.{FailureFrame};
 
-    ghost Value = { List Frame };
+    ghost Value = { List FailureFrame };
 
     ghost view = { λ f. reverse f.frames.items };
 }
 
-impl Frames {
-    pub(crate) fn new(alloc: Global) -> Frames
+impl FailureFrames {
+    pub(crate) fn new(alloc: Global) -> FailureFrames
         ensures { result ≡ [] }
     {
-        Frames {
+        FailureFrames {
             frames: Vec::new(alloc),
         }
     }
@@ -57,15 +57,15 @@ impl Frames {
     }
 
     /// Returns the last frame.
-    pub(crate) fn top(&self) -> Frame
-        requires { (top : Frame) × (below : List Frame) × (self.now ≡ top ∷ below) }
-        ensures { (top : Frame) (below : List Frame) → self.now ≡ top ∷ below → result ≡ top }
+    pub(crate) fn top(&self) -> FailureFrame
+        requires { (top : FailureFrame) × (below : List FailureFrame) × (self.now ≡ top ∷ below) }
+        ensures { (top : FailureFrame) (below : List FailureFrame) → self.now ≡ top ∷ below → result ≡ top }
     {
         self.frames[self.frames.len() - 1]
     }
 
     /// Adds a frame.
-    pub(crate) fn push(&mut self, frame: Frame) -> Result<(), Memory>
+    pub(crate) fn push(&mut self, frame: FailureFrame) -> Result<(), Memory>
         ensures { OnOk result (self.new ≡ frame ∷ self.old) }
     {
         self.frames.push(frame)?;
@@ -74,15 +74,15 @@ impl Frames {
 
     /// Drops the last frame.
     pub(crate) fn pop(&mut self)
-        ensures { (top : Frame) (below : List Frame) → self.old ≡ top ∷ below → self.new ≡ below }
+        ensures { (top : FailureFrame) (below : List FailureFrame) → self.old ≡ top ∷ below → self.new ≡ below }
     {
         self.frames.pop();
     }
 
     /// Brings the last frame further.
     pub(crate) fn come_on(&mut self, next: usize, end: usize)
-        requires { (top : Frame) × (below : List Frame) × (self.old ≡ top ∷ below) }
-        ensures { (top : Frame) (below : List Frame) → self.old ≡ top ∷ below →
+        requires { (top : FailureFrame) × (below : List FailureFrame) × (self.old ≡ top ∷ below) }
+        ensures { (top : FailureFrame) (below : List FailureFrame) → self.old ≡ top ∷ below →
             self.new ≡ record { node = top.node; place = top.place; next = next; end = end } ∷ below }
     {
         let last = self.frames.len() - 1;

@@ -10,7 +10,7 @@ ghost use Rattle.matchfailure.specs.Turns.{same_turn, again_turn, opt_turn, and_
 ghost use Rattle.matchfailure.specs.Turns.{IsLeafTurn, IsWalk, IsSearch, IsTurn};
 
 use crate::desk::cell_map::CellMap;
-use crate::desk::frame::Frame;
+use crate::desk::frame::FailureFrame;
 use gramcheck::SoundPeg;
 use memo::Found;
 use pegmatch::{Tried, match_any, match_bytes, match_set};
@@ -196,7 +196,7 @@ pub(crate) fn next_turn(
     window: &[u8],
     more: bool,
     cells: &CellMap,
-    frame: Frame,
+    frame: FailureFrame,
 ) -> Turn
     requires sound { IsSoundGrammar peg.now }
     requires spells { SpellsSome (rules_of peg.now.rules) (shapes_of peg.now.nodes) frame.node }

@@ -18,7 +18,7 @@ ghost use Rattle.matchfailure.specs.UnitEnds.{EndsSo, outcome_at, takes_no_byte}
 use crate::explain::lines::lines_of_farthest;
 use crate::explain::place::TextPlace;
 use crate::farthest::{
-    Farthest, Told, UnitSearch, farthest_failure, farthest_is_within, told_unit,
+    Farthest, LastUnit, UnitSearch, farthest_failure, farthest_is_within, told_unit,
 };
 use diagnostics::{push_cut, push_number};
 use gramcheck::SoundPeg;
@@ -221,11 +221,11 @@ impl FailureSearch {
         let stuck = is_stuck(latest.end);
         let failing = byte_of(&latest.farthest, at.byte + last);
         match told_unit(byte_of(&before, at.byte), failing) {
-            Told::Before => {
+            LastUnit::Before => {
                 let lines = lines_of_found(alloc, peg, seen, at, 0, &before)?;
                 opened(alloc, peg, stuck, &lines)
             }
-            Told::Last => {
+            LastUnit::Last => {
                 let lines = lines_of_found(alloc, peg, seen, at, last, &latest.farthest)?;
                 opened(alloc, peg, stuck, &lines)
             }

@@ -4,7 +4,7 @@ ghost use Rattle.matchfailure.specs.ToldUnit.{told_unit_of};
 
 /// One of the last two units of a run.
 #[derive(Clone, Copy)]
-pub enum Told {
+pub enum LastUnit {
     /// The last unit, which does not match.
     Last,
     /// The unit before it, which matched and may have stopped early.
@@ -16,18 +16,18 @@ pub enum Told {
 ///
 /// Each position is that of the unit's farthest failing comparison, in bytes from the front of the input, if it has
 /// one.
-pub fn told_unit(before: Option<u128>, last: Option<u128>) -> Told
+pub fn told_unit(before: Option<u128>, last: Option<u128>) -> LastUnit
     ensures { result ≡ told_unit_of before last }
 {
     match (before, last) {
         (Some(before), Some(last)) => {
             if last < before {
-                Told::Before
+                LastUnit::Before
             } else {
-                Told::Last
+                LastUnit::Last
             }
         }
-        (Some(_), None) => Told::Before,
-        (None, _) => Told::Last,
+        (Some(_), None) => LastUnit::Before,
+        (None, _) => LastUnit::Last,
     }
 }

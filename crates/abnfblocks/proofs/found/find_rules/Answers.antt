@@ -1,7 +1,7 @@
 use Rattle.std.proofs.Common.{◌≡◌, ◌∙◌, ◌++◌, ◌∷◌, [], List, ap, map, subst, sym}
 use Rattle.abnfblocks.specs.FoundRules.{AreFound}
 use Rattle.abnfblocks.specs.TextLines.{numbered}
-use Rattle.abnfblocks.specs.declared.found.Found.{Found}
+use Rattle.abnfblocks.specs.declared.found.RuleSearch.{RuleSearch}
 use Rattle.abnfblocks.proofs.FoundRuleLemmas.{found-all, nothing-more, rule-more}
 use Rattle.abnfblocks.proofs.found.find_rules.Goals as goal
 use Rattle.abnfblocks.proofs.found.find_rules.Goals.{then-is_rule_line+in_ok-it+in_ok-push, else-is_rule_line}
@@ -17,12 +17,12 @@ loop-first-preserved c = λ others more.
           w.rule_size-size.ensures.size w.in_ok-it.ensures others more in
           let is : c.if-is_rule_line.found.items ≡ before ++ w.in_ok-it.it ∷ [] =
           ap (λ v. v.items) w.found-is ∙ w.in_ok-push.ensures.items in
-          subst (λ (found : List Found). AreFound 0 (map numbered lines) (found ++ others)) (sym is) all
+          subst (λ (found : List RuleSearch). AreFound 0 (map numbered lines) (found ++ others)) (sym is) all
       | else-is_rule_line w ↦
           let all = nothing-more lines c.loop-first.first before c.loop-first-test.true c.loop-first.invariant _
           (sym c.is_rule_line.ensures ∙ w.if-is_rule_line.false) others more in
           let is : c.if-is_rule_line.found.items ≡ before = ap (λ v. v.items) w.found-is in
-          subst (λ (found : List Found). AreFound 0 (map numbered lines) (found ++ others)) (sym is) all
+          subst (λ (found : List RuleSearch). AreFound 0 (map numbered lines) (found ++ others)) (sym is) all
     ]
 
 pub returns : goal.returns

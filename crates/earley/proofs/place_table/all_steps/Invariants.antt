@@ -1,13 +1,13 @@
 use Rattle.std.proofs.Common.{◌≡◌, ℕ, Some, length, slice_get}
-use Rattle.flatgrammar.specs.declared.block.Spot.{Spot}
+use Rattle.flatgrammar.specs.declared.block.DottedRule.{DottedRule}
 use Rattle.earley.specs.PlaceTables.{IsStep}
-use Rattle.earley.specs.declared.place_table.Step.{Step}
+use Rattle.earley.specs.declared.place_table.DottedActions.{DottedActions}
 use Rattle.earley.proofs.place_table.all_steps.Given as goal
 
 abbrev pub invariant-loop-at : goal.invariant-loop-at
 invariant-loop-at l = record {
   count : length l.steps.items ≡ l.at-index;
-  each : (p : ℕ) (at : Spot) (s : Step) → slice_get l.numbers.spots.items p ≡ Some at
+  each : (p : ℕ) (at : DottedRule) (s : DottedActions) → slice_get l.numbers.spots.items p ≡ Some at
       → slice_get l.steps.items p ≡ Some s
       → IsStep l.flat l.numbers.spots.items at s;
 }

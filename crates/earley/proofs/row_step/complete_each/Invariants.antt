@@ -1,5 +1,5 @@
 use Rattle.std.proofs.Common.{◌≡◌, ◌-◌, ◌≤◌, List, length}
-use Rattle.flatgrammar.specs.declared.block.Spot.{Spot}
+use Rattle.flatgrammar.specs.declared.block.DottedRule.{DottedRule}
 use Rattle.earley.specs.RowIndexes.{IsAfterIn}
 use Rattle.earley.specs.RowItems.{Gains}
 use Rattle.earley.proofs.row_step.complete_each.Given as goal
@@ -8,7 +8,7 @@ abbrev pub invariant-loop-from : goal.invariant-loop-from
 invariant-loop-from l = record {
   count : length l.set.all ≡ length l.initial.set.all;
   within : l.from ≤ length l.sets;
-  gains : (spots : List Spot) → Gains spots (IsAfterIn spots l.call l.sets l.row l.from) l.initial.set l.set;
+  gains : (spots : List DottedRule) → Gains spots (IsAfterIn spots l.call l.sets l.row l.from) l.initial.set l.set;
 }
 
 abbrev pub decreases-loop-from : goal.decreases-loop-from

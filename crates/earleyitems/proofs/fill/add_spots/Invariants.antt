@@ -1,6 +1,6 @@
 use Rattle.std.proofs.Common.{ℕ, List, take, map}
 use Rattle.flatgrammar.specs.Places.{In}
-use Rattle.flatgrammar.specs.declared.block.Spot.{Spot}
+use Rattle.flatgrammar.specs.declared.block.DottedRule.{DottedRule}
 use Rattle.flatgrammar.specs.declared.tables.Tables as code_flat
 use Rattle.earleyitems.specs.ItemHomes.{IsHome, AreItemsHomed}
 use Rattle.earleyitems.specs.ItemSets.{Adds}
@@ -11,6 +11,6 @@ abbrev pub invariant-loop-spot : goal.invariant-loop-spot
 invariant-loop-spot l = record {
   added : Adds (λ a. In a (map (item_at l.origin) (take l.spot-index l.spots))) l.initial.set.items l.set.items;
   homes : (flat : code_flat.Tables) (rows : List (List ℕ))
-      → ((p : Spot) → In p l.spots → IsHome flat rows (item_at l.origin p) l.home)
+      → ((p : DottedRule) → In p l.spots → IsHome flat rows (item_at l.origin p) l.home)
       → AreItemsHomed flat rows l.initial.set → AreItemsHomed flat rows l.set;
 }

@@ -1,10 +1,10 @@
 use Rattle.std.proofs.Common.{List, Vec, Global}
 use Rattle.flatgrammar.specs.Blocks.{AreByLetter, Picks, ReadsAny}
-use Rattle.flatgrammar.specs.declared.block.Spot.{Spot}
+use Rattle.flatgrammar.specs.declared.block.DottedRule.{DottedRule}
 use Rattle.flatgrammar.specs.declared.tables.Tables.{Tables}
 use Rattle.flatgrammar.proofs.spot_list.list_of.Goals as goal
 
-picks_of_readers : (flat : Tables) (from readers : List Spot) (lists : List (Vec Spot Global))
+picks_of_readers : (flat : Tables) (from readers : List DottedRule) (lists : List (Vec DottedRule Global))
     → Picks (ReadsAny flat) from readers → AreByLetter flat readers lists → AreByLetter flat from lists
 picks_of_readers flat from readers lists any by c list at = let picks = by c list at in (
   λ spot h. any.0 spot (picks.0 spot h),

@@ -8,8 +8,8 @@ use Rattle.feed.specs.declared.feed.Feed.{Feed}
 use Rattle.linejudge.specs.InputLines.{finished, kept_size, rejected}
 use Rattle.linejudge.specs.LineSteps.{FitsIn, StepsBehind}
 use Rattle.linejudge.specs.declared.answers.Answer.{Answer}
-use Rattle.linejudge.specs.declared.line_loop.Step.{Step}
-use Rattle.linejudge.specs.declared.line_loop.Step.TheVariants.{Stops}
+use Rattle.linejudge.specs.declared.line_loop.LineStep.{LineStep}
+use Rattle.linejudge.specs.declared.line_loop.LineStep.TheVariants.{Stops}
 use Rattle.toolrun.specs.declared.stop.Stop.{Stop}
 use Rattle.linejudge.proofs.LineStepLemmas.{whole_is, last_is, long_is, end_is, broken_is}
 use Rattle.linejudge.proofs.KeptLineLemmas.{kept_most}
@@ -30,13 +30,13 @@ grows-same g s = record {
 
 -- the step after an answer takes the bytes of the line
 fits-after : (n len : ℕ) (old new : Option (List ℕ)) (text : List ℕ) (answered : Result Answer Memory)
-    (r : Result Step WriteFault) → 0 < n → n ≤ len → StepsBehind n old new text answered r → FitsIn len r
+    (r : Result LineStep WriteFault) → 0 < n → n ≤ len → StepsBehind n old new text answered r → FitsIn len r
 fits-after n len old new text (Ok said) (Ok step) some most steps = let same = steps.1 in rw same (some, most)
 fits-after n len old new text (Ok said) (Err fault) some most steps = tt
 fits-after n len old new text (Err lack) r some most steps = let same = steps.1 in rw same tt
 
 -- at the end no bytes are taken
-fits-end : (len : ℕ) (why : Stop) (r : Result Step WriteFault) → IfOk r (λ s. s ≡ Stops why) → FitsIn len r
+fits-end : (len : ℕ) (why : Stop) (r : Result LineStep WriteFault) → IfOk r (λ s. s ≡ Stops why) → FitsIn len r
 fits-end len why (Ok step) same = rw same tt
 fits-end len why (Err fault) same = tt
 

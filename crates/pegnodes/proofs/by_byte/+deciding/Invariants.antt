@@ -3,7 +3,7 @@ use Rattle.std.proofs.Common.{ℕ, ◌+◌, ◌*◌}
 use Rattle.pegnodes.specs.ByByte.{ByMembers, ByAlternatives}
 use Rattle.pegnodes.specs.Decides.{mark_in, tail_in}
 use Rattle.pegnodes.specs.Nodes.{shapes_of}
-use Rattle.pegnodes.specs.declared.by_byte.Verdict.{Verdict}
+use Rattle.pegnodes.specs.declared.by_byte.ByteVerdict.{ByteVerdict}
 use Rattle.pegnodes.proofs.by_byte.+deciding.Given as goal
 
 abbrev pub decreases-below : goal.decreases-below
@@ -23,14 +23,14 @@ decreases-by_node l = 3 * l.levels + 2
 
 -- what the members from here on decide, with those so far, all decide
 abbrev pub invariant-by_members-loop-i : goal.invariant-by_members-loop-i
-invariant-by_members-loop-i l = (v : Verdict) (d : ℕ) →
+invariant-by_members-loop-i l = (v : ByteVerdict) (d : ℕ) →
     ByMembers (shapes_of l.grammar.nodes.now) l.grammar.bodies.now (mark_in l.grammar) (tail_in l.grammar) l.b l.n
     l.members l.i v d →
     ByMembers (shapes_of l.grammar.nodes.now) l.grammar.bodies.now (mark_in l.grammar) (tail_in l.grammar) l.b l.n
     l.members 0 v (l.count + d)
 
 abbrev pub invariant-by_alternatives-loop-i : goal.invariant-by_alternatives-loop-i
-invariant-by_alternatives-loop-i l = (v : Verdict) (d : ℕ) →
+invariant-by_alternatives-loop-i l = (v : ByteVerdict) (d : ℕ) →
     ByAlternatives (shapes_of l.grammar.nodes.now) l.grammar.bodies.now (mark_in l.grammar) (tail_in l.grammar) l.b l.n
     l.alternatives l.i v d →
     ByAlternatives (shapes_of l.grammar.nodes.now) l.grammar.bodies.now (mark_in l.grammar) (tail_in l.grammar) l.b l.n

@@ -1,6 +1,6 @@
 use Rattle.std.proofs.Common.{sym, ◌∙◌}
 use Rattle.pegnodes.specs.ByByte.{below}
-use Rattle.pegnodes.specs.declared.by_byte.Verdict.TheVariants.{Fails}
+use Rattle.pegnodes.specs.declared.by_byte.ByteVerdict.TheVariants.{Fails}
 use Rattle.pegnodes.proofs.DecidesLemmas.{below_of}
 use Rattle.pegnodes.proofs.choice_table.failing.Goals as goal
 

@@ -2,7 +2,7 @@
 use Rattle.std.proofs.Common.{◌∙◌, refl, sym, arith, true, false}
 use Rattle.std.specs.Prelude.{Ok}
 use Rattle.toolrun.specs.declared.stop.Stop.TheVariants.{Broken}
-use Rattle.pegrun.specs.declared.unit.Step.TheVariants.{Stops}
+use Rattle.pegrun.specs.declared.unit.UnitStep.TheVariants.{Stops}
 use Rattle.pegrun.proofs.NextUnitLemmas.{broken_step, full_window, last_window, over_fits, over_step, step_on_fits}
 use Rattle.pegrun.proofs.unit.next_unit.Goals as goal
 

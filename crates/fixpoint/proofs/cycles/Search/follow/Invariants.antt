@@ -1,7 +1,7 @@
 use Rattle.std.proofs.Common.{ℕ}
 use Rattle.fixpoint.specs.StepRows.{slices_of}
 use Rattle.fixpoint.specs.Way.{At, IsWay, IsRanked, way_of, tally_of, turns}
-use Rattle.fixpoint.specs.declared.cycles.Place.TheVariants as place
+use Rattle.fixpoint.specs.declared.cycles.SearchPlace.TheVariants as place
 use Rattle.fixpoint.proofs.cycles.Search.follow.Given as goal
 
 abbrev pub invariant-loop-last : goal.invariant-loop-last

@@ -1,6 +1,6 @@
 use Rattle.std.proofs.Common.{◌≡◌, false, length, rules, sym, replicate, ap, ◌∙◌, refl}
 use Rattle.std.proofs.lemmas.List.{length-replicate}
-use Rattle.fixpoint.specs.declared.cycles.Place.TheVariants as place
+use Rattle.fixpoint.specs.declared.cycles.SearchPlace.TheVariants as place
 use Rattle.fixpoint.proofs.RowsOfLemmas as b
 use Rattle.fixpoint.proofs.TallyLemmas as y
 use Rattle.fixpoint.proofs.TurnsLemmas as t

@@ -2,7 +2,7 @@ use Rattle.std.proofs.Common.{◌≡◌, length, sym, subst}
 use Rattle.earleyitems.specs.ChartSets.{set_at}
 use Rattle.flatgrammar.proofs.CallOfLemmas.{below_get}
 use Rattle.earleyitems.proofs.ChartSetsLemmas.{size_past}
-use Rattle.earleyitems.proofs.chart.Chart.items.Goals as goal
+use Rattle.earleyitems.proofs.chart.ItemChart.items.Goals as goal
 
 pub returns-in-None : goal.returns-in-None
 returns-in-None c = sym (subst (λ v. length (set_at v c.args.j) ≡ 0) c.self.view_is

@@ -5,7 +5,7 @@ use Rattle.flatgrammar.specs.Blocks.{block_of}
 use Rattle.earleyitems.specs.ChartSets.{set_at, AreSpotsOf}
 use Rattle.earleyitems.specs.declared.sets.Record.{Record}
 use Rattle.earleyitems.proofs.SetSpotsLemmas.{past_spots, spots_of_view, view_spots}
-use Rattle.earleyitems.proofs.chart.Chart.spots.Goals as goal
+use Rattle.earleyitems.proofs.chart.ItemChart.spots.Goals as goal
 
 pub returns-in-None-get : goal.returns-in-None-get
 returns-in-None-get c =

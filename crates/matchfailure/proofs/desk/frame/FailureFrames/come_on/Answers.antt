@@ -1,6 +1,6 @@
 use Rattle.std.proofs.Common.{◌∙◌}
 use Rattle.matchfailure.proofs.FrameLemmas.{comes_on}
-use Rattle.matchfailure.proofs.desk.frame.Frames.come_on.Goals as goal
+use Rattle.matchfailure.proofs.desk.frame.FailureFrames.come_on.Goals as goal
 
 pub returns : goal.returns
 returns c = λ top below is.
