@@ -55,8 +55,7 @@ WORDS = (
 AGREED = {
     ("docs/GLOSSARY.md", "told"), ("docs/GLOSSARY.md", "refuse"), ("docs/GLOSSARY.md", "comes back to itself"),
     # names of types and methods, in the comments by which pages.py writes contracts
-    ("docs/crates/flatgrammar.md", "Spot"), ("docs/crates/flatgrammar.md", "spots"),
-    ("docs/crates/matchfailure.md", "Told"),
+    ("docs/crates/flatgrammar.md", "spots"),
 }
 LONGEST_SENTENCE = 35
 # A number that documents name: the file of its constant, how that stands there, and how documents say it.
