@@ -18,7 +18,7 @@ use Rattle.lazydfa.specs.RunVerdicts.{IsOne}
 use Rattle.lazydfa.specs.StateSets.{AreMoreStates, AreStatesOf, grammar_of, IsStartState, last_in, StateSets}
 use Rattle.lazydfa.proofs.StateSetsLemmas.{got_at}
 use Rattle.rulepairs.specs.Alone.{AreOfGrammar, DerivesAsRule}
-use Rattle.rulepairs.specs.declared.pairs.FoundPair.{FoundPair}
+use Rattle.rulepairs.specs.declared.pairs.SearchedPair.{SearchedPair}
 use Rattle.rulepairs.specs.declared.search.PairSearch.{PairSearch}
 use Rattle.rulepairs.specs.FirstLines.{HasNoLine, HasNoLineUpTo, IsFirstLine, IsOfOldAlone}
 use Rattle.rulepairs.specs.FoundPairs.{AreSearched, EndWithNew, FoundPair, IsOldDead, IsWordOf, next, start}
@@ -28,12 +28,12 @@ use Rattle.rulepairs.proofs.FoundPairsLemmas.{comes_first, none_after, none_up_t
 use Rattle.rulepairs.proofs.SearchLemmas.{state_is}
 
 -- a word by parents, from its end: what leads to a pair on the way leads on by the symbols that were met
-abbrev pub LeadsTo : List FoundPair → ℕ → ℕ → List ℕ → Type 0
+abbrev pub LeadsTo : List SearchedPair → ℕ → ℕ → List ℕ → Type 0
 LeadsTo pairs index at met = (olds news : StateSets) (u : List ℕ) → IsWordOf (found_pairs olds news pairs) at u
     → IsWordOf (found_pairs olds news pairs) index (u ++ reverse met)
 
-module _ (pairs : List FoundPair) (index : ℕ) where
-  pub leads_more : (at : ℕ) (p : FoundPair) (met more : List ℕ) → slice_get pairs at ≡ Some p → p.parent < at
+module _ (pairs : List SearchedPair) (index : ℕ) where
+  pub leads_more : (at : ℕ) (p : SearchedPair) (met more : List ℕ) → slice_get pairs at ≡ Some p → p.parent < at
       → more ≡ met ++ p.symbol ∷ [] → LeadsTo pairs index at met → LeadsTo pairs index p.parent more
   leads_more at p met more is lt added leads olds news u h =
       subst (λ v. IsWordOf (found_pairs olds news pairs) index (u ++ reverse v)) (sym added)
@@ -72,7 +72,7 @@ begun_of flat none some are more = still_of flat none some more.same (of_states 
 
 -- the start states as the first pair
 module _ (olds news : StateSets) (a b : ℕ) (old_start : IsStartState olds a) (new_start : IsStartState news b) where
-  abbrev Opening : FoundPair
+  abbrev Opening : SearchedPair
   Opening = record { old = a; new = b; parent = 0; symbol = 0 }
 
   starts_there : IsStartPair (grammar_of olds) (last_in olds) (grammar_of news) (last_in news)
@@ -84,7 +84,7 @@ module _ (olds news : StateSets) (a b : ℕ) (old_start : IsStartState olds a) (
         (sym (state_is news b new_start.state new_start.is)) (new_start.front x);
   }
 
-  only_first : (i : ℕ) (p : FoundPair) → slice_get (Opening ∷ []) i ≡ Some p → (i ≡ 0) × (Opening ≡ p)
+  only_first : (i : ℕ) (p : SearchedPair) → slice_get (Opening ∷ []) i ≡ Some p → (i ≡ 0) × (Opening ≡ p)
   only_first zero p is = (refl, cc is)
   only_first (suc i) p is = absurd (cc is)
 
@@ -92,7 +92,7 @@ module _ (olds news : StateSets) (a b : ℕ) (old_start : IsStartState olds a) (
   only_found zero e is = refl
   only_found (suc i) e is = absurd (cc is)
 
-  pub search_begun : (has : ℕ → Bool) (samples : List ℕ) (pairs : List FoundPair) → pairs ≡ Opening ∷ []
+  pub search_begun : (has : ℕ → Bool) (samples : List ℕ) (pairs : List SearchedPair) → pairs ≡ Opening ∷ []
       → IsPairSearch has samples olds news pairs 0 0 0
   search_begun has samples pairs one = subst (λ v. IsPairSearch has samples olds news v 0 0 0) (sym one) (record {
     old_within = λ i p is. subst (λ v. v.old < length olds.states) (only_first i p is).1
@@ -182,7 +182,8 @@ module _ (old new : Flat) (has : ℕ → Bool) (samples : List ℕ) (search : Pa
         (λ v h. let same = ap (λ t. length t) (one_word h word refl) in omega (arith, lt, same))
 
 -- a pair added to none
-pub first_added : (none pairs : List FoundPair) (p : FoundPair) → none ≡ [] → IsPairAdded none p pairs → pairs ≡ p ∷ []
+pub first_added : (none pairs : List SearchedPair) (p : SearchedPair) → none ≡ [] → IsPairAdded none p pairs
+    → pairs ≡ p ∷ []
 first_added none pairs p is (inl h) =
     absurd (let lt = slice_get_within none h.1.index h.1.pair h.1.is in let e = ap (λ v. length v) is in
     omega (arith, lt, e))

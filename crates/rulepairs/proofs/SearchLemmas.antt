@@ -12,7 +12,7 @@ use Rattle.flatgrammar.proofs.CallOfLemmas.{get_map, get_unmap}
 use Rattle.flatgrammar.proofs.SliceGetLemmas.{push_cases}
 use Rattle.lazydfa.specs.Conts.{last_of}
 use Rattle.lazydfa.specs.StateSets.{AreMoreStates, grammar_of, IsNextState, last_in, StateSet, StateSets}
-use Rattle.rulepairs.specs.declared.pairs.FoundPair.{FoundPair}
+use Rattle.rulepairs.specs.declared.pairs.SearchedPair.{SearchedPair}
 use Rattle.rulepairs.specs.FirstLines.{sort_key}
 use Rattle.rulepairs.specs.FoundPairs.{AreFound, EndWithNew, FoundPair, HasParent, IsFoundBefore}
 use Rattle.rulepairs.specs.FoundPairs.{IsOldDead, LeadsToFound}
@@ -61,7 +61,7 @@ more_length old new more =
     omega (arith, l, e)
 
 module _ (old mid new more : StateSets) (old_more : AreMoreStates old mid) (new_more : AreMoreStates new more) where
-  pair_kept : (p : FoundPair) → p.old < length old.states → p.new < length new.states
+  pair_kept : (p : SearchedPair) → p.old < length old.states → p.new < length new.states
       → found_pair mid more p ≡ found_pair old new p
   pair_kept p old_lt new_lt =
       ap (λ v. record {
@@ -85,9 +85,9 @@ module _ (old mid new more : StateSets) (old_more : AreMoreStates old mid) (new_
         symbol = p.symbol;
       }) (state_kept new more new_more p.new new_lt)
 
-  pairs_kept : (pairs : List FoundPair) → ((i : ℕ) (p : FoundPair) → slice_get pairs i
+  pairs_kept : (pairs : List SearchedPair) → ((i : ℕ) (p : SearchedPair) → slice_get pairs i
       ≡ Some p → p.old < length old.states)
-      → ((i : ℕ) (p : FoundPair) → slice_get pairs i ≡ Some p → p.new < length new.states)
+      → ((i : ℕ) (p : SearchedPair) → slice_get pairs i ≡ Some p → p.new < length new.states)
       → found_pairs mid more pairs ≡ found_pairs old new pairs
   pairs_kept [] old_within new_within = refl
   pairs_kept (p ∷ pairs) old_within new_within =
@@ -95,7 +95,7 @@ module _ (old mid new more : StateSets) (old_more : AreMoreStates old mid) (new_
       ∙ ap (λ v. found_pair old new p ∷ v) (pairs_kept pairs (λ i q h. old_within (suc i) q h)
       (λ i q h. new_within (suc i) q h))
 
-  pub search_kept : (has : ℕ → Bool) (samples : List ℕ) (pairs : List FoundPair) (n k m : ℕ)
+  pub search_kept : (has : ℕ → Bool) (samples : List ℕ) (pairs : List SearchedPair) (n k m : ℕ)
       → IsPairSearch has samples old new pairs n k m → IsPairSearch has samples mid more pairs n k m
   search_kept has samples pairs n k m s = record {
     old_within = λ i p h.
@@ -132,13 +132,13 @@ module _ (old mid new more : StateSets) (old_more : AreMoreStates old mid) (new_
 
 -- one sample leads on from a pair
 module _ (has : ℕ → Bool) (samples : List ℕ) (in_order : AreInLineOrder has samples) (old new : StateSets)
-    (pairs : List FoundPair) (n k m : ℕ) (s : IsPairSearch has samples old new pairs n k m) (p : FoundPair)
+    (pairs : List SearchedPair) (n k m : ℕ) (s : IsPairSearch has samples old new pairs n k m) (p : SearchedPair)
     (at_n : slice_get pairs n ≡ Some p) (c : ℕ) (at_k : slice_get samples k ≡ Some c) (symbol : has c ≡ true)
     (a b : ℕ) (old_next : IsNextState old c p.old a) (new_next : IsNextState new c p.new b) where
   abbrev Found : List FoundPair
   Found = found_pairs old new pairs
 
-  abbrev Entry : FoundPair
+  abbrev Entry : SearchedPair
   Entry = record { old = a; new = b; parent = n; symbol = c }
 
   abbrev LeadsBy : ℕ → FoundPair → List FoundPair → ℕ → Type 0
@@ -157,7 +157,8 @@ module _ (has : ℕ → Bool) (samples : List ℕ) (in_order : AreInLineOrder ha
       (found_pair old new Entry).pair
   pair_leads = record { old_next = side_next old p.old a old_next; new_next = side_next new p.new b new_next }
 
-  same_states : (q : FoundPair) → q.old ≡ a → q.new ≡ b → (found_pair old new Entry).pair ≡ (found_pair old new q).pair
+  same_states : (q : SearchedPair) → q.old ≡ a → q.new ≡ b
+      → (found_pair old new Entry).pair ≡ (found_pair old new q).pair
   same_states q old_is new_is =
       ap (λ v. (found_pair old new (record { old = v; new = b; parent = n; symbol = c })).pair) (sym old_is)
       ∙ ap (λ v. (found_pair old new (record { old = q.old; new = v; parent = n; symbol = c })).pair) (sym new_is)
@@ -197,14 +198,14 @@ module _ (has : ℕ → Bool) (samples : List ℕ) (in_order : AreInLineOrder ha
         order = order;
       })))
 
-  more_recent : (q : FoundPair)
+  more_recent : (q : SearchedPair)
       → (q.parent < n) ⊎ ((q.parent ≡ n) × (j : ℕ) × (j < k) × (slice_get samples j ≡ Some q.symbol))
       → (q.parent < n) ⊎ ((q.parent ≡ n) × (j : ℕ) × (j < k + 1) × (slice_get samples j ≡ Some q.symbol))
   more_recent q (inl lt) = inl lt
   more_recent q (inr h) = inr (h.0, h.1, (let lt = h.2 in omega (arith, lt)), h.3)
 
   -- the sample comes after those that led to a pair from here
-  is_later : (q : FoundPair) → (q.parent < n) ⊎ ((q.parent ≡ n) × (j : ℕ) × (j < k)
+  is_later : (q : SearchedPair) → (q.parent < n) ⊎ ((q.parent ≡ n) × (j : ℕ) × (j < k)
       × (slice_get samples j ≡ Some q.symbol))
       → (q.parent < n) ⊎ ((q.parent ≡ n) × (sort_key q.symbol < sort_key c))
   is_later q (inl lt) = inl lt
@@ -245,7 +246,7 @@ module _ (has : ℕ → Bool) (samples : List ℕ) (in_order : AreInLineOrder ha
             g.0 g.1 is at_j)
 
   -- the pair was added
-  abbrev More : List FoundPair
+  abbrev More : List SearchedPair
   More = pairs ++ Entry ∷ []
 
   abbrev MoreFound : List FoundPair
@@ -361,19 +362,19 @@ module _ (has : ℕ → Bool) (samples : List ℕ) (in_order : AreInLineOrder ha
       ends i e lt (inl is) = s.agree i e lt is
       ends i e lt (inr g) = absurd (let e = g.0 in let le = s.met in omega (arith, lt, e, le, found_count))
 
-      old_lt : (i : ℕ) (q : FoundPair) → (slice_get pairs i ≡ Some q) ⊎ ((i ≡ length pairs) × (Entry ≡ q))
+      old_lt : (i : ℕ) (q : SearchedPair) → (slice_get pairs i ≡ Some q) ⊎ ((i ≡ length pairs) × (Entry ≡ q))
           → q.old < length old.states
       old_lt i q (inl is) = s.old_within i q is
       old_lt i q (inr g) = subst (λ v. v.old < length old.states) g.1
           (slice_get_within old.states a old_next.to old_next.to_is)
 
-      new_lt : (i : ℕ) (q : FoundPair) → (slice_get pairs i ≡ Some q) ⊎ ((i ≡ length pairs) × (Entry ≡ q))
+      new_lt : (i : ℕ) (q : SearchedPair) → (slice_get pairs i ≡ Some q) ⊎ ((i ≡ length pairs) × (Entry ≡ q))
           → q.new < length new.states
       new_lt i q (inl is) = s.new_within i q is
       new_lt i q (inr g) = subst (λ v. v.new < length new.states) g.1
           (slice_get_within new.states b new_next.to new_next.to_is)
 
-      own : (i : ℕ) (q : FoundPair) → 0 < i → (slice_get pairs i ≡ Some q) ⊎ ((i ≡ length pairs) × (Entry ≡ q))
+      own : (i : ℕ) (q : SearchedPair) → 0 < i → (slice_get pairs i ≡ Some q) ⊎ ((i ≡ length pairs) × (Entry ≡ q))
           → (q.parent < n) ⊎ ((q.parent ≡ n) × (j : ℕ) × (j < k + 1) × (slice_get samples j ≡ Some q.symbol))
       own i q lt (inl is) = more_recent q (s.recent i q lt is)
       own i q lt (inr g) = inr (
@@ -393,7 +394,7 @@ module _ (has : ℕ → Bool) (samples : List ℕ) (in_order : AreInLineOrder ha
 
 -- either way
 pub search_next : (has : ℕ → Bool) (samples : List ℕ) → AreInLineOrder has samples → (old new : StateSets)
-    (pairs more : List FoundPair) (n k m : ℕ) → IsPairSearch has samples old new pairs n k m → (p : FoundPair)
+    (pairs more : List SearchedPair) (n k m : ℕ) → IsPairSearch has samples old new pairs n k m → (p : SearchedPair)
     → slice_get pairs n ≡ Some p → (c : ℕ) → slice_get samples k ≡ Some c → (a b : ℕ) → IsNextState old c p.old a
     → IsNextState new c p.new b → IsPairAdded pairs (record { old = a; new = b; parent = n; symbol = c }) more
     → IsPairSearch has samples old new more n (k + 1) m
@@ -411,7 +412,7 @@ search_next has samples in_order old new pairs more n k m s p at_n c at_k a b ol
         (found_more has samples in_order old new pairs n k m s p at_n c at_k symbol a b old_next new_next)
 
 -- from one pair to the next
-module _ (has : ℕ → Bool) (samples : List ℕ) (old new : StateSets) (pairs : List FoundPair) (n m : ℕ) where
+module _ (has : ℕ → Bool) (samples : List ℕ) (old new : StateSets) (pairs : List SearchedPair) (n m : ℕ) where
   pub search_turn : (k : ℕ) → length samples ≤ k → IsPairSearch has samples old new pairs n k m
       → IsPairSearch has samples old new pairs (n + 1) 0 m
   search_turn k le s = record {
@@ -424,7 +425,7 @@ module _ (has : ℕ → Bool) (samples : List ℕ) (old new : StateSets) (pairs 
     agree = s.agree;
   }
     where
-      older : (i : ℕ) (p : FoundPair)
+      older : (i : ℕ) (p : SearchedPair)
           → (p.parent < n) ⊎ ((p.parent ≡ n) × (j : ℕ) × (j < k) × (slice_get samples j ≡ Some p.symbol))
           → (p.parent < n + 1) ⊎ ((p.parent ≡ n + 1) × (j : ℕ) × (j < 0) × (slice_get samples j ≡ Some p.symbol))
       older i p (inl lt) = inl (omega (arith, lt))
@@ -440,7 +441,7 @@ module _ (has : ℕ → Bool) (samples : List ℕ) (old new : StateSets) (pairs 
               let w = slice_get_within samples j c at_j in inr (omega (arith, lt, more), omega (arith, w, le))
       before i j c at_j (inr h) = absurd (let lt = h.1 in omega (arith, lt))
 
-  pub search_skip : IsPairSearch has samples old new pairs n 0 m → (p : FoundPair) → slice_get pairs n ≡ Some p
+  pub search_skip : IsPairSearch has samples old new pairs n 0 m → (p : SearchedPair) → slice_get pairs n ≡ Some p
       → (state_at old p.old).stacks ≡ [] → IsPairSearch has samples old new pairs (n + 1) 0 m
   search_skip s p at_n dead = record {
     old_within = s.old_within;
@@ -452,7 +453,7 @@ module _ (has : ℕ → Bool) (samples : List ℕ) (old new : StateSets) (pairs 
     agree = s.agree;
   }
     where
-      older : (i : ℕ) (p : FoundPair)
+      older : (i : ℕ) (p : SearchedPair)
           → (p.parent < n) ⊎ ((p.parent ≡ n) × (j : ℕ) × (j < 0) × (slice_get samples j ≡ Some p.symbol))
           → (p.parent < n + 1) ⊎ ((p.parent ≡ n + 1) × (j : ℕ) × (j < 0) × (slice_get samples j ≡ Some p.symbol))
       older i p (inl lt) = inl (omega (arith, lt))
@@ -473,8 +474,8 @@ module _ (has : ℕ → Bool) (samples : List ℕ) (old new : StateSets) (pairs 
       by i j e c (inr h) is at_j (inr more) = absurd (let lt = h.1 in omega (arith, lt))
 
 -- the ends of one more pair agree
-pub search_agrees : (has : ℕ → Bool) (samples : List ℕ) (old new : StateSets) (pairs : List FoundPair) (n : ℕ)
-    → IsPairSearch has samples old new pairs n 0 n → (p : FoundPair) → slice_get pairs n ≡ Some p
+pub search_agrees : (has : ℕ → Bool) (samples : List ℕ) (old new : StateSets) (pairs : List SearchedPair) (n : ℕ)
+    → IsPairSearch has samples old new pairs n 0 n → (p : SearchedPair) → slice_get pairs n ≡ Some p
     → ((state_at old p.old).ended ≡ true → (state_at new p.new).ended ≡ true)
     → IsPairSearch has samples old new pairs n 0 (n + 1)
 search_agrees has samples old new pairs n s p at_n agree = record {
@@ -499,8 +500,9 @@ search_agrees has samples old new pairs n s p at_n agree = record {
         subst (λ v. v.pair.old_ended ≡ true → v.pair.new_ended ≡ true) entry agree
 
 -- the states of a pair by their numbers
-module _ (has : ℕ → Bool) (samples : List ℕ) (old new : StateSets) (pairs : List FoundPair) (n k m : ℕ)
-    (s : IsPairSearch has samples old new pairs n k m) (i : ℕ) (p : FoundPair) (at_i : slice_get pairs i ≡ Some p) where
+module _ (has : ℕ → Bool) (samples : List ℕ) (old new : StateSets) (pairs : List SearchedPair) (n k m : ℕ)
+    (s : IsPairSearch has samples old new pairs n k m) (i : ℕ) (p : SearchedPair) (at_i : slice_get pairs i
+    ≡ Some p) where
   state_there : (xs : List StateSet) (j : ℕ) → j < length xs
       → slice_get xs j ≡ Some (get_or xs j (record { stacks = []; ended = false }))
   state_there [] j lt = absurd (omega (arith, lt))

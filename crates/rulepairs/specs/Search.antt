@@ -3,7 +3,7 @@ use Rattle.std.specs.Prelude.{◌≡◌, ◌⊎◌, ℕ, ◌+◌, ◌<◌, ◌�
 use Rattle.std.specs.Prelude.{length, slice_get, Some}
 use Rattle.std.specs.Prelude.{slice_index_or}
 use Rattle.lazydfa.specs.StateSets.{grammar_of, last_in, StateSet, StateSets}
-use Rattle.rulepairs.specs.declared.pairs.FoundPair.{FoundPair}
+use Rattle.rulepairs.specs.declared.pairs.SearchedPair.{SearchedPair}
 use Rattle.rulepairs.specs.declared.search.SearchEnd.{SearchEnd}
 use Rattle.rulepairs.specs.declared.search.SearchEnd.TheVariants.{First, Nothing, Over}
 use Rattle.rulepairs.specs.declared.search.PairSearch.{PairSearch}
@@ -13,7 +13,7 @@ use Rattle.rulepairs.specs.FoundPairs.{AreFound, EndWithNew, FoundPair, IsOldDea
 abbrev pub state_at : StateSets → ℕ → StateSet
 state_at sets n = slice_index_or sets.states n (record { stacks = []; ended = false })
 
-abbrev pub found_pair : StateSets → StateSets → FoundPair → FoundPair
+abbrev pub found_pair : StateSets → StateSets → SearchedPair → FoundPair
 found_pair old new p = record {
   pair = record {
     old = (state_at old p.old).stacks;
@@ -25,30 +25,31 @@ found_pair old new p = record {
   symbol = p.symbol;
 }
 
-abbrev pub found_pairs : StateSets → StateSets → List FoundPair → List FoundPair
+abbrev pub found_pairs : StateSets → StateSets → List SearchedPair → List FoundPair
 found_pairs old new pairs = map (found_pair old new) pairs
 
 -- a pair of these two states
-pub record HasPair (pairs : List FoundPair) (old new : ℕ) : Type 0 where
+pub record HasPair (pairs : List SearchedPair) (old new : ℕ) : Type 0 where
   pub index : ℕ
-  pub pair : FoundPair
+  pub pair : SearchedPair
   pub is : slice_get pairs index ≡ Some pair
   pub old_is : pair.old ≡ old
   pub new_is : pair.new ≡ new
 
 -- a pair was added, unless there was one of these states
-abbrev pub IsPairAdded : List FoundPair → FoundPair → List FoundPair → Type 0
+abbrev pub IsPairAdded : List SearchedPair → SearchedPair → List SearchedPair → Type 0
 IsPairAdded old pair new = ((new ≡ old) × HasPair old pair.old pair.new) ⊎ (new ≡ old ++ pair ∷ [])
 
 -- A search by samples: all samples lead on from the first n pairs, but for the dead ones, and the first k samples from
 -- the next one. In the first m pairs the new whole is done where the old one is.
-pub record IsPairSearch (has : ℕ → Bool) (samples : List ℕ) (old new : StateSets) (pairs : List FoundPair) (n k m : ℕ)
+pub record IsPairSearch (has : ℕ → Bool) (samples : List ℕ) (old new : StateSets) (pairs : List SearchedPair)
+    (n k m : ℕ)
     : Type 0
   where
-    pub old_within : (i : ℕ) (p : FoundPair) → slice_get pairs i ≡ Some p → p.old < length old.states
-    pub new_within : (i : ℕ) (p : FoundPair) → slice_get pairs i ≡ Some p → p.new < length new.states
+    pub old_within : (i : ℕ) (p : SearchedPair) → slice_get pairs i ≡ Some p → p.old < length old.states
+    pub new_within : (i : ℕ) (p : SearchedPair) → slice_get pairs i ≡ Some p → p.new < length new.states
     pub found : AreFound (grammar_of old) (last_in old) (grammar_of new) (last_in new) (found_pairs old new pairs) has
-    pub recent : (i : ℕ) (p : FoundPair) → 0 < i → slice_get pairs i ≡ Some p → (p.parent < n)
+    pub recent : (i : ℕ) (p : SearchedPair) → 0 < i → slice_get pairs i ≡ Some p → (p.parent < n)
         ⊎ ((p.parent ≡ n) × (j : ℕ) × (j < k) × (slice_get samples j ≡ Some p.symbol))
     pub searched : (i j : ℕ) (e : FoundPair) (c : ℕ) → (i < n) ⊎ ((i ≡ n) × (j < k))
         → slice_get (found_pairs old new pairs) i ≡ Some e → slice_get samples j ≡ Some c → IsOldDead e.pair

@@ -9,7 +9,7 @@ ghost use Rattle.rulepairs.specs.FirstLines.{IsOfOldAlone};
 ghost use Rattle.rulepairs.specs.FoundPairs.{IsWordOf};
 ghost use Rattle.rulepairs.specs.Search.{found_pairs};
 
-use crate::pairs::{FoundPair, add_pair, no_pairs};
+use crate::pairs::{SearchedPair, add_pair, no_pairs};
 use crate::samples::common_samples;
 use crate::search::{PairSearch, SearchEnd, search_all};
 use flatgrammar::Flat;
@@ -31,7 +31,7 @@ pub enum Alone {
 
 // Returns the symbols that lead to the pair of an index; `None` if there is none, or a parent does not come earlier.
 // `Memory` if an allocation fails.
-fn word_of(alloc: Global, pairs: &[FoundPair], index: usize) -> Result<Option<Vec<u32>>, Memory>
+fn word_of(alloc: Global, pairs: &[SearchedPair], index: usize) -> Result<Option<Vec<u32>>, Memory>
     ensures { IfOk result (λ told. IfSome told (λ word. (olds news : StateSets) → IsWordOf (found_pairs olds news
         pairs.now) index word.items)) }
 {
@@ -78,7 +78,7 @@ fn begin_search(
         return Ok(None);
     };
     let mut pairs = no_pairs(alloc);
-    let pair = FoundPair {
+    let pair = SearchedPair {
         old: first,
         new: second,
         parent: 0,

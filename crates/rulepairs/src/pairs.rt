@@ -8,7 +8,7 @@ use std::collections::HashMap;
 
 /// A pair of states of two grammars, and how a search found it.
 #[derive(Clone, Copy)]
-pub(crate) struct FoundPair {
+pub(crate) struct SearchedPair {
     /// The number of the old grammar's state.
     pub(crate) old: usize,
     /// The number of the new grammar's state.
@@ -23,7 +23,7 @@ pub(crate) struct FoundPair {
 #[derive(Drop)]
 pub(crate) struct Pairs {
     /// The pairs.
-    pub(crate) items: Vec<FoundPair>,
+    pub(crate) items: Vec<SearchedPair>,
     /// Of two states the index of their pair. No contract relies on it.
     places: HashMap<(usize, usize), usize>,
 }
@@ -39,7 +39,7 @@ pub(crate) fn no_pairs(alloc: Global) -> Pairs
 }
 
 // Returns whether a pair of the same states was found.
-fn is_found(pairs: &Pairs, pair: FoundPair) -> bool
+fn is_found(pairs: &Pairs, pair: SearchedPair) -> bool
     ensures { IsTrue result → HasPair pairs.now.items.items pair.old pair.new }
 {
     let Some(index) = pairs.places.get(&(pair.old, pair.new)) else {
@@ -52,7 +52,7 @@ fn is_found(pairs: &Pairs, pair: FoundPair) -> bool
 }
 
 /// Adds a pair, unless one of the same states was found. `Memory` if an allocation fails.
-pub(crate) fn add_pair(pairs: &mut Pairs, pair: FoundPair) -> Result<(), Memory>
+pub(crate) fn add_pair(pairs: &mut Pairs, pair: SearchedPair) -> Result<(), Memory>
     ensures { IfOk result (λ done. IsPairAdded pairs.old.items.items pair pairs.new.items.items) }
 {
     if is_found(pairs, pair) {

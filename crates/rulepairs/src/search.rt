@@ -3,7 +3,7 @@ ghost use Rattle.std.specs.Prelude.{◌≡◌, ◌+◌, ℕ, Bool, false, List, 
 ghost use Rattle.rulepairs.specs.Samples.{AreInLineOrder};
 ghost use Rattle.rulepairs.specs.Search.{AreSameGrammars, IsExpanded, IsSearchOutcome, Searches};
 
-use crate::pairs::{FoundPair, Pairs, add_pair};
+use crate::pairs::{Pairs, SearchedPair, add_pair};
 use lazydfa::States;
 use ruletable::Memory;
 
@@ -47,7 +47,7 @@ fn lead(search: &mut PairSearch, at: usize, symbol: u32) -> Result<bool, Memory>
     let Some(new) = search.news.next(pair.new, symbol)? else {
         return Ok(false);
     };
-    let next = FoundPair {
+    let next = SearchedPair {
         old,
         new,
         parent: at,
