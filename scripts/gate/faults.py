@@ -259,7 +259,7 @@ def refuse_each(tools, run, **more):
     fronts = [b"".join(run.texts[:k]) for k in range(len(run.texts) + 1)]
     number, good = 1, 0
     messages = explained_beginnings(run.told) if "-x" in run.words else [b""]
-    messages += [run.told] * (run.program == "abnfx")
+    messages += [run.told] * (run.program in ("abnfx", "abnfg"))
     cut = not_explained(run) if run.program == "abnfi" and "-x" in run.words else []
     stops = [it + b"out of memory\n" for it in messages + cut]
     # the message in which a run ends stands without its explanation
